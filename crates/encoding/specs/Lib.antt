@@ -1,0 +1,5 @@
+-- The byte layer's definitions: bounded loops, pieces of buffers, little-endian numbers, and refusals.
+pub mod Below
+pub mod Pieces
+pub mod Numbers
+pub mod Refusal

@@ -1,0 +1,3 @@
+-- Laws of the byte layer's definitions, for this crate's proofs and for the crates above.
+pub mod Pieces
+pub mod Numbers

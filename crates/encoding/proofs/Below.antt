@@ -3,14 +3,17 @@ use Prim.Native.Nat.{ℕ, zero, suc, _+_, _-_, _*_, _≤_, _<_, min}
 use native.Mathlib.Nat.{add-zero, add-suc, suc-mul, sub-zero, le-refl, le-of-lt, le-of-eq}
 use native.Mathlib.Numerals.{add-one}
 use native.Mathlib.Omega.{arith}
-use mathlib.Core.Path.{_≡_, refl, sym, ap, ap₂, _∙_}
+use mathlib.Core.Path.{_≡_, refl, sym, ap₂, _∙_}
 use mathlib.Core.Bool.{Bool, true, false, cond, not, _&&_, _||_, false≢true, and-true, and-false, and-assoc, or-assoc, or-false, and-or-distrib-right, Bool·not-not}
 use mathlib.Core.List.{List, [], _∷_, _++_}
 use lib.ListN.{length, getD, length-append, List·getD-append}
 use lib.Seq.{getD-at}
 use lib.Dec.{eqb, leb, ltb, leb·zero}
-use borrow.Author.Tests.{ltb-true, ltb-false, leb-true, leb-false, eqb-true, lt-ltb, le-ltb, eq-eqb, not-true, not-false}
+use borrow.Author.Tests.{ltb-true, ltb-false, leb-true, leb-false, eqb-true, lt-ltb, le-ltb, eq-eqb}
 use Rattle.encoding.specs.Below.{allBelow, anyBelow, countBelow, leastBelow, sumBelow, keptBelow, member}
+
+-- linear arithmetic that also reads tests of numbers: `omega tests`
+pub ruleset tests = (arith, ltb-true, ltb-false, leb-true, leb-false, eqb-true)
 
 -- a test is true or false
 pub either : {C : Type 0} (b : Bool) → (b ≡ true → C) → (b ≡ false → C) → C
@@ -21,14 +24,17 @@ either false t f = f refl
 pub clash : {C : Type 0} {b : Bool} → b ≡ true → b ≡ false → C
 clash t f = absurd (false≢true (sym f ∙ t))
 
+-- where both pass, the first does
 pub and-fst : (a b : Bool) → (a && b) ≡ true → a ≡ true
 and-fst true b e = refl
 and-fst false b e = e
 
+-- where both pass, the second does
 pub and-snd : (a b : Bool) → (a && b) ≡ true → b ≡ true
 and-snd true b e = e
 and-snd false b e = clash e refl
 
+-- where each of two passes, both do
 pub and-intro : (a b : Bool) → a ≡ true → b ≡ true → (a && b) ≡ true
 and-intro a b p q = rw (p, q)
 
@@ -40,7 +46,7 @@ iff-eq false false f g = refl
 
 -- a number below n + 1 is below n, or is n
 pub below-suc : {C : Type 0} (i n : ℕ) → i < suc n → (i < n → C) → (i ≡ n → C) → C
-below-suc i n h lt eq = either (ltb i n) (λ p. lt (ltb-true i n p)) (λ p. eq (omega (arith, ltb-false i n p)))
+below-suc i n h lt eq = either (ltb i n) (λ p. lt (omega tests)) (λ p. eq (omega tests))
 
 -- a loop gives the same for functions that agree below its bound
 same : {A B : Type 0} (F : ℕ → (ℕ → A) → B) (step : ℕ → B → A → B) → ((f g : ℕ → A) → F 0 f ≡ F 0 g) → ((n : ℕ) (f : ℕ → A) → F (suc n) f ≡ step n (F n f) (f n))
@@ -179,25 +185,26 @@ count-lt k n f h e = omega (arith, count-mono (k + 1) n f (omega arith), rw e at
 pub count-zero : (n : ℕ) (f : ℕ → Bool) → countBelow n f ≡ 0 → (i : ℕ) → i < n → f i ≡ false
 count-zero n f e i h = either (f i) (λ p. absurd (omega (arith, count-lt i n f h p))) (λ p. p)
 
--- the part of the range from a to b that the loop has seen
-count-seen : (n : ℕ) (f : ℕ → Bool) (a b : ℕ) → a ≤ b → ((i : ℕ) → i < n → f i ≡ (leb a i && ltb i b)) → countBelow n f ≡ min n b - min n a
+-- the part of the range from a to b that lies below n grows by one within the range
+seen-more : (n a b : ℕ) (p q : Bool) → leb a n ≡ p → ltb n b ≡ q → min n b - min n a + cond (p && q) 1 0 ≡ min (suc n) b - min (suc n) a
+seen-more n a b true true e k = omega tests
+seen-more n a b true false e k = omega tests
+seen-more n a b false q e k = omega tests
+
+-- the range's numbers below n
+count-seen : (n : ℕ) (f : ℕ → Bool) (a b : ℕ) → ((i : ℕ) → i < n → f i ≡ (leb a i && ltb i b)) → countBelow n f ≡ min n b - min n a
 unfolding countBelow
-count-seen zero f a b h t = omega arith
-count-seen (suc n) f a b h t =
-    let c = count-seen n f a b h (λ i p. t i (omega arith)) in
-    rw (t n (le-refl (suc n)))
-    (either (leb a n)
-    (λ p. either (ltb n b) (λ q. rw (p, q) (omega (arith, leb-true a n p, ltb-true n b q))) (λ q. rw (p, q) (omega (arith, leb-true a n p, ltb-false n b q))))
-    (λ p. rw p (omega (arith, leb-false a n p))))
+count-seen zero f a b t = omega arith
+count-seen (suc n) f a b t = rw (count-seen n f a b (λ i p. t i (omega arith)), t n (le-refl (suc n))) (seen-more n a b (leb a n) (ltb n b) refl refl)
 
 -- those from a to b
 pub count-range : (n : ℕ) (f : ℕ → Bool) (a b : ℕ) → a ≤ b → b ≤ n → ((i : ℕ) → i < n → f i ≡ (leb a i && ltb i b)) → countBelow n f ≡ b - a
-count-range n f a b h k t = omega (arith, count-seen n f a b h t)
+count-range n f a b h k t = omega (arith, count-seen n f a b t)
 
 -- the first m and no others
 pub count-initial : (n : ℕ) (f : ℕ → Bool) (m : ℕ) → m ≤ n → ((i : ℕ) → i < m → f i ≡ true) → ((i : ℕ) → m ≤ i → i < n → f i ≡ false) → countBelow n f ≡ m
 count-initial n f m h t e =
-    count-range n f 0 m (omega arith) h (λ i p. rw (leb·zero i) (either (ltb i m) (λ q. rw q (t i (ltb-true i m q))) (λ q. rw q (e i (ltb-false i m q) p)))) ∙ sub-zero m
+    count-range n f 0 m (omega arith) h (λ i p. rw (leb·zero i) (either (ltb i m) (λ q. rw q (t i (omega tests))) (λ q. rw q (e i (omega tests) p)))) ∙ sub-zero m
 
 -- where each fails, none is counted
 pub count-none : (n : ℕ) (f : ℕ → Bool) → ((i : ℕ) → i < n → f i ≡ false) → countBelow n f ≡ 0
@@ -215,8 +222,8 @@ count-or (suc n) f g = omega (arith, count-or n f g, bit-or (f n) (g n))
 
 -- ---- least
 
--- none passes: the bound
-least-none : (n : ℕ) (f : ℕ → Bool) → anyBelow n f ≡ false → leastBelow n f ≡ n
+-- where none passes, the least is the bound
+pub least-none : (n : ℕ) (f : ℕ → Bool) → anyBelow n f ≡ false → leastBelow n f ≡ n
 unfolding leastBelow
 least-none zero f e = refl
 least-none (suc n) f e =
@@ -232,9 +239,11 @@ least-found (suc n) f e =
     (λ p. let l = least-found n f p in rw p (omega (arith, l .0), l .1))
     (λ p. let q : f n ≡ true = rw p at e in rw (p, q) (le-refl (suc n), q))
 
+-- the least that passes is below the bound
 pub least-lt : (n : ℕ) (f : ℕ → Bool) → anyBelow n f ≡ true → leastBelow n f < n
 least-lt n f e = least-found n f e .0
 
+-- the least that passes does pass
 pub least-at : (n : ℕ) (f : ℕ → Bool) → anyBelow n f ≡ true → f (leastBelow n f) ≡ true
 least-at n f e = least-found n f e .1
 
@@ -242,28 +251,24 @@ least-at n f e = least-found n f e .1
 pub any-at : (n : ℕ) (f : ℕ → Bool) → anyBelow n f ≡ true → (i : ℕ) × (i < n) × (f i ≡ true)
 any-at n f e = (leastBelow n f, least-lt n f e, least-at n f e)
 
+-- the least is at most the bound
 pub least-le : (n : ℕ) (f : ℕ → Bool) → leastBelow n f ≤ n
 least-le n f = either (anyBelow n f) (λ p. le-of-lt (least-lt n f p)) (λ p. le-of-eq (least-none n f p))
 
+-- one that passes is not below the least
+pub least-min : (n : ℕ) (f : ℕ → Bool) (i : ℕ) → i < n → f i ≡ true → leastBelow n f ≤ i
+unfolding leastBelow
+least-min zero f i h e = absurd (omega arith)
+least-min (suc n) f i h e =
+    below-suc i n h (λ p. rw (any-intro n f i p e) (least-min n f i p e)) (λ q. omega (arith, least-lt (suc n) f (any-intro (suc n) f i h e)))
+
 -- each below the least fails
 pub least-below : (n : ℕ) (f : ℕ → Bool) (i : ℕ) → i < leastBelow n f → f i ≡ false
-unfolding leastBelow
-least-below zero f i h = absurd (omega arith)
-least-below (suc n) f i h =
-    either (anyBelow n f)
-    (λ p. least-below n f i (rw p at h))
-    (λ p. either (f n)
-    (λ q. any-false n f p i (rw (p, q) at h))
-    (λ q. below-suc i n (rw (p, q) at h) (any-false n f p i) (λ e. rw e q)))
+least-below n f i h = either (f i) (λ p. absurd (omega (arith, least-min n f i (omega (arith, least-le n f)) p))) (λ p. p)
 
 -- one that passes where all before it fail is the least
 pub least-is : (n : ℕ) (f : ℕ → Bool) (i : ℕ) → i < n → f i ≡ true → ((j : ℕ) → j < i → f j ≡ false) → leastBelow n f ≡ i
-least-is n f i h e m =
-    either (ltb (leastBelow n f) i)
-    (λ p. clash (least-at n f (any-intro n f i h e)) (m (leastBelow n f) (ltb-true (leastBelow n f) i p)))
-    (λ p. either (ltb i (leastBelow n f))
-    (λ q. clash e (least-below n f i (ltb-true i (leastBelow n f) q)))
-    (λ q. omega (arith, ltb-false (leastBelow n f) i p, ltb-false i (leastBelow n f) q)))
+least-is n f i h e m = below-suc (leastBelow n f) i (omega (arith, least-min n f i h e)) (λ p. clash (least-at n f (any-intro n f i h e)) (m (leastBelow n f) p)) (λ q. q)
 
 -- tests that agree below n
 pub least-same : (n : ℕ) (f g : ℕ → Bool) → ((i : ℕ) → i < n → f i ≡ g i) → leastBelow n f ≡ leastBelow n g
@@ -295,6 +300,7 @@ unfolding keptBelow countBelow
 kept-length zero f = refl
 kept-length (suc n) f = rw (length-append, kept-length n f, length-one)
 
+-- what is in either part of a list is in it
 pub member-append : (k : ℕ) (xs ys : List ℕ) → member k (xs ++ ys) ≡ (member k xs || member k ys)
 unfolding member
 member-append k [] ys = refl
@@ -311,8 +317,8 @@ eqb-swap k n f = either (eqb k n) (λ p. rw (eqb-true k n p)) (λ p. rw p)
 ltb-suc : (k n : ℕ) → ltb k (suc n) ≡ (ltb k n || eqb k n)
 ltb-suc k n =
     either (ltb k n)
-    (λ p. rw p (lt-ltb k (suc n) (omega (arith, ltb-true k n p))))
-    (λ p. rw p (iff-eq (ltb k (suc n)) (eqb k n) (λ q. eq-eqb k n (omega (arith, ltb-false k n p, ltb-true k (suc n) q))) (λ q. lt-ltb k (suc n) (omega (arith, eqb-true k n q)))))
+    (λ p. rw p (lt-ltb k (suc n) (omega tests)))
+    (λ p. rw p (iff-eq (ltb k (suc n)) (eqb k n) (λ q. eq-eqb k n (omega tests)) (λ q. lt-ltb k (suc n) (omega tests))))
 
 -- the numbers below n that pass
 pub kept-member : (n : ℕ) (f : ℕ → Bool) (k : ℕ) → member k (keptBelow n f) ≡ (ltb k n && f k)
@@ -329,16 +335,14 @@ kept-at (suc n) f k h e d =
     (λ p. List·getD-append (keptBelow n f) (cond (f n) (n ∷ []) []) d (countBelow k f) (rw (kept-length n f) (count-lt k n f p e)) ∙ kept-at n f k p e d)
     (λ q. let t : f n ≡ true = rw q at e in rw (q, t) (getD-at (keptBelow n f) n [] d (countBelow n f) (kept-length n f)))
 
--- some number is the one with j before it
+-- of more than j that pass, some number is the one with j before it
 count-found : (n : ℕ) (f : ℕ → Bool) (j : ℕ) → j < countBelow n f → (k : ℕ) × (k < n) × (f k ≡ true) × (countBelow k f ≡ j)
 unfolding countBelow
 count-found zero f j h = absurd (omega arith)
 count-found (suc n) f j h =
     either (ltb j (countBelow n f))
-    (λ p. let r = count-found n f j (ltb-true j (countBelow n f) p) in (r .0, omega (arith, r .1), r .2, r .3))
-    (λ p. either (f n)
-    (λ q. (n, le-refl (suc n), q, omega (arith, ltb-false j (countBelow n f) p, rw q at h)))
-    (λ q. absurd (omega (arith, ltb-false j (countBelow n f) p, rw q at h))))
+    (λ p. let r = count-found n f j (omega tests) in (r .0, omega arith, r .2, r .3))
+    (λ p. let q : f n ≡ true = either (f n) (λ t. t) (λ t. absurd (omega (tests, rw t at h))) in (n, le-refl (suc n), q, omega (tests, rw q at h)))
 
 -- element j passes, and j numbers before it do
 pub kept-found : (n : ℕ) (f : ℕ → Bool) (j d : ℕ) → j < countBelow n f
@@ -354,4 +358,4 @@ kept-ascends n f i j d h k =
     let a = getD (keptBelow n f) i d in
     let b = getD (keptBelow n f) j d in
     either (ltb a b) (ltb-true a b)
-    (λ p. absurd (omega (arith, count-mono b a f (ltb-false a b p), kept-found n f i d (omega arith), kept-found n f j d k)))
+    (λ p. absurd (omega (arith, count-mono b a f (omega tests), kept-found n f i d (omega arith), kept-found n f j d k)))

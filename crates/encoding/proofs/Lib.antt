@@ -1,3 +1,4 @@
 -- Laws of the byte layer's definitions, for this crate's proofs and for the crates above.
+pub mod Below
 pub mod Pieces
 pub mod Numbers

@@ -1,5 +1,7 @@
 // Little-endian numbers and fixed-size records in lent bytes, and the answers that public calls share.
 pub mod answer;
+pub mod record;
+pub mod zero;
 
 ghost use mathlib.Core.Path.{_≡_};
 ghost use Prim.Native.Nat.{_+_, _≤_, _<_, _^_};

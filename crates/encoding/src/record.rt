@@ -1,0 +1,1 @@
+// Records of 40 and 64 bytes, moved as words: all loads first, then all stores.

@@ -1,0 +1,1 @@
+// The zero test of a long slice.

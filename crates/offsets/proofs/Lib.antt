@@ -1,0 +1,4 @@
+-- Laws of tables, partitions and leaf counts, for this crate's proofs and for the crates above.
+pub mod Tables
+pub mod Partitions
+pub mod LeafCounts

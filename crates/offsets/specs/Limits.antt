@@ -1,0 +1,18 @@
+-- How many ranks and trees there may be.
+use Prim.Native.Nat.{ℕ}
+use mathlib.Core.Bool.{Bool, _&&_}
+use lib.Dec.{leb}
+
+abbrev pub maxRanks : ℕ
+maxRanks = 1024
+
+abbrev pub maxTrees : ℕ
+maxTrees = 1048576
+
+-- P from 1 to the limit
+unfoldable pub rankCountOk : ℕ → Bool
+rankCountOk P = leb 1 P && leb P maxRanks
+
+-- K from 1 to the limit
+unfoldable pub treeCountOk : ℕ → Bool
+treeCountOk K = leb 1 K && leb K maxTrees

@@ -1,0 +1,1 @@
+// The table that leaf counts give.

@@ -92,6 +92,13 @@ unfolding allBelow
 all-add m zero f = rw (add-zero, and-true)
 all-add m (suc n) f = rw (add-suc, all-add m n f, and-assoc)
 
+-- two loops in one
+pub all-and : (n : ℕ) (f g : ℕ → Bool) → allBelow n (λ i. f i && g i) ≡ (allBelow n f && allBelow n g)
+all-and n f g =
+    iff-eq (allBelow n (λ i. f i && g i)) (allBelow n f && allBelow n g)
+    (λ h. and-intro (allBelow n f) (allBelow n g) (all-intro n f (λ i l. and-fst (f i) (g i) (all-at n (λ j. f j && g j) h i l))) (all-intro n g (λ i l. and-snd (f i) (g i) (all-at n (λ j. f j && g j) h i l))))
+    (λ h. all-intro n (λ i. f i && g i) (λ i l. and-intro (f i) (g i) (all-at n f (and-fst (allBelow n f) (allBelow n g) h) i l) (all-at n g (and-snd (allBelow n f) (allBelow n g) h) i l)))
+
 -- ---- any
 
 de-morgan : (a b : Bool) → (not a || b) ≡ not (a && not b)

@@ -1,4 +1,5 @@
 -- Laws of tables, partitions and leaf counts, for this crate's proofs and for the crates above.
+pub mod OnePass
 pub mod Tables
 pub mod Partitions
 pub mod LeafCounts

@@ -1,4 +1,5 @@
 // Offset tables: which ranks hold which trees.
+pub mod inner;
 mod leaves;
 mod ranges;
 

@@ -12,6 +12,7 @@ use Rattle.encoding.specs.Below.{allBelow}
 use Rattle.encoding.proofs.Below.{tests, and-fst, and-snd, and-intro, iff-eq, all-same, all-and}
 use Rattle.offsets.specs.Limits.{maxRanks, rankCountOk, treeCountOk}
 use Rattle.offsets.specs.Table.{tableLength, ranks, ranksOk, entry, trees, negative, magnitude, firstOf, firstTree, endTree, entriesWithin, countsOk, valid}
+use Rattle.offsets.proofs.Tables.{ranks-within, trees-within, small-plain, plain-magnitude}
 use Rattle.offsets.specs.Mirror.Table.{entryOk, entryOkAt, validOnePass}
 
 -- what a table's length tells
@@ -21,11 +22,10 @@ pub record Ranks (t : List ℕ) (P : ℕ) : Type 0 where
   pub size : length t ≡ tableLength P
 
 pub ranks-known : (t : List ℕ) → ranksOk t ≡ true → Ranks t (ranks t)
-unfolding ranksOk rankCountOk
+unfolding ranksOk
 ranks-known t h =
-    let s : eqb (length t) (tableLength (ranks t)) ≡ true = and-fst _ _ h in
-    let r : (leb 1 (ranks t) && leb (ranks t) maxRanks) ≡ true = and-snd (eqb (length t) (tableLength (ranks t))) _ h in
-    record { low = leb-true _ _ (and-fst _ _ r); high = leb-true _ _ (and-snd (leb 1 (ranks t)) _ r); size = eqb-true _ _ s }
+    let r : (1 ≤ ranks t) × (ranks t ≤ maxRanks) = ranks-within (ranks t) (and-snd (eqb (length t) (tableLength (ranks t))) (rankCountOk (ranks t)) h) in
+    record { low = r .0; high = r .1; size = eqb-true (length t) (tableLength (ranks t)) (and-fst _ _ h) }
 
 pub ranks-short : (t : List ℕ) → length t < 16 → ranksOk t ≡ false
 unfolding ranksOk rankCountOk ranks
@@ -34,12 +34,8 @@ ranks-short t h =
     rw z (and-false (eqb (length t) (tableLength (length t / 8 - 1))))
 
 -- K itself is within K: a count within its limits is no negative number
-trees-within : (K : ℕ) → treeCountOk K ≡ true → leb (magnitude K) K ≡ true
-unfolding treeCountOk magnitude negative
-trees-within K h =
-    let b : K ≤ 1048576 = leb-true _ _ (and-snd (leb 1 K) _ h) in
-    let n : leb (2 ^ 63) K ≡ false = lt-leb (2 ^ 63) K (omega tests) in
-    rw n (le-leb K K (le-refl K))
+last-within : (K : ℕ) → treeCountOk K ≡ true → leb (magnitude K) K ≡ true
+last-within K h = rw (plain-magnitude K (small-plain K (trees-within K h .1))) (le-leb K K (le-refl K))
 
 -- tests that are equal where the ones before them pass
 after : (X W C D : Bool) → (X ≡ true → (W && C) ≡ D) → (X && W && C) ≡ (X && D)
@@ -59,7 +55,7 @@ entry-parts t K p = refl
 within-below : (t : List ℕ) → treeCountOk (trees t) ≡ true → entriesWithin t ≡ allBelow (ranks t) (λ p. leb (magnitude (entry t p)) (trees t))
 unfolding entriesWithin allBelow
 within-below t h =
-    let k : leb (magnitude (trees t)) (trees t) ≡ true = trees-within (trees t) h in
+    let k : leb (magnitude (trees t)) (trees t) ≡ true = last-within (trees t) h in
     rw add-one (within-last t k)
 
 pub valid-one-pass : (t : List ℕ) → valid t ≡ validOnePass t

@@ -13,10 +13,14 @@ use Rattle.offsets.specs.Table.{ranks, ranksOk, valid, tableLength, firs
 use Rattle.offsets.specs.Partition.{rangesFit, tableOf}
 use Rattle.offsets.specs.Leaves.{leavesOk, leafTable}
 
+-- the refusal alone
+abbrev pub rangeRefused : ℕ → Range
+rangeRefused refusal = record { refusal = refusal; first = 0; count = 0 }
+
 -- a range, or the refusal alone
 unfoldable pub rangeAnswer : ℕ → ℕ → ℕ → Range
 rangeAnswer refusal first count =
-    cond (eqb refusal 0) (record { refusal = 0; first = first; count = count }) (record { refusal = refusal; first = 0; count = 0 })
+    cond (eqb refusal 0) (record { refusal = 0; first = first; count = count }) (rangeRefused refusal)
 
 -- check a table
 unfoldable pub tableRefusal : List ℕ → ℕ

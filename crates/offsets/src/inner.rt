@@ -5,7 +5,7 @@ ghost use Prim.Native.Nat.{_+_, _*_, _≤_, _<_};
 ghost use lib.ListN.{length};
 ghost use Rattle.encoding.specs.Below.{allBelow};
 ghost use Rattle.offsets.specs.Limits.{maxRanks, rankCountOk, treeCountOk};
-ghost use Rattle.offsets.specs.Table.{tableLength, ranksOk, ranks as ranksOf, entry as entryOf, negative as isNegative, magnitude as magnitudeOf, firstOf, valid as isValid};
+ghost use Rattle.offsets.specs.Table.{tableLength, ranksOk, ranks as ranksOf, entry as entryOf, negative as isNegative, magnitude as magnitudeOf, firstOf, valid as isValid, firstTree, endTree};
 ghost use Rattle.offsets.specs.Mirror.Table.{entryOk, entryOkAt};
 
 pub const MAX_RANKS: usize = 1024;
@@ -117,4 +117,19 @@ pub fn valid(t: &[u8]) -> bool
         return false;
     }
     entries_ok(t, p, trees)
+}
+
+pub fn first_tree(t: &[u8], p: usize) -> u64
+    requires { ⌜ tableLength p ≤ length (now t) ⌝ }
+    ensures { λ r. ⌜ r ≡ firstTree (now (t .entry)) p ⌝ }
+{
+    first_of(entry(t, p))
+}
+
+// One past the last tree of p.
+pub fn end_tree(t: &[u8], p: usize) -> u64
+    requires { ⌜ tableLength (p + 1) ≤ length (now t) ⌝ }
+    ensures { λ r. ⌜ r ≡ endTree (now (t .entry)) p ⌝ }
+{
+    magnitude(entry(t, p + 1))
 }

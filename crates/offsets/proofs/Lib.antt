@@ -4,3 +4,4 @@ pub mod Tables
 mod RangeFits
 pub mod Partitions
 pub mod LeafCounts
+pub mod Examples

@@ -1,0 +1,48 @@
+-- Document 01's examples, computed on the definitions.
+use Prim.Native.Nat.{ℕ, _-_, _^_}
+use mathlib.Core.Path.{_≡_, refl}
+use mathlib.Core.Bool.{true}
+use mathlib.Core.List.{List, [], _∷_, _++_}
+use Rattle.encoding.specs.Below.{allBelow, anyBelow, countBelow, leastBelow, sumBelow}
+use Rattle.encoding.specs.Pieces.{piece}
+use Rattle.encoding.specs.Numbers.{leValue, leBytes, leAt}
+use Rattle.encoding.specs.Refusal.{firstFailed}
+use Rattle.offsets.specs.Limits.{rankCountOk, treeCountOk}
+use Rattle.offsets.specs.Table.{ranks, ranksOk, entry, negative, magnitude, firstOf, trees, firstTree, endTree, treeCount, holds, entriesWithin, countsOk, valid}
+use Rattle.offsets.specs.Partition.{nonEmpty, endBelow, entryOf, entriesBelow, tableOf}
+use Rattle.offsets.specs.Leaves.{leafStart, leafTotal, cut, leafHolds, leafFirst, leafCount, equalShares, leafTable}
+use Rattle.offsets.specs.Calls.{tableRefusal}
+
+-- the bytes of a table with these entries
+unfoldable pub tableBytes : List ℕ → List ℕ
+tableBytes [] = []
+tableBytes (v ∷ vs) = leBytes 8 v ++ tableBytes vs
+
+-- the 64 bits of −n
+abbrev pub minus : ℕ → ℕ
+minus n = 2 ^ 64 - n
+
+-- the nine tables: five are valid, four are refused
+pub nine-tables : (tableRefusal (tableBytes (0 ∷ 1 ∷ [])) ≡ 0)
+    × (tableRefusal (tableBytes (0 ∷ minus 1 ∷ 1 ∷ [])) ≡ 0)
+    × (tableRefusal (tableBytes (0 ∷ 0 ∷ 0 ∷ 5 ∷ [])) ≡ 0)
+    × (tableRefusal (tableBytes (0 ∷ 3 ∷ minus 3 ∷ 5 ∷ [])) ≡ 0)
+    × (tableRefusal (tableBytes (0 ∷ minus 3 ∷ minus 3 ∷ 5 ∷ [])) ≡ 0)
+    × (tableRefusal (tableBytes (0 ∷ 0 ∷ [])) ≡ 3)
+    × (tableRefusal (tableBytes (minus 1 ∷ 1 ∷ [])) ≡ 3)
+    × (tableRefusal (tableBytes (0 ∷ 4 ∷ 3 ∷ 5 ∷ [])) ≡ 3)
+    × (tableRefusal (tableBytes (0 ∷ minus 4 ∷ minus 3 ∷ 5 ∷ [])) ≡ 3)
+unfolding tableRefusal firstFailed tableBytes leBytes ranksOk rankCountOk ranks valid entry leAt piece leValue treeCountOk trees entriesWithin countsOk allBelow magnitude negative firstOf firstTree endTree
+nine-tables = (refl, refl, refl, refl, refl, refl, refl, refl, refl)
+
+-- {0,3,-3,5}: rank 1 is empty, tree 2 is on ranks 0 and 2
+pub shared-tree : (treeCount (tableBytes (0 ∷ 3 ∷ minus 3 ∷ 5 ∷ [])) 1 ≡ 0)
+    × (holds (tableBytes (0 ∷ 3 ∷ minus 3 ∷ 5 ∷ [])) 0 2 ≡ true)
+    × (holds (tableBytes (0 ∷ 3 ∷ minus 3 ∷ 5 ∷ [])) 2 2 ≡ true)
+unfolding holds treeCount firstTree endTree firstOf magnitude negative entry leAt piece leValue tableBytes leBytes
+shared-tree = (refl, refl, refl)
+
+-- leaf counts 4,4 and 1,1 on three ranks
+pub leaf-tables : (leafTable 3 (4 ∷ 4 ∷ []) ≡ tableBytes (0 ∷ minus 1 ∷ minus 2 ∷ 2 ∷ [])) × (leafTable 3 (1 ∷ 1 ∷ []) ≡ tableBytes (0 ∷ 0 ∷ 1 ∷ 2 ∷ []))
+unfolding leafTable tableOf entriesBelow entryOf endBelow nonEmpty leafFirst leafCount leafHolds equalShares cut leafTotal leafStart sumBelow leastBelow countBelow anyBelow tableBytes leBytes
+leaf-tables = (refl, refl)

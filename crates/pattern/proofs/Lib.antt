@@ -1,0 +1,4 @@
+-- Laws of the sender and of the sets, for this crate's proofs and for the crates above.
+pub mod Senders
+pub mod Sets
+pub mod Examples

@@ -1,0 +1,5 @@
+-- Document 01, "Who sends", in its order. `Mirror` holds what contracts of inner functions alone cite.
+pub mod Sender
+pub mod Sets
+pub mod Calls
+pub mod Mirror

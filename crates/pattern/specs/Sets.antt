@@ -1,0 +1,35 @@
+-- The send set and the receive set of a rank, ascending.
+use Prim.Native.Nat.{ℕ, _+_, _-_}
+use mathlib.Core.Bool.{Bool, cond, _&&_}
+use mathlib.Core.List.{List}
+use lib.Dec.{eqb}
+use lib.IntN.{ℤ, pos, negsuc}
+use lib.ListN.{length, getD}
+use Rattle.encoding.specs.Below.{anyBelow, keptBelow}
+use Rattle.offsets.specs.Table.{ranks, trees, firstTree, treeCount, holds}
+use Rattle.pattern.specs.Sender.{sender}
+
+module _ (old new : List ℕ) where
+  -- p sends q a tree
+  unfoldable pub sendsTo : ℕ → ℕ → Bool
+  sendsTo p q = anyBelow (trees old) (λ k. holds new q k && eqb (sender old k q) p)
+
+  -- the send set of p: every q to which p sends a tree
+  unfoldable pub sendSet : ℕ → List ℕ
+  sendSet p = keptBelow (ranks old) (sendsTo p)
+
+  -- q gets a tree from p: p sends one of the trees of f'(q)
+  unfoldable pub getsFrom : ℕ → ℕ → Bool
+  getsFrom q p = anyBelow (treeCount new q) (λ i. eqb (sender old (firstTree new q + i) q) p)
+
+  -- the receive set of q: every p from which it gets a tree
+  unfoldable pub receiveSet : ℕ → List ℕ
+  receiveSet q = keptBelow (ranks old) (getsFrom q)
+
+-- the smallest of an ascending list, −1 where it is empty
+unfoldable pub smallest : List ℕ → ℤ
+smallest s = cond (eqb (length s) 0) (negsuc 0) (pos (getD s 0 0))
+
+-- the largest of an ascending list, −2 where it is empty
+unfoldable pub largest : List ℕ → ℤ
+largest s = cond (eqb (length s) 0) (negsuc 1) (pos (getD s (length s - 1) 0))

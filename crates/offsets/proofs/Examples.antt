@@ -2,21 +2,16 @@
 use Prim.Native.Nat.{ℕ, _-_, _^_}
 use mathlib.Core.Path.{_≡_, refl}
 use mathlib.Core.Bool.{true}
-use mathlib.Core.List.{List, [], _∷_, _++_}
+use mathlib.Core.List.{[], _∷_}
 use Rattle.encoding.specs.Below.{allBelow, anyBelow, countBelow, leastBelow, sumBelow}
 use Rattle.encoding.specs.Pieces.{piece}
 use Rattle.encoding.specs.Numbers.{leValue, leBytes, leAt}
 use Rattle.encoding.specs.Refusal.{firstFailed}
 use Rattle.offsets.specs.Limits.{rankCountOk, treeCountOk}
-use Rattle.offsets.specs.Table.{ranks, ranksOk, entry, negative, magnitude, firstOf, trees, firstTree, endTree, treeCount, holds, entriesWithin, countsOk, valid}
+use Rattle.offsets.specs.Table.{ranks, ranksOk, entry, negative, magnitude, firstOf, trees, firstTree, endTree, treeCount, holds, entriesWithin, countsOk, valid, tableBytes}
 use Rattle.offsets.specs.Partition.{nonEmpty, endBelow, entryOf, entriesBelow, tableOf}
 use Rattle.offsets.specs.Leaves.{leafStart, leafTotal, cut, leafHolds, leafFirst, leafCount, equalShares, leafTable}
 use Rattle.offsets.specs.Calls.{tableRefusal}
-
--- the bytes of a table with these entries
-unfoldable pub tableBytes : List ℕ → List ℕ
-tableBytes [] = []
-tableBytes (v ∷ vs) = leBytes 8 v ++ tableBytes vs
 
 -- the 64 bits of −n
 abbrev pub minus : ℕ → ℕ

@@ -1,11 +1,11 @@
 -- Offset tables: bytes, their entries, and the range f(p) of each rank.
 use Prim.Native.Nat.{ℕ, _+_, _-_, _*_, _/_, _^_}
 use mathlib.Core.Bool.{Bool, cond, _&&_}
-use mathlib.Core.List.{List}
+use mathlib.Core.List.{List, [], _∷_, _++_}
 use lib.Dec.{leb, ltb, eqb}
 use lib.ListN.{length}
 use Rattle.encoding.specs.Below.{allBelow}
-use Rattle.encoding.specs.Numbers.{u64At}
+use Rattle.encoding.specs.Numbers.{leBytes, u64At}
 use Rattle.offsets.specs.Limits.{rankCountOk, treeCountOk}
 
 -- the bytes of a table of P ranks: P + 1 entries of 64 bits
@@ -23,6 +23,11 @@ ranksOk t = eqb (length t) (tableLength (ranks t)) && rankCountOk (ranks t)
 -- O[p] as its 64 bits
 unfoldable pub entry : List ℕ → ℕ → ℕ
 entry t p = u64At t (8 * p)
+
+-- the bytes of a table with these entries
+unfoldable pub tableBytes : List ℕ → List ℕ
+tableBytes [] = []
+tableBytes (v ∷ vs) = leBytes 8 v ++ tableBytes vs
 
 -- 64 bits are a negative number from 2 ^ 63 on
 unfoldable pub negative : ℕ → Bool

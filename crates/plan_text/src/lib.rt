@@ -1,0 +1,1 @@
+// The text of a plan: who sends which trees to whom.

@@ -4,17 +4,24 @@ use native.Mathlib.Nat.{le-refl}
 use native.Mathlib.Numerals.{add-one}
 use native.Mathlib.Omega.{arith}
 use mathlib.Core.Path.{_≡_, refl, sym, ap, _∙_}
-use mathlib.Core.Bool.{Bool, true, false, cond, _&&_, _||_, and-true, and-comm}
-use mathlib.Core.List.{List, [], _∷_, _++_}
+use mathlib.Core.Bool.{Bool, true, false, cond, _&&_, _||_, and-true, and-false, and-comm}
+use mathlib.Core.List.{List, [], _∷_, _++_, append-assoc, append-nil}
 use lib.Dec.{leb, ltb, eqb}
-use lib.ListN.{length}
-use borrow.Author.Tests.{ltb-true, ltb-false, eqb-true, eqb-false, leb-true, lt-ltb, le-ltb, le-leb, lt-leb, eq-eqb}
+use lib.ListN.{length, getD, take, drop, length-append}
+use lib.Seq.{take-at, drop-at, take-add, take-all}
+use borrow.Author.Tests.{ltb-true, ltb-false, eqb-true, eqb-false, leb-true, leb-false, lt-ltb, le-ltb, le-leb, lt-leb, eq-eqb}
 use Rattle.encoding.specs.Below.{allBelow, anyBelow}
-use Rattle.encoding.specs.Pieces.{Bytes}
+use Rattle.encoding.specs.Pieces.{Bytes, piece}
+use Rattle.encoding.specs.Numbers.{leValue, leBytes, leAt}
 use Rattle.encoding.proofs.Below.{tests, either, clash, and-fst, and-snd, and-intro, iff-eq, below-suc, all-at, all-intro, any-at, any-intro}
+use Rattle.encoding.proofs.Pieces.{piece-length, bytes-piece}
+use Rattle.encoding.proofs.Numbers.{bytes-length, value-bytes, bytes-value}
 use Rattle.offsets.specs.Limits.{maxRanks, maxTrees, rankCountOk, treeCountOk}
+use Rattle.offsets.specs.Table.{tableLength, ranks, ranksOk, entry, negative, magnitude, firstOf, trees, firstTree, endTree, treeCount, entriesWithin, countsOk, valid}
 use Rattle.offsets.specs.Partition.{nonEmpty, onRank, lastTree, coversAll, coversOnly, ascending, validPartition, endBelow, rangesFit, entryOf, entriesBelow, tableOf, IsTable}
+use Rattle.offsets.specs.Sharing.{nearestLower, sharesWithLower}
 use Rattle.offsets.specs.Mirror.Ranges.{rangeFits, ranksFollow, rangesFitLinear}
+use Rattle.offsets.proofs.Tables.{ranks-within, trees-within, small-plain, plain-magnitude, plain-of, shared-of, end-next, size, entry-bits, zero-first, plain-first, shared-first, first-lt-end, count-add, last-end}
 
 -- one of two that pass
 or-elim : {C : Type 0} (a b : Bool) → (a || b) ≡ true → (a ≡ true → C) → (b ≡ true → C) → C
@@ -75,6 +82,13 @@ module _ (first count : ℕ → ℕ) where
       (λ e. (q, le-refl (suc q), e, end-some q e, λ r a b. absurd (omega arith)))
       (λ e. let l = end-last q (rw (end-none q e) at h) in
       (l .0, omega (arith, l .1), l .2, end-none q e ∙ l .3, λ r a b. below-suc r q a (λ k. l .4 r k b) (λ i. rw i e)))
+
+  end-from : (p q : ℕ) → p < q → has p ≡ true → ((r : ℕ) → r < q → p < r → has r ≡ false) → end q ≡ first p + count p
+  end-from p zero l s h = absurd (omega arith)
+  end-from p (suc q) l s h =
+      below-suc p q l
+      (λ k. end-none q (h q (le-refl (suc q)) k) ∙ end-from p q k s (λ r a. h r (omega arith)))
+      (λ e. rw (← e) (end-some p s))
 
   -- ---- the linear test
 
@@ -255,3 +269,292 @@ module _ (f c g d : ℕ → ℕ) where
   pub same-ranges : (P : ℕ) → Agree P → tableOf f c P ≡ tableOf g d P
   unfolding tableOf
   same-ranges P h = rw (same-entries P h, same-end P h)
+
+-- ---- bytes of entries
+
+bytes-append : (a b : List ℕ) → Bytes a → Bytes b → Bytes (a ++ b)
+bytes-append [] b h k i = k i
+bytes-append (x ∷ a) b h k zero = h zero
+bytes-append (x ∷ a) b h k (suc i) = bytes-append a b (λ j. h (suc j)) k i
+
+bytes-of : (w v : ℕ) → Bytes (leBytes w v)
+unfolding leBytes
+bytes-of zero v i = omega arith
+bytes-of (suc w) v zero = omega arith
+bytes-of (suc w) v (suc i) = bytes-of w (v / 256) i
+
+-- a number that stands behind other bytes is read back
+at-append : (w v off : ℕ) (a r : List ℕ) → length a ≡ off → v < 256 ^ w → leAt w (a ++ (leBytes w v ++ r)) off ≡ v
+unfolding leAt piece
+at-append w v off a r l h = rw (drop-at a (leBytes w v ++ r) off l, take-at (leBytes w v) r w (bytes-length w v)) (value-bytes w v h)
+
+-- what stands at a place is the bytes of the number there
+bytes-at : (w off : ℕ) (t : List ℕ) → Bytes t → off + w ≤ length t → leBytes w (leAt w t off) ≡ take w (drop off t)
+unfolding leAt piece
+bytes-at w off t b h =
+    let l : length (take w (drop off t)) ≡ w = piece-length t off w h in
+    let e : leBytes (length (take w (drop off t))) (leValue (take w (drop off t))) ≡ take w (drop off t) = bytes-value (take w (drop off t)) (bytes-piece t off w b) in
+    rw l at e
+
+module _ (first count : ℕ → ℕ) where
+  pub entries-length : (p : ℕ) → length (entriesBelow first count p) ≡ 8 * p
+  unfolding entriesBelow
+  entries-length zero = refl
+  entries-length (suc p) = rw (length-append, entries-length p, bytes-length) (omega arith)
+
+  pub table-length : (P : ℕ) → length (tableOf first count P) ≡ tableLength P
+  unfolding tableOf
+  table-length P = rw (length-append, entries-length P, bytes-length) (omega arith)
+
+  entries-bytes : (p : ℕ) → Bytes (entriesBelow first count p)
+  unfolding entriesBelow
+  entries-bytes zero = λ i. omega arith
+  entries-bytes (suc p) = bytes-append (entriesBelow first count p) (leBytes 8 (entryOf first count p)) (entries-bytes p) (bytes-of 8 (entryOf first count p))
+
+  pub table-bytes : (P : ℕ) → Bytes (tableOf first count P)
+  unfolding tableOf
+  table-bytes P = bytes-append (entriesBelow first count P) (leBytes 8 (endBelow first count P)) (entries-bytes P) (bytes-of 8 (endBelow first count P))
+
+  pub table-ranks : (P : ℕ) → ranks (tableOf first count P) ≡ P
+  unfolding ranks
+  table-ranks P = rw (table-length P) (omega arith)
+
+  -- the entries of the table are those written
+  entries-at : (q p : ℕ) (r : List ℕ) → p < q → entryOf first count p < 2 ^ 64 → leAt 8 (entriesBelow first count q ++ r) (8 * p) ≡ entryOf first count p
+  unfolding entriesBelow
+  entries-at zero p r h k = absurd (omega arith)
+  entries-at (suc q) p r h k =
+      rw append-assoc
+      (below-suc p q h
+      (λ l. entries-at q p (leBytes 8 (entryOf first count q) ++ r) l k)
+      (λ e. rw e (at-append 8 (entryOf first count q) (8 * q) (entriesBelow first count q) r (entries-length q) (rw e at k))))
+
+  entry-at : (P p : ℕ) → p < P → entryOf first count p < 2 ^ 64 → entry (tableOf first count P) p ≡ entryOf first count p
+  unfolding entry tableOf
+  entry-at P p h k = entries-at P p (leBytes 8 (endBelow first count P)) h k
+
+  entry-last : (P : ℕ) → endBelow first count P < 2 ^ 64 → entry (tableOf first count P) P ≡ endBelow first count P
+  unfolding entry tableOf
+  entry-last P k = rw (← append-nil (leBytes 8 (endBelow first count P))) (at-append 8 (endBelow first count P) (8 * P) (entriesBelow first count P) [] (entries-length P) k)
+
+  -- a list of bytes whose entries are those of the table is the table
+  entries-of : (t : List ℕ) → Bytes t → (q : ℕ) → 8 * q ≤ length t → ((p : ℕ) → p < q → entry t p ≡ entryOf first count p) → take (8 * q) t ≡ entriesBelow first count q
+  unfolding entriesBelow entry
+  entries-of t b zero h e = refl
+  entries-of t b (suc q) h e =
+      let n : 8 * suc q ≡ 8 * q + 8 = omega arith in
+      rw (n, take-add (8 * q) 8 t, entries-of t b q (omega arith) (λ p l. e p (omega arith)), ← e q (le-refl (suc q)), bytes-at 8 (8 * q) t b (omega arith))
+
+  table-from : (t : List ℕ) → Bytes t → (P : ℕ) → length t ≡ tableLength P → ((p : ℕ) → p < P → entry t p ≡ entryOf first count p) → entry t P ≡ endBelow first count P
+      → tableOf first count P ≡ t
+  unfolding tableOf entry
+  table-from t b P l e k =
+      rw (← entries-of t b P (omega arith) e, ← k, bytes-at 8 (8 * P) t b (omega arith), ← take-add (8 * P) 8 t) (take-all (8 * P + 8) t (omega arith))
+
+-- ---- reading a valid table
+
+-- 64 bits are their sign and their magnitude
+signed : (v : ℕ) → v < 2 ^ 64 → v ≡ cond (negative v) (2 ^ 64 - magnitude v) (magnitude v)
+unfolding magnitude
+signed v h = either (negative v) (λ e. rw e (omega arith)) (λ e. rw e)
+
+module _ (t : List ℕ) (b : Bytes t) (ok : ranksOk t ≡ true) (v : valid t ≡ true) where
+  abbrev tableEnd : ℕ → ℕ
+  tableEnd = endBelow (firstTree t) (treeCount t)
+
+  -- |O[p]| is one past the last tree on the ranks below p
+  pub magnitude-end : (p : ℕ) → p ≤ ranks t → magnitude (entry t p) ≡ tableEnd p
+  magnitude-end zero h = rw (zero-first t b ok v, end-zero (firstTree t) (treeCount t)) (plain-magnitude 0 (small-plain 0 (omega arith)))
+  magnitude-end (suc p) h =
+      let a = count-add t b ok v p h in
+      let i = magnitude-end p (omega arith) in
+      rw (← end-next t p)
+      (either (nonEmpty (firstTree t) (treeCount t) p)
+      (λ s. omega (arith, end-some (firstTree t) (treeCount t) p s))
+      (λ s. let c = none-count (firstTree t) (treeCount t) p s in
+      let e = end-none (firstTree t) (treeCount t) p s in
+      either (negative (entry t p))
+      (λ n. absurd (omega (arith, first-lt-end t b ok v p h n)))
+      (λ n. omega (arith, plain-first t b ok v p n))))
+
+  -- O[p] is negative where p has trees and the first is on a lower rank too
+  negative-is : (p : ℕ) → p < ranks t → negative (entry t p) ≡ (nonEmpty (firstTree t) (treeCount t) p && ltb (firstTree t p) (tableEnd p))
+  negative-is p h =
+      let m = magnitude-end p (omega arith) in
+      either (negative (entry t p))
+      (λ n. n
+      ∙ sym (and-intro _ _ (count-some (firstTree t) (treeCount t) p (omega (arith, first-lt-end t b ok v p h n, count-add t b ok v p h)))
+      (lt-ltb (firstTree t p) (tableEnd p) (omega (arith, shared-first t b ok v p n)))))
+      (λ n. rw (n, le-ltb (firstTree t p) (tableEnd p) (omega (arith, plain-first t b ok v p n)), and-false))
+
+  entry-is : (p : ℕ) → p < ranks t → entry t p ≡ entryOf (firstTree t) (treeCount t) p
+  unfolding entryOf
+  entry-is p h = rw (← negative-is p h, ← magnitude-end p (omega arith)) (signed (entry t p) (entry-bits t b ok v p))
+
+  -- K is one past the last tree
+  pub trees-end : trees t ≡ tableEnd (ranks t)
+  trees-end = sym (last-end t b ok v) ∙ magnitude-end (ranks t) (le-refl (ranks t))
+
+  -- writing what a valid table says gives its bytes
+  pub table-again : tableOf (firstTree t) (treeCount t) (ranks t) ≡ t
+  unfolding trees
+  table-again = table-from (firstTree t) (treeCount t) t b (ranks t) (size t b ok v) entry-is trees-end
+
+  -- where p has trees, the first is the end below it or the tree before
+  table-begins : (p : ℕ) → p < ranks t → (firstTree t p ≤ tableEnd p) × (tableEnd p ≤ firstTree t p + 1)
+  table-begins p h =
+      let m = magnitude-end p (omega arith) in
+      either (negative (entry t p)) (λ n. omega (arith, shared-first t b ok v p n)) (λ n. omega (arith, plain-first t b ok v p n))
+
+  table-follow : ranksFollow (firstTree t) (treeCount t) (ranks t) ≡ true
+  unfolding ranksFollow
+  table-follow = all-intro (ranks t) _ (λ p h. bounds-fit (tableEnd p) (firstTree t p) (treeCount t p) (λ c. table-begins p h))
+
+  -- the ranges of a valid table are a valid partition
+  pub table-partition : validPartition (firstTree t) (treeCount t) (ranks t) (trees t) ≡ true
+  table-partition = rw (valid-linear (firstTree t) (treeCount t) (ranks t) (trees t), table-follow, eq-eqb (trees t) (tableEnd (ranks t)) trees-end)
+
+  abbrev has-trees : ℕ → Bool
+  has-trees = nonEmpty (firstTree t) (treeCount t)
+
+  shared-to : (p : ℕ) → p < ranks t → (has-trees p && ltb (firstTree t p) (tableEnd p)) ≡ true → sharesWithLower t p ≡ true
+  unfolding sharesWithLower nearestLower lastTree
+  shared-to p h e =
+      let f : firstTree t p < tableEnd p = ltb-true (firstTree t p) (tableEnd p) (and-snd (has-trees p) _ e) in
+      let l = end-last (firstTree t) (treeCount t) p (omega arith) in
+      let q : ℕ = l .0 in
+      let between : (r : ℕ) → r < p → (leb r q || eqb (treeCount t r) 0) ≡ true =
+      λ r a. either (leb r q) (λ z. rw z) (λ z. rw z (eq-eqb (treeCount t r) 0 (none-count (firstTree t) (treeCount t) r (l .4 r a (leb-false r q z))))) in
+      and-intro _ _ (and-fst (has-trees p) _ e)
+      (any-intro p _ q (l .1)
+      (and-intro _ _ (and-intro _ _ (l .2) (all-intro p _ between)) (eq-eqb (firstTree t q + treeCount t q - 1) (firstTree t p) (omega (arith, l .3, table-begins p h)))))
+
+  shared-from : (p : ℕ) → sharesWithLower t p ≡ true → (has-trees p && ltb (firstTree t p) (tableEnd p)) ≡ true
+  unfolding sharesWithLower nearestLower lastTree
+  shared-from p e =
+      let a = any-at p (λ q. nearestLower t p q && eqb (lastTree (firstTree t) (treeCount t) q) (firstTree t p)) (and-snd (has-trees p) _ e) in
+      let q : ℕ = a .0 in
+      let s : has-trees q ≡ true = and-fst _ _ (and-fst _ _ (a .2)) in
+      let n = all-at p (λ r. leb r q || eqb (treeCount t r) 0) (and-snd (has-trees q) _ (and-fst (nearestLower t p q) _ (a .2))) in
+      let m : firstTree t q + treeCount t q - 1 ≡ firstTree t p = eqb-true _ _ (and-snd (nearestLower t p q) _ (a .2)) in
+      let between : (r : ℕ) → r < p → q < r → has-trees r ≡ false =
+      λ r k l. either (has-trees r) (λ u. absurd (omega (tests, some-count (firstTree t) (treeCount t) r u, rw (lt-leb r q l) at (n r k)))) (λ u. u) in
+      and-intro _ _ (and-fst (has-trees p) _ e)
+      (lt-ltb (firstTree t p) (tableEnd p) (omega (arith, some-count (firstTree t) (treeCount t) q s, end-from (firstTree t) (treeCount t) q p (a .1) s between)))
+
+  -- a negative entry means that the first tree is shared with the nearest lower rank that has trees
+  pub shared-means : (p : ℕ) → p < ranks t → negative (entry t p) ≡ sharesWithLower t p
+  shared-means p h = negative-is p h ∙ iff-eq (has-trees p && ltb (firstTree t p) (tableEnd p)) (sharesWithLower t p) (shared-to p h) (shared-from p)
+
+-- ---- writing a table
+
+-- a number and a sign, as 64 bits
+coded : (s : Bool) (e : ℕ) → e ≤ maxTrees → (s ≡ true → 0 < e) → (cond s (2 ^ 64 - e) e < 2 ^ 64) × (negative (cond s (2 ^ 64 - e) e) ≡ s) × (magnitude (cond s (2 ^ 64 - e) e) ≡ e)
+unfolding magnitude negative
+coded true e h k = let l = k refl in let n = le-leb (2 ^ 63) (2 ^ 64 - e) (omega arith) in (omega arith, n, rw n (omega arith))
+coded false e h k = (omega arith, small-plain e h, plain-magnitude e (small-plain e h))
+
+-- the length of a table says how many ranks it has
+ranks-of : (t : List ℕ) (P : ℕ) → length t ≡ tableLength P → ranks t ≡ P
+unfolding ranks
+ranks-of t P e = rw e (omega arith)
+
+module _ (first count : ℕ → ℕ) (P K : ℕ) (ro : rankCountOk P ≡ true) (ko : treeCountOk K ≡ true) (v : validPartition first count P K ≡ true) where
+  abbrev T : List ℕ
+  T = tableOf first count P
+
+  abbrev shared : ℕ → Bool
+  shared p = has first count p && ltb (first p) (end first count p)
+
+  end-small : (p : ℕ) → p ≤ P → end first count p ≤ K
+  end-small p h = omega (arith, end-rises first count P (valid-follow first count P K v) p P h (le-refl P), trees-are first count P K v)
+
+  written : (p : ℕ) → p < P → (entryOf first count p < 2 ^ 64) × (negative (entryOf first count p) ≡ shared p) × (magnitude (entryOf first count p) ≡ end first count p)
+  unfolding entryOf
+  written p h = coded (shared p) (end first count p) (omega (arith, end-small p (omega arith), trees-within K ko)) (λ s. omega (arith, ltb-true (first p) (end first count p) (and-snd (has first count p) _ s)))
+
+  trees-read : entry T P ≡ K
+  trees-read = entry-last first count P (omega (arith, trees-within K ko, trees-are first count P K v)) ∙ sym (trees-are first count P K v)
+
+  entry-read : (p : ℕ) → p < P → entry T p ≡ entryOf first count p
+  entry-read p h = entry-at first count P p h (written p h .0)
+
+  magnitude-read : (p : ℕ) → p ≤ P → magnitude (entry T p) ≡ end first count p
+  magnitude-read p h =
+      below-suc p P (omega arith)
+      (λ l. rw (entry-read p l) (written p l .2))
+      (λ e. rw (e, trees-read) (plain-magnitude K (small-plain K (trees-within K ko .1)) ∙ trees-are first count P K v))
+
+  negative-read : (p : ℕ) → p < P → negative (entry T p) ≡ shared p
+  negative-read p h = rw (entry-read p h) (written p h .1)
+
+  end-read : (p : ℕ) → p < P → endTree T p ≡ end first count (suc p)
+  end-read p h = end-next T p ∙ magnitude-read (suc p) h
+
+  first-plain : (p : ℕ) → p < P → shared p ≡ false → firstTree T p ≡ end first count p
+  unfolding firstTree
+  first-plain p h e = plain-of (entry T p) (negative-read p h ∙ e) ∙ magnitude-read p (omega arith)
+
+  first-shared : (p : ℕ) → p < P → shared p ≡ true → firstTree T p + 1 ≡ end first count p
+  unfolding firstTree
+  first-shared p h e = shared-of (entry T p) (rw (entry-read p h) (written p h .0)) (negative-read p h ∙ e) ∙ magnitude-read p (omega arith)
+
+  first-read : (p : ℕ) → p < P → has first count p ≡ true → firstTree T p ≡ first p
+  first-read p h s =
+      let f = follow first count P (valid-follow first count P K v) p h s in
+      either (ltb (first p) (end first count p))
+      (λ e. omega (tests, first-shared p h (and-intro _ _ s e)))
+      (λ e. omega (tests, first-plain p h (rw (s, e))))
+
+  count-read : (p : ℕ) → p < P → treeCount T p ≡ count p
+  unfolding treeCount
+  count-read p h =
+      rw (end-read p h)
+      (either (has first count p)
+      (λ s. rw (end-some first count p s, first-read p h s) (omega arith))
+      (λ s. rw (end-none first count p s, first-plain p h (rw s)) (omega (arith, none-count first count p s))))
+
+  count-valid : (p : ℕ) → p < P → cond (negative (entry T p)) (ltb (firstTree T p) (endTree T p)) (leb (firstTree T p) (endTree T p)) ≡ true
+  count-valid p h =
+      rw (negative-read p h, end-read p h)
+      (either (shared p)
+      (λ e. let s = and-fst (has first count p) _ e in rw (e, first-read p h s, end-some first count p s) (lt-ltb (first p) (first p + count p) (omega (arith, some-count first count p s))))
+      (λ e. rw (e, first-plain p h e) (le-leb (end first count p) (end first count (suc p)) (end-rises first count P (valid-follow first count P K v) p (suc p) (omega arith) h))))
+
+  zero-read : entry T 0 ≡ 0
+  unfolding entryOf
+  zero-read = entry-read 0 (ranks-within P ro .0) ∙ rw (end-zero first count, le-ltb (first 0) 0 (omega arith), and-false)
+
+  table-valid : valid T ≡ true
+  unfolding valid entriesWithin countsOk trees
+  table-valid =
+      rw (table-ranks first count P, trees-read, zero-read)
+      (and-intro _ _ (and-intro _ _ ko (all-intro (P + 1) _ (λ p h. le-leb (magnitude (entry T p)) K (rw (magnitude-read p (omega arith)) (end-small p (omega arith))))))
+      (all-intro P _ count-valid))
+
+  -- the table of a partition gives the partition back
+  pub table-of : IsTable first count P K T
+  unfolding trees
+  table-of =
+      record {
+        bytes = table-bytes first count P;
+        size = table-length first count P;
+        isValid = table-valid;
+        treesAre = rw (table-ranks first count P) trees-read;
+        counts = count-read;
+        firsts = λ p h c. first-read p h (count-some first count p c);
+      }
+
+module _ (first count : ℕ → ℕ) (P K : ℕ) (ro : rankCountOk P ≡ true) where
+  -- no other list of bytes does
+  pub table-unique : (t : List ℕ) → IsTable first count P K t → t ≡ tableOf first count P
+  unfolding ranksOk
+  table-unique t i =
+      let r = ranks-of t P (i .size) in
+      let ok : ranksOk t ≡ true = rw (r, i .size, eq-eqb (tableLength P) (tableLength P) refl) ro in
+      sym (table-again t (i .bytes) ok (i .isValid))
+      ∙ rw r (same-ranges (firstTree t) (treeCount t) first count P (λ p h. (i .counts p h, λ c. i .firsts p h (rw (i .counts p h) at c))))
+
+  -- a valid partition has one table
+  pub one-table : treeCountOk K ≡ true → validPartition first count P K ≡ true → (t : List ℕ) × IsTable first count P K t × ((u : List ℕ) → IsTable first count P K u → u ≡ t)
+  one-table ko v = (tableOf first count P, table-of first count P K ro ko v, table-unique)

@@ -3,24 +3,23 @@ use Prim.Native.Nat.{ℕ, zero, suc, _+_, _-_, _*_, _/_, _^_, _≤_, _<_}
 use native.Mathlib.Nat.{le-refl}
 use native.Mathlib.Numerals.{add-one}
 use native.Mathlib.Omega.{arith}
-use mathlib.Core.Path.{_≡_, refl, sym, ap, _∙_}
+use mathlib.Core.Path.{_≡_, refl, sym, _∙_}
 use mathlib.Core.Bool.{Bool, true, false, cond, _&&_, _||_, and-true, and-false, and-comm}
 use mathlib.Core.List.{List, [], _∷_, _++_, append-assoc, append-nil}
 use lib.Dec.{leb, ltb, eqb}
-use lib.ListN.{length, getD, take, drop, length-append}
+use lib.ListN.{length, take, drop, length-append}
 use lib.Seq.{take-at, drop-at, take-add, take-all}
 use borrow.Author.Tests.{ltb-true, ltb-false, eqb-true, eqb-false, leb-true, leb-false, lt-ltb, le-ltb, le-leb, lt-leb, eq-eqb}
-use Rattle.encoding.specs.Below.{allBelow, anyBelow}
-use Rattle.encoding.specs.Pieces.{Bytes, piece}
-use Rattle.encoding.specs.Numbers.{leValue, leBytes, leAt}
-use Rattle.encoding.proofs.Below.{tests, either, clash, and-fst, and-snd, and-intro, iff-eq, below-suc, all-at, all-intro, any-at, any-intro}
-use Rattle.encoding.proofs.Pieces.{piece-length, bytes-piece}
+use Rattle.encoding.specs.Pieces.{Bytes, piece, splice}
+use Rattle.encoding.specs.Numbers.{leValue, leBytes, leAt, lePut, putU64}
+use Rattle.encoding.proofs.Below.{tests, either, and-fst, and-snd, and-intro, iff-eq, below-suc, all-at, all-intro, all-more, all-fails, all-same, any-at, any-intro}
+use Rattle.encoding.proofs.Pieces.{piece-length, bytes-piece, splice-next}
 use Rattle.encoding.proofs.Numbers.{bytes-length, value-bytes, bytes-value}
-use Rattle.offsets.specs.Limits.{maxRanks, maxTrees, rankCountOk, treeCountOk}
-use Rattle.offsets.specs.Table.{tableLength, ranks, ranksOk, entry, negative, magnitude, firstOf, trees, firstTree, endTree, treeCount, entriesWithin, countsOk, valid}
+use Rattle.offsets.specs.Limits.{maxTrees, rankCountOk, treeCountOk}
+use Rattle.offsets.specs.Table.{tableLength, ranks, ranksOk, entry, negative, magnitude, trees, firstTree, endTree, treeCount, entriesWithin, countsOk, valid}
 use Rattle.offsets.specs.Partition.{nonEmpty, onRank, lastTree, coversAll, coversOnly, ascending, validPartition, endBelow, rangesFit, entryOf, entriesBelow, tableOf, IsTable}
 use Rattle.offsets.specs.Sharing.{nearestLower, sharesWithLower}
-use Rattle.offsets.specs.Mirror.Ranges.{rangeFits, ranksFollow, rangesFitLinear}
+use Rattle.offsets.specs.Mirror.Ranges.{rangeFits, nextEnd, nextEntry, ranksFollow, rangesFitLinear}
 use Rattle.offsets.proofs.Tables.{ranks-within, trees-within, small-plain, plain-magnitude, plain-of, shared-of, end-next, size, entry-bits, zero-first, plain-first, shared-first, first-lt-end, count-add, last-end}
 
 -- one of two that pass
@@ -235,7 +234,7 @@ module _ (first count : ℕ → ℕ) where
 
 -- the table depends on the counts, and on the first trees of ranks that have trees
 module _ (f c g d : ℕ → ℕ) where
-  abbrev Agree : ℕ → Type 0
+  abbrev pub Agree : ℕ → Type 0
   Agree P = (p : ℕ) → p < P → (c p ≡ d p) × (0 < c p → f p ≡ g p)
 
   same-has : (p : ℕ) → c p ≡ d p → nonEmpty f c p ≡ nonEmpty g d p
@@ -269,6 +268,22 @@ module _ (f c g d : ℕ → ℕ) where
   pub same-ranges : (P : ℕ) → Agree P → tableOf f c P ≡ tableOf g d P
   unfolding tableOf
   same-ranges P h = rw (same-entries P h, same-end P h)
+
+  -- and so does whether the partition is valid
+  same-fits : (p : ℕ) → Agree (suc p) → rangeFits (endBelow f c p) (f p) (c p) ≡ rangeFits (endBelow g d p) (g p) (d p)
+  unfolding rangeFits
+  same-fits p h =
+      let e = h p (le-refl (suc p)) in
+      let i = same-end p (λ q l. h q (omega arith)) in
+      either (ltb 0 (c p))
+      (λ s. rw (i, e .1 (ltb-true 0 (c p) s), e .0))
+      (λ s. let z : d p ≡ 0 = omega (tests, e .0) in rw (e .0, z))
+
+  pub same-partition : (P K : ℕ) → Agree P → validPartition f c P K ≡ validPartition g d P K
+  unfolding ranksFollow
+  same-partition P K h =
+      let a = all-same P (λ p. rangeFits (endBelow f c p) (f p) (c p)) (λ p. rangeFits (endBelow g d p) (g p) (d p)) (λ p l. same-fits p (λ q k. h q (omega arith))) in
+      rw (valid-linear f c P K, valid-linear g d P K, a, same-end P h)
 
 -- ---- bytes of entries
 
@@ -545,16 +560,80 @@ module _ (first count : ℕ → ℕ) (P K : ℕ) (ro : rankCountOk P ≡ true) (
         firsts = λ p h c. first-read p h (count-some first count p c);
       }
 
-module _ (first count : ℕ → ℕ) (P K : ℕ) (ro : rankCountOk P ≡ true) where
-  -- no other list of bytes does
-  pub table-unique : (t : List ℕ) → IsTable first count P K t → t ≡ tableOf first count P
-  unfolding ranksOk
-  table-unique t i =
-      let r = ranks-of t P (i .size) in
-      let ok : ranksOk t ≡ true = rw (r, i .size, eq-eqb (tableLength P) (tableLength P) refl) ro in
-      sym (table-again t (i .bytes) ok (i .isValid))
-      ∙ rw r (same-ranges (firstTree t) (treeCount t) first count P (λ p h. (i .counts p h, λ c. i .firsts p h (rw (i .counts p h) at c))))
+module _ (first count : ℕ → ℕ) (P : ℕ) (ro : rankCountOk P ≡ true) where
+  module _ (K : ℕ) (t : List ℕ) (i : IsTable first count P K t) where
+    ranks-are : ranks t ≡ P
+    ranks-are = ranks-of t P (i .size)
+
+    ranks-ok : ranksOk t ≡ true
+    unfolding ranksOk
+    ranks-ok = rw (ranks-are, i .size, eq-eqb (tableLength P) (tableLength P) refl) ro
+
+    ranges-agree : (p : ℕ) → p < P → (treeCount t p ≡ count p) × (0 < treeCount t p → firstTree t p ≡ first p)
+    ranges-agree p h = (i .counts p h, λ c. i .firsts p h (rw (i .counts p h) at c))
+
+    -- no other list of bytes is a table of the partition
+    pub table-unique : t ≡ tableOf first count P
+    table-unique = sym (table-again t (i .bytes) ranks-ok (i .isValid)) ∙ rw ranks-are (same-ranges (firstTree t) (treeCount t) first count P ranges-agree)
+
+    -- only a valid partition has a table
+    pub table-fits : validPartition first count P K ≡ true
+    table-fits =
+        rw (← same-partition (firstTree t) (treeCount t) first count P K ranges-agree, ← i .treesAre, ← ranks-are)
+        (table-partition t (i .bytes) ranks-ok (i .isValid))
 
   -- a valid partition has one table
-  pub one-table : treeCountOk K ≡ true → validPartition first count P K ≡ true → (t : List ℕ) × IsTable first count P K t × ((u : List ℕ) → IsTable first count P K u → u ≡ t)
-  one-table ko v = (tableOf first count P, table-of first count P K ro ko v, table-unique)
+  pub one-table : (K : ℕ) → treeCountOk K ≡ true → validPartition first count P K ≡ true
+      → (t : List ℕ) × IsTable first count P K t × ((u : List ℕ) → IsTable first count P K u → u ≡ t)
+  one-table K ko v = (tableOf first count P, table-of first count P K ro ko v, table-unique K)
+
+  -- ranges that fit have the table that is written
+  pub fit-table : rangesFit first count P ≡ true → IsTable first count P (endBelow first count P) (tableOf first count P)
+  unfolding rangesFit
+  fit-table f =
+      let k = treeCountOk (endBelow first count P) in
+      table-of first count P (endBelow first count P) ro (and-fst k _ f) (and-snd k _ f)
+
+-- ---- the loops of the code: e is the end that they carry
+
+-- a number written behind what is written already
+put-next : (w v off : ℕ) (bs a : List ℕ) → length a ≡ off → off ≤ length bs → lePut w (splice bs 0 a) off v ≡ splice bs 0 (a ++ leBytes w v)
+unfolding lePut
+put-next w v off bs a l h =
+    let z : 0 + length a ≡ off = omega arith in
+    rw z at (splice-next bs 0 a (leBytes w v) (omega arith))
+
+module _ (first count : ℕ → ℕ) where
+  -- to the next rank
+  pub end-turn : (p e n : ℕ) → e ≡ endBelow first count p → n ≡ nextEnd e (first p) (count p) → n ≡ endBelow first count (p + 1)
+  unfolding endBelow nonEmpty nextEnd
+  end-turn p e n i h = rw (add-one, h, i)
+
+  pub follow-turn : (p e : ℕ) (b : Bool) → e ≡ endBelow first count p → b ≡ rangeFits e (first p) (count p) → b ≡ true → ranksFollow first count p ≡ true
+      → ranksFollow first count (p + 1) ≡ true
+  unfolding ranksFollow
+  follow-turn p e b i h t f = all-more p _ f (rw (← i, ← h) t)
+
+  -- a rank that doesn't follow
+  pub follow-stop : (P p e : ℕ) (b : Bool) → p < P → e ≡ endBelow first count p → b ≡ rangeFits e (first p) (count p) → b ≡ false → false ≡ rangesFit first count P
+  unfolding rangesFitLinear ranksFollow
+  follow-stop P p e b l i h t = rw (fit-linear first count P, all-fails P (λ p. rangeFits (endBelow first count p) (first p) (count p)) p l (rw (← i, ← h) t))
+
+  -- all ranks follow
+  pub follow-done : (P p e : ℕ) (b : Bool) → p ≤ P → P ≤ p → e ≡ endBelow first count p → ranksFollow first count p ≡ true → b ≡ treeCountOk e → b ≡ rangesFit first count P
+  unfolding rangesFitLinear
+  follow-done P p e b l k i f h = let q : P ≡ p = omega arith in rw (fit-linear first count P, q, f, h, i)
+
+  -- one more entry, then the last
+  module _ (bs out new : List ℕ) where
+    pub write-turn : (p e v : ℕ) → e ≡ endBelow first count p → v ≡ nextEntry e (first p) (count p) → out ≡ splice bs 0 (entriesBelow first count p) → new ≡ putU64 out (8 * p) v
+        → 8 * p ≤ length bs → new ≡ splice bs 0 (entriesBelow first count (p + 1))
+    unfolding entriesBelow entryOf nonEmpty nextEntry
+    write-turn p e v i h o n l = rw (add-one, n, o, h, i) (put-next 8 _ (8 * p) bs (entriesBelow first count p) (entries-length first count p) l)
+
+    pub write-done : (P p e : ℕ) → p ≤ P → P ≤ p → e ≡ endBelow first count p → out ≡ splice bs 0 (entriesBelow first count p) → new ≡ putU64 out (8 * P) e
+        → 8 * P ≤ length bs → new ≡ splice bs 0 (tableOf first count P)
+    unfolding tableOf
+    write-done P p e l k i o n h =
+        let q : p ≡ P = omega arith in
+        rw (n, o, i, q) (put-next 8 _ (8 * P) bs (entriesBelow first count P) (entries-length first count P) h)

@@ -1,17 +1,16 @@
 -- Laws of valid tables.
-use Prim.Native.Nat.{ℕ, zero, suc, _+_, _-_, _*_, _/_, _^_, _≤_, _<_}
+use Prim.Native.Nat.{ℕ, zero, suc, _+_, _-_, _*_, _^_, _≤_, _<_}
 use native.Mathlib.Nat.{le-refl}
 use native.Mathlib.Numerals.{add-one}
 use native.Mathlib.Omega.{arith}
-use mathlib.Core.Path.{_≡_, refl, sym, _∙_}
+use mathlib.Core.Path.{_≡_}
 use mathlib.Core.Bool.{true, false, cond, _&&_}
 use mathlib.Core.List.{List}
 use lib.Dec.{leb, ltb, eqb}
 use lib.ListN.{length}
 use borrow.Author.Tests.{eqb-true, leb-true, lt-leb}
-use Rattle.encoding.specs.Below.{allBelow}
 use Rattle.encoding.specs.Pieces.{Bytes}
-use Rattle.encoding.proofs.Below.{tests, either, clash, and-fst, and-snd, all-at, below-suc}
+use Rattle.encoding.proofs.Below.{tests, either, and-fst, and-snd, all-at, below-suc}
 use Rattle.encoding.proofs.Numbers.{at-bound}
 use Rattle.offsets.specs.Limits.{maxRanks, maxTrees, rankCountOk, treeCountOk}
 use Rattle.offsets.specs.Table.{tableLength, ranks, ranksOk, entry, negative, magnitude, firstOf, trees, firstTree, endTree, treeCount, entriesWithin, countsOk, valid}

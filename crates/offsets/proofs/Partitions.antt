@@ -20,7 +20,7 @@ use Rattle.offsets.specs.Table.{tableLength, ranks, ranksOk, entry, nega
 use Rattle.offsets.specs.Partition.{nonEmpty, onRank, lastTree, coversAll, coversOnly, ascending, validPartition, endBelow, rangesFit, entryOf, entriesBelow, tableOf, IsTable}
 use Rattle.offsets.specs.Sharing.{nearestLower, sharesWithLower}
 use Rattle.offsets.specs.Mirror.Ranges.{rangeFits, nextEnd, nextEntry, ranksFollow, rangesFitLinear}
-use Rattle.offsets.proofs.Tables.{ranks-within, trees-within, small-plain, plain-magnitude, plain-of, shared-of, end-next, size, entry-bits, zero-first, plain-first, shared-first, first-lt-end, count-add, last-end}
+use Rattle.offsets.proofs.Tables.{ranks-within, trees-within, never-falls, small-plain, plain-magnitude, plain-of, shared-of, end-next, size, entry-bits, zero-first, plain-first, shared-first, first-lt-end, count-add, last-end}
 
 -- one of two that pass
 or-elim : {C : Type 0} (a b : Bool) → (a || b) ≡ true → (a ≡ true → C) → (b ≡ true → C) → C
@@ -28,11 +28,11 @@ or-elim true b e l r = l refl
 or-elim false b e l r = r e
 
 -- a range that has trees fits where it begins at the end or one before
-fits-bounds : (e f c : ℕ) → rangeFits e f c ≡ true → 0 < c → (f ≤ e) × (e ≤ f + 1)
+pub fits-bounds : (e f c : ℕ) → rangeFits e f c ≡ true → 0 < c → (f ≤ e) × (e ≤ f + 1)
 unfolding rangeFits
 fits-bounds e f c t h = or-elim (eqb c 0 || eqb f e) (eqb (f + 1) e) t (λ l. or-elim (eqb c 0) (eqb f e) l (λ a. omega tests) (λ a. omega tests)) (λ r. omega tests)
 
-bounds-fit : (e f c : ℕ) → (0 < c → (f ≤ e) × (e ≤ f + 1)) → rangeFits e f c ≡ true
+pub bounds-fit : (e f c : ℕ) → (0 < c → (f ≤ e) × (e ≤ f + 1)) → rangeFits e f c ≡ true
 unfolding rangeFits
 bounds-fit e f c h =
     either (eqb c 0) (λ a. rw a)
@@ -48,33 +48,33 @@ module _ (first count : ℕ → ℕ) where
   end = endBelow first count
 
   -- a rank that has trees, and one that has none
-  some-count : (p : ℕ) → has p ≡ true → 0 < count p
+  pub some-count : (p : ℕ) → has p ≡ true → 0 < count p
   unfolding nonEmpty
   some-count p e = ltb-true 0 (count p) e
 
-  none-count : (p : ℕ) → has p ≡ false → count p ≡ 0
+  pub none-count : (p : ℕ) → has p ≡ false → count p ≡ 0
   unfolding nonEmpty
   none-count p e = omega (tests, e)
 
-  count-some : (p : ℕ) → 0 < count p → has p ≡ true
+  pub count-some : (p : ℕ) → 0 < count p → has p ≡ true
   unfolding nonEmpty
   count-some p h = lt-ltb 0 (count p) h
 
   -- the end after a rank that has trees, and after one that has none
-  end-zero : end 0 ≡ 0
+  pub end-zero : end 0 ≡ 0
   unfolding endBelow
   end-zero = refl
 
-  end-some : (p : ℕ) → has p ≡ true → end (suc p) ≡ first p + count p
+  pub end-some : (p : ℕ) → has p ≡ true → end (suc p) ≡ first p + count p
   unfolding endBelow
   end-some p e = rw e
 
-  end-none : (p : ℕ) → has p ≡ false → end (suc p) ≡ end p
+  pub end-none : (p : ℕ) → has p ≡ false → end (suc p) ≡ end p
   unfolding endBelow
   end-none p e = rw e
 
   -- where there are trees below q, the nearest rank below that has trees ends there
-  end-last : (q : ℕ) → 0 < end q → (p : ℕ) × (p < q) × (has p ≡ true) × (end q ≡ first p + count p) × ((r : ℕ) → r < q → p < r → has r ≡ false)
+  pub end-last : (q : ℕ) → 0 < end q → (p : ℕ) × (p < q) × (has p ≡ true) × (end q ≡ first p + count p) × ((r : ℕ) → r < q → p < r → has r ≡ false)
   end-last zero h = absurd (omega (arith, end-zero))
   end-last (suc q) h =
       either (has q)
@@ -82,7 +82,8 @@ module _ (first count : ℕ → ℕ) where
       (λ e. let l = end-last q (rw (end-none q e) at h) in
       (l .0, omega (arith, l .1), l .2, end-none q e ∙ l .3, λ r a b. below-suc r q a (λ k. l .4 r k b) (λ i. rw i e)))
 
-  end-from : (p q : ℕ) → p < q → has p ≡ true → ((r : ℕ) → r < q → p < r → has r ≡ false) → end q ≡ first p + count p
+  -- and the other way round
+  pub end-from : (p q : ℕ) → p < q → has p ≡ true → ((r : ℕ) → r < q → p < r → has r ≡ false) → end q ≡ first p + count p
   end-from p zero l s h = absurd (omega arith)
   end-from p (suc q) l s h =
       below-suc p q l
@@ -93,23 +94,17 @@ module _ (first count : ℕ → ℕ) where
 
   module _ (P : ℕ) (fit : ranksFollow first count P ≡ true) where
     -- each rank begins at the end of those below, or one tree before
-    follow : (p : ℕ) → p < P → has p ≡ true → (first p ≤ end p) × (end p ≤ first p + 1)
+    pub follow : (p : ℕ) → p < P → has p ≡ true → (first p ≤ end p) × (end p ≤ first p + 1)
     unfolding ranksFollow
     follow p h s = fits-bounds (end p) (first p) (count p) (all-at P _ fit p h) (some-count p s)
 
     -- the ends never fall
-    end-rises-one : (p : ℕ) → p < P → end p ≤ end (suc p)
-    end-rises-one p h =
-        either (has p)
-        (λ s. omega (arith, follow p h s, some-count p s, end-some p s))
-        (λ s. omega (arith, end-none p s))
-
     pub end-rises : (p q : ℕ) → p ≤ q → q ≤ P → end p ≤ end q
-    end-rises p zero h k = let e : p ≡ 0 = omega arith in rw e (le-refl (end 0))
-    end-rises p (suc q) h k =
-        below-suc p (suc q) (omega arith)
-        (λ l. omega (arith, end-rises p q (omega arith) (omega arith), end-rises-one q k))
-        (λ e. rw e (le-refl (end (suc q))))
+    end-rises =
+        never-falls P end
+        (λ p h. either (has p)
+        (λ s. omega (arith, follow p h s, some-count p s, end-some p s))
+        (λ s. omega (arith, end-none p s)))
 
     -- a tree below the end is on some rank
     reached : (k q : ℕ) → q ≤ P → k < end q → (p : ℕ) × (p < q) × (first p ≤ k) × (k < first p + count p)

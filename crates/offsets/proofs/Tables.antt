@@ -27,6 +27,14 @@ pub trees-within : (K : ℕ) → treeCountOk K ≡ true → (1 ≤ K) × (K ≤ 
 unfolding treeCountOk
 trees-within K e = (leb-true 1 K (and-fst _ _ e), leb-true K maxTrees (and-snd (leb 1 K) _ e))
 
+-- what falls at no step never falls
+pub never-falls : (n : ℕ) (f : ℕ → ℕ) → ((p : ℕ) → p < n → f p ≤ f (suc p)) → (p q : ℕ) → p ≤ q → q ≤ n → f p ≤ f q
+never-falls n f s p zero h k = let e : p ≡ 0 = omega arith in rw e (le-refl (f 0))
+never-falls n f s p (suc q) h k =
+    below-suc p (suc q) (omega arith)
+    (λ l. omega (arith, never-falls n f s p q (omega arith) (omega arith), s q k))
+    (λ e. rw e (le-refl (f (suc q))))
+
 -- ---- the 64 bits of an entry
 
 -- a small number isn't negative
@@ -122,18 +130,13 @@ module _ (t : List ℕ) (b : Bytes t) (ok : ranksOk t ≡ true) (v : valid t ≡
   count-add p h = omega (arith, first-le-end p h)
 
   -- |O[p]| never falls
-  rises-one : (p : ℕ) → p < ranks t → magnitude (entry t p) ≤ endTree t p
-  rises-one p h =
-      either (negative (entry t p))
-      (λ e. omega (arith, first-lt-end p h e, shared-first p e))
-      (λ e. omega (arith, first-le-end p h, plain-first p e))
-
   pub rises : (p q : ℕ) → p ≤ q → q ≤ ranks t → magnitude (entry t p) ≤ magnitude (entry t q)
-  rises p zero h k = let e : p ≡ 0 = omega arith in rw e (le-refl (magnitude (entry t 0)))
-  rises p (suc q) h k =
-      below-suc p (suc q) (omega arith)
-      (λ l. omega (arith, rises p q (omega arith) (omega arith), rises-one q k, end-next t q))
-      (λ e. rw e (le-refl (magnitude (entry t (suc q)))))
+  rises =
+      never-falls (ranks t) (λ p. magnitude (entry t p))
+      (λ p h. rw (← end-next t p)
+      (either (negative (entry t p))
+      (λ e. omega (arith, first-lt-end p h e, shared-first p e))
+      (λ e. omega (arith, first-le-end p h, plain-first p e))))
 
   -- |O[P]| = K
   pub last-end : magnitude (entry t (ranks t)) ≡ trees t

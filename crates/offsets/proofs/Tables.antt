@@ -1,17 +1,16 @@
 -- Laws of valid tables.
-use Prim.Native.Nat.{ℕ, zero, suc, _+_, _-_, _*_, _/_, _^_, _≤_, _<_}
+use Prim.Native.Nat.{ℕ, zero, suc, _+_, _-_, _*_, _^_, _≤_, _<_}
 use native.Mathlib.Nat.{le-refl}
 use native.Mathlib.Numerals.{add-one}
 use native.Mathlib.Omega.{arith}
-use mathlib.Core.Path.{_≡_, refl, sym, _∙_}
+use mathlib.Core.Path.{_≡_}
 use mathlib.Core.Bool.{true, false, cond, _&&_}
 use mathlib.Core.List.{List}
 use lib.Dec.{leb, ltb, eqb}
 use lib.ListN.{length}
 use borrow.Author.Tests.{eqb-true, leb-true, lt-leb}
-use Rattle.encoding.specs.Below.{allBelow}
 use Rattle.encoding.specs.Pieces.{Bytes}
-use Rattle.encoding.proofs.Below.{tests, either, clash, and-fst, and-snd, all-at, below-suc}
+use Rattle.encoding.proofs.Below.{tests, either, and-fst, and-snd, all-at, below-suc}
 use Rattle.encoding.proofs.Numbers.{at-bound}
 use Rattle.offsets.specs.Limits.{maxRanks, maxTrees, rankCountOk, treeCountOk}
 use Rattle.offsets.specs.Table.{tableLength, ranks, ranksOk, entry, negative, magnitude, firstOf, trees, firstTree, endTree, treeCount, entriesWithin, countsOk, valid}
@@ -27,6 +26,14 @@ ranks-within P e = (leb-true 1 P (and-fst _ _ e), leb-true P maxRanks (and-snd (
 pub trees-within : (K : ℕ) → treeCountOk K ≡ true → (1 ≤ K) × (K ≤ maxTrees)
 unfolding treeCountOk
 trees-within K e = (leb-true 1 K (and-fst _ _ e), leb-true K maxTrees (and-snd (leb 1 K) _ e))
+
+-- what falls at no step never falls
+pub never-falls : (n : ℕ) (f : ℕ → ℕ) → ((p : ℕ) → p < n → f p ≤ f (suc p)) → (p q : ℕ) → p ≤ q → q ≤ n → f p ≤ f q
+never-falls n f s p zero h k = let e : p ≡ 0 = omega arith in rw e (le-refl (f 0))
+never-falls n f s p (suc q) h k =
+    below-suc p (suc q) (omega arith)
+    (λ l. omega (arith, never-falls n f s p q (omega arith) (omega arith), s q k))
+    (λ e. rw e (le-refl (f (suc q))))
 
 -- ---- the 64 bits of an entry
 
@@ -123,18 +130,13 @@ module _ (t : List ℕ) (b : Bytes t) (ok : ranksOk t ≡ true) (v : valid t ≡
   count-add p h = omega (arith, first-le-end p h)
 
   -- |O[p]| never falls
-  rises-one : (p : ℕ) → p < ranks t → magnitude (entry t p) ≤ endTree t p
-  rises-one p h =
-      either (negative (entry t p))
-      (λ e. omega (arith, first-lt-end p h e, shared-first p e))
-      (λ e. omega (arith, first-le-end p h, plain-first p e))
-
   pub rises : (p q : ℕ) → p ≤ q → q ≤ ranks t → magnitude (entry t p) ≤ magnitude (entry t q)
-  rises p zero h k = let e : p ≡ 0 = omega arith in rw e (le-refl (magnitude (entry t 0)))
-  rises p (suc q) h k =
-      below-suc p (suc q) (omega arith)
-      (λ l. omega (arith, rises p q (omega arith) (omega arith), rises-one q k, end-next t q))
-      (λ e. rw e (le-refl (magnitude (entry t (suc q)))))
+  rises =
+      never-falls (ranks t) (λ p. magnitude (entry t p))
+      (λ p h. rw (← end-next t p)
+      (either (negative (entry t p))
+      (λ e. omega (arith, first-lt-end p h e, shared-first p e))
+      (λ e. omega (arith, first-le-end p h, plain-first p e))))
 
   -- |O[P]| = K
   pub last-end : magnitude (entry t (ranks t)) ≡ trees t

@@ -2,6 +2,7 @@
 pub mod Limits
 pub mod Table
 pub mod Partition
+pub mod Sharing
 pub mod Leaves
 pub mod Calls
 pub mod Mirror

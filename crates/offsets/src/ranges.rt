@@ -1,1 +1,83 @@
 // The table of a partition that is given by a first tree and a count for each rank.
+use encoding::write_u64;
+ghost use mathlib.Core.Path.{_≡_};
+ghost use Prim.Native.Nat.{_≤_};
+ghost use lib.ListN.{length};
+ghost use Rattle.encoding.specs.Pieces.{splice};
+ghost use Rattle.offsets.specs.Limits.{treeCountOk};
+ghost use Rattle.offsets.specs.Table.{tableLength};
+ghost use Rattle.offsets.specs.Partition.{rangesFit, tableOf};
+ghost use Rattle.offsets.specs.Calls.{each};
+ghost use Rattle.offsets.specs.Mirror.Ranges.{rangeFits, nextEnd, nextEntry};
+
+// Whether a rank follows the ranks below it, whose trees stop at `end`.
+fn range_fits(end: u64, first: u32, count: u32) -> bool
+    ensures { λ r. ⌜ r ≡ rangeFits end first count ⌝ }
+{
+    let f = first as u64;
+    (count == 0) | (f == end) | (f + 1 == end)
+}
+
+// One past the last tree after a rank.
+fn next_end(end: u64, first: u32, count: u32) -> u64
+    ensures { λ r. ⌜ r ≡ nextEnd end first count ⌝ }
+{
+    if 0 < count {
+        return first as u64 + count as u64;
+    }
+    end
+}
+
+// The entry of a rank: `end`, negative where the rank begins before it.
+fn entry_of(end: u64, first: u32, count: u32) -> u64
+    ensures { λ r. ⌜ r ≡ nextEntry end first count ⌝ }
+{
+    let f = first as u64;
+    if (0 < count) & (f < end) {
+        return 18446744073709551615 - end + 1;
+    }
+    end
+}
+
+// Whether a number of trees is within its limits.
+fn tree_count_ok(trees: u64) -> bool
+    ensures { λ r. ⌜ r ≡ treeCountOk trees ⌝ }
+{
+    (1 <= trees) & (trees <= 1048576)
+}
+
+// Whether the ranges are a valid partition of a number of trees within its limits.
+pub fn ranges_fit(ranks: usize, first: &[u32], count: &[u32]) -> bool
+    requires { ⌜ (length (now first) ≡ ranks) × (length (now count) ≡ ranks) ⌝ }
+    ensures { λ r. ⌜ r ≡ rangesFit (each (now (first .entry))) (each (now (count .entry))) ranks ⌝ }
+{
+    let mut end: u64 = 0;
+    let mut p: usize = 0;
+    while p < ranks {
+        let f = first[p];
+        let n = count[p];
+        if !range_fits(end, f, n) {
+            return false;
+        }
+        end = next_end(end, f, n);
+        p += 1;
+    }
+    tree_count_ok(end)
+}
+
+// The table of the ranges, at the start of `out`.
+pub fn write(ranks: usize, first: &[u32], count: &[u32], out: &mut [u8])
+    requires { ⌜ (length (now first) ≡ ranks) × ((length (now count) ≡ ranks) × (tableLength ranks ≤ length (now out))) ⌝ }
+    ensures { λ r. ⌜ now (out .exit) ≡ splice (now (out .entry)) 0 (tableOf (each (now (first .entry))) (each (now (count .entry))) ranks) ⌝ }
+{
+    let mut end: u64 = 0;
+    let mut p: usize = 0;
+    while p < ranks {
+        let f = first[p];
+        let n = count[p];
+        write_u64(&mut *out, 8 * p, entry_of(end, f, n));
+        end = next_end(end, f, n);
+        p += 1;
+    }
+    write_u64(&mut *out, 8 * ranks, end);
+}

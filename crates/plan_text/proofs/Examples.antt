@@ -1,0 +1,39 @@
+-- Document 01's example of the program, computed on the definitions.
+use Prim.Native.Nat.{ℕ}
+use mathlib.Core.Path.{_≡_, refl}
+use mathlib.Core.List.{List, [], _∷_}
+use Rattle.encoding.specs.Below.{allBelow, anyBelow, countBelow, leastBelow, sumBelow}
+use Rattle.encoding.specs.Pieces.{piece}
+use Rattle.encoding.specs.Numbers.{leValue, leBytes, leAt}
+use Rattle.encoding.specs.Refusal.{firstFailed}
+use Rattle.offsets.specs.Limits.{rankCountOk, treeCountOk}
+use Rattle.offsets.specs.Table.{ranks, ranksOk, entry, negative, magnitude, firstOf, trees, firstTree, endTree, holds, entriesWithin, countsOk, valid, tableBytes}
+use Rattle.pattern.specs.Sender.{leastHolder, sender, sends, sentCount, sentFirst}
+use Rattle.pattern.specs.Sets.{sendsTo}
+use Rattle.pattern.specs.Calls.{tableChecks}
+use Rattle.plan_text.specs.Text.{digitsOf, decimal, entryText, listText, render}
+use Rattle.plan_text.specs.Read.{isDigit, digitCount, valueOf, digitsOk, readNumber, negated, readEntry, before, readList, wordAt, readRanks, readOld, readNew, formOk, parse}
+use Rattle.plan_text.specs.Plan.{lineText, moveText, movesFrom, movesText, moveCount, movesOutput, planRefusal, planOutput}
+
+-- ranks=3, old=0,-2,3,5, new=0,-3,-4,5
+abbrev input : List ℕ
+input =
+    114 ∷ 97 ∷ 110 ∷ 107 ∷ 115 ∷ 61 ∷ 51 ∷ 10 ∷
+    111 ∷ 108 ∷ 100 ∷ 61 ∷ 48 ∷ 44 ∷ 45 ∷ 50 ∷ 44 ∷ 51 ∷ 44 ∷ 53 ∷ 10 ∷
+    110 ∷ 101 ∷ 119 ∷ 61 ∷ 48 ∷ 44 ∷ 45 ∷ 51 ∷ 44 ∷ 45 ∷ 52 ∷ 44 ∷ 53 ∷ 10 ∷ []
+
+-- ranks=3, trees=5, five moves, messages=5
+abbrev output : List ℕ
+output =
+    114 ∷ 97 ∷ 110 ∷ 107 ∷ 115 ∷ 61 ∷ 51 ∷ 10 ∷
+    116 ∷ 114 ∷ 101 ∷ 101 ∷ 115 ∷ 61 ∷ 53 ∷ 10 ∷
+    109 ∷ 111 ∷ 118 ∷ 101 ∷ 61 ∷ 48 ∷ 44 ∷ 48 ∷ 44 ∷ 48 ∷ 44 ∷ 49 ∷ 10 ∷
+    109 ∷ 111 ∷ 118 ∷ 101 ∷ 61 ∷ 49 ∷ 44 ∷ 48 ∷ 44 ∷ 50 ∷ 44 ∷ 50 ∷ 10 ∷
+    109 ∷ 111 ∷ 118 ∷ 101 ∷ 61 ∷ 49 ∷ 44 ∷ 49 ∷ 44 ∷ 50 ∷ 44 ∷ 50 ∷ 10 ∷
+    109 ∷ 111 ∷ 118 ∷ 101 ∷ 61 ∷ 50 ∷ 44 ∷ 49 ∷ 44 ∷ 51 ∷ 44 ∷ 51 ∷ 10 ∷
+    109 ∷ 111 ∷ 118 ∷ 101 ∷ 61 ∷ 50 ∷ 44 ∷ 50 ∷ 44 ∷ 51 ∷ 44 ∷ 52 ∷ 10 ∷
+    109 ∷ 101 ∷ 115 ∷ 115 ∷ 97 ∷ 103 ∷ 101 ∷ 115 ∷ 61 ∷ 53 ∷ 10 ∷ []
+
+pub plan-example : planOutput input ≡ output
+unfolding planOutput planRefusal movesOutput moveCount movesText movesFrom moveText lineText parse formOk readNew readOld readRanks wordAt readList before readEntry negated readNumber digitsOk valueOf digitCount isDigit decimal digitsOf tableChecks sendsTo sentFirst sentCount sends sender leastHolder tableBytes valid countsOk entriesWithin holds endTree firstTree trees firstOf magnitude negative entry ranksOk ranks treeCountOk rankCountOk firstFailed leAt leBytes leValue piece allBelow anyBelow countBelow leastBelow sumBelow
+plan-example = refl

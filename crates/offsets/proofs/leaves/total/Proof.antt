@@ -1,0 +1,59 @@
+use Rattle.offsets.proofs.LeafCounts.{start-zero, start-more, start-total, start-bound}
+use Rattle.offsets.specs.Leaves.{leafStart}
+use native.Mathlib.Omega.{arith}
+use mathlib.Core.Path.{_≡_, sym, _∙_}
+use lib.ListN.{length}
+use Prim.Native.Nat.{_≤_, _-_, _+_}
+use borrow.Author.Needs.{needs}
+use Rattle.offsets.proofs.leaves.total.Statement.{statement}
+use Rattle.offsets.proofs.leaves.total.Tie as tie
+
+abbrev Inv-loop : tie.InvT-loop
+Inv-loop leaves n₀ i₀ n i = (i ≤ length leaves) × (n ≡ leafStart leaves i)
+
+abbrev μ-loop : tie.MeasureT-loop
+μ-loop leaves n₀ i₀ n i = length leaves - i
+
+loop-holds : tie.Need-loop-holds Inv-loop μ-loop
+loop-holds c = (omega arith, sym (start-zero _))
+
+mul-wide : tie.Need-mul-wide Inv-loop μ-loop
+mul-wide c = search needs
+
+shared-slice-read-wide : tie.Need-shared-slice-read-wide Inv-loop μ-loop
+shared-slice-read-wide c = search needs
+
+wide-requires : tie.Need-wide-requires Inv-loop μ-loop
+wide-requires c κs = search needs
+
+add-n : tie.Need-add-n Inv-loop μ-loop
+add-n c = omega (arith, start-more (c .before .before .before .before .before .args .leaves .now) (c .before .before .before .loop .i), start-bound (c .before .before .before .before .before .args .leaves .now) (c .before .before .before .before .before .pre) (c .before .before .before .loop .i + 1) (omega arith))
+
+add-i : tie.Need-add-i Inv-loop μ-loop
+add-i c = search needs
+
+loop-less : tie.Need-loop-less Inv-loop μ-loop
+loop-less c = search needs
+
+loop-again : tie.Need-loop-again Inv-loop μ-loop
+loop-again c = omega (arith, start-more (c .before .before .before .before .before .args .leaves .now) (c .before .before .before .loop .i))
+
+returns : tie.Need-returns Inv-loop μ-loop
+returns c = let e : c .before .loop .i ≡ length (c .before .before .before .args .leaves .now) = omega arith in
+    (c .before .loop .inv .1 ∙ rw e (start-total _), omega (arith, start-bound (c .before .before .before .args .leaves .now) (c .before .before .before .pre) (c .before .loop .i) (c .before .loop .inv .0)))
+
+pub total-spec : {M : Type 1} → statement M
+total-spec =
+    tie.close
+    (tie.spec
+    Inv-loop
+    μ-loop
+    loop-holds
+    mul-wide
+    shared-slice-read-wide
+    wide-requires
+    add-n
+    add-i
+    loop-less
+    loop-again
+    returns)

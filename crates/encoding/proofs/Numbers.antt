@@ -116,6 +116,11 @@ pub at-above : (w : ℕ) (bs : List ℕ) (off v m at : ℕ) → off + w ≤ leng
 unfolding leAt lePut
 at-above w bs off v m at h k = ap leValue (piece-above bs off (leBytes w v) at m (rw (bytes-length w v) h) (rw (bytes-length w v) k))
 
+-- the bytes of the number that stands somewhere are the bytes there
+pub at-bytes : (w : ℕ) (bs : List ℕ) (off : ℕ) → Bytes bs → off + w ≤ length bs → leBytes w (leAt w bs off) ≡ piece bs off w
+unfolding leAt
+at-bytes w bs off b h = rw (piece-length bs off w h) at (bytes-value (piece bs off w) (bytes-piece bs off w b))
+
 -- a number of no bytes is 0
 pub at-none : (bs : List ℕ) (off : ℕ) → leAt 0 bs off ≡ 0
 unfolding leAt leValue piece

@@ -119,6 +119,10 @@ module _ (bs : List ℕ) where
       → last ≡ splice bs off (a ++ b)
   splice-then off n a b e h p q = rw (q, p, ← e) (splice-next off a b (rw e h))
 
+  -- a splice of what equals q is a splice of q
+  pub splice-of : {p q last : List ℕ} (off : ℕ) → last ≡ splice bs off p → p ≡ q → last ≡ splice bs off q
+  splice-of off e h = e ∙ ap (splice bs off) h
+
   -- writing what stands there changes nothing
   pub splice-piece : (off n : ℕ) → off + n ≤ length bs → splice bs off (piece bs off n) ≡ bs
   unfolding splice piece

@@ -68,3 +68,70 @@ pub fn store64(bs: &mut [u8], at: usize, r: Words64)
     write_u64(&mut *bs, at + 48, r.w6);
     write_u64(&mut *bs, at + 56, r.w7);
 }
+
+pub fn copy40(src: &[u8], from: usize, dst: &mut [u8], to: usize)
+    requires { ⌜ (from + 40 ≤ length (now src)) × (to + 40 ≤ length (now dst)) ⌝ }
+    ensures { λ u. ⌜ now (dst .exit) ≡ splice (now (dst .entry)) to (piece (now (src .entry)) from 40) ⌝ }
+{
+    let r = load40(src, from);
+    store40(&mut *dst, to, r);
+}
+
+pub fn copy64(src: &[u8], from: usize, dst: &mut [u8], to: usize)
+    requires { ⌜ (from + 64 ≤ length (now src)) × (to + 64 ≤ length (now dst)) ⌝ }
+    ensures { λ u. ⌜ now (dst .exit) ≡ splice (now (dst .entry)) to (piece (now (src .entry)) from 64) ⌝ }
+{
+    let r = load64(src, from);
+    store64(&mut *dst, to, r);
+}
+
+// Within one buffer. The places may overlap.
+pub fn move40(bs: &mut [u8], from: usize, to: usize)
+    requires { ⌜ (from + 40 ≤ length (now bs)) × (to + 40 ≤ length (now bs)) ⌝ }
+    ensures { λ u. ⌜ now (bs .exit) ≡ splice (now (bs .entry)) to (piece (now (bs .entry)) from 40) ⌝ }
+{
+    let r = load40(&*bs, from);
+    store40(&mut *bs, to, r);
+}
+
+pub fn move64(bs: &mut [u8], from: usize, to: usize)
+    requires { ⌜ (from + 64 ≤ length (now bs)) × (to + 64 ≤ length (now bs)) ⌝ }
+    ensures { λ u. ⌜ now (bs .exit) ≡ splice (now (bs .entry)) to (piece (now (bs .entry)) from 64) ⌝ }
+{
+    let r = load64(&*bs, from);
+    store64(&mut *bs, to, r);
+}
+
+pub fn clear40(bs: &mut [u8], at: usize)
+    requires { ⌜ at + 40 ≤ length (now bs) ⌝ }
+    ensures { λ u. ⌜ now (bs .exit) ≡ splice (now (bs .entry)) at (replicate 40 0) ⌝ }
+{
+    let r = Words40 {
+        w0: 0,
+        w1: 0,
+        w2: 0,
+        w3: 0,
+        w4: 0,
+    };
+    store40(&mut *bs, at, r);
+}
+
+pub fn clear64(bs: &mut [u8], at: usize)
+    requires { ⌜ at + 64 ≤ length (now bs) ⌝ }
+    ensures { λ u. ⌜ now (bs .exit) ≡ splice (now (bs .entry)) at (replicate 64 0) ⌝ }
+{
+    let core = Words40 {
+        w0: 0,
+        w1: 0,
+        w2: 0,
+        w3: 0,
+        w4: 0,
+    };
+    let r = Words64 {
+        core,
+        w5: 0,
+        w6: 0,
+        w7: 0,
+    };
+    store64(&mut *bs, at, r);
+}

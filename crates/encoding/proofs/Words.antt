@@ -1,15 +1,21 @@
--- Laws of records as words of 8 bytes.
+-- Laws of records as words of 8 bytes, and of the zero test.
 use Prim.Native.Nat.{ℕ, zero, suc, _+_, _*_, _≤_, _<_}
 use mathlib.Core.Path.{_≡_, refl, sym, ap, _∙_}
 use mathlib.Core.List.{List, [], _∷_, _++_}
 use native.Mathlib.Nat.{add-assoc, mul-suc}
 use native.Mathlib.Omega.{arith}
-use lib.ListN.{length, length-append}
+use mathlib.Core.Bool.{Bool, true, false, _&&_}
+use lib.Dec.{eqb, ltb}
+use lib.ListN.{length, getD, replicate, length-append, length-replicate, getD-replicate, List·getD-eq-default}
+use lib.Seq.{ext-getD}
+use borrow.Author.Tests.{eqb-true, eq-eqb}
 use Rattle.encoding.specs.declared.record.Words40.{Words40}
 use Rattle.encoding.specs.declared.record.Words64.{Words64}
 use Rattle.encoding.specs.Pieces.{piece, splice, Bytes}
 use Rattle.encoding.specs.Numbers.{leBytes, leAt, lePut, u64At, putU64}
-use Rattle.encoding.specs.Words.{wordBytes, bytes40, bytes64}
+use Rattle.encoding.specs.Below.{allBelow}
+use Rattle.encoding.specs.Words.{wordBytes, bytes40, bytes64, zeroAt, allZero}
+use Rattle.encoding.proofs.Below.{either, clash, tests, all-at, all-intro, all-add}
 use Rattle.encoding.proofs.Pieces.{piece-add, splice-none, splice-then}
 use Rattle.encoding.proofs.Numbers.{bytes-length, at-bytes, length-put}
 
@@ -56,3 +62,34 @@ words-written {off} h (next {k} {w} {ws} {bs} {mid} {last} e r) =
     let l : length mid ≡ length bs = rw e (length-put 8 bs (off + k) w (omega arith)) in
     let i : last ≡ splice mid (off + (k + 8)) (wordBytes ws) = words-written (omega arith) r in
     splice-then bs (off + k) 8 (leBytes 8 w) (wordBytes ws) (bytes-length 8 w) (omega arith) e (rw s at i)
+
+-- ---- the zero test
+
+-- eight tests, as the code joins them
+pub eight : (f : ℕ → Bool) → (f 0 && f 1 && f 2 && f 3 && f 4 && f 5 && f 6 && f 7) ≡ allBelow 8 f
+unfolding allBelow
+eight f = refl
+
+-- one more turn of a loop that tests m at a time
+pub block-more : (m i : ℕ) (f : ℕ → Bool) → allBelow i f ≡ true → allBelow m (λ k. f (i + k)) ≡ true → allBelow (i + m) f ≡ true
+block-more m i f a e = rw (all-add i m f, a, e)
+
+-- a block that fails makes all fail
+pub block-fails : (m n i : ℕ) (f : ℕ → Bool) → i + m ≤ n → allBelow m (λ k. f (i + k)) ≡ false → allBelow n f ≡ false
+block-fails m n i f h e = either (allBelow n f) (λ p. clash (all-intro m (λ k. f (i + k)) (λ k q. all-at n f p (i + k) (omega arith))) e) (λ p. p)
+
+-- where all are 0, each is
+pub zero-at : (bs : List ℕ) → allZero bs ≡ true → (i : ℕ) → getD bs i 0 ≡ 0
+unfolding allZero
+zero-at bs e i =
+    either (ltb i (length bs)) (λ p. eqb-true (getD bs i 0) 0 (all-at (length bs) (zeroAt bs) e i (omega tests))) (λ p. List·getD-eq-default bs 0 (omega tests))
+
+-- where each is 0, all are
+pub zero-intro : (bs : List ℕ) → ((i : ℕ) → i < length bs → getD bs i 0 ≡ 0) → allZero bs ≡ true
+unfolding allZero
+zero-intro bs h = all-intro (length bs) (zeroAt bs) (λ i p. eq-eqb (getD bs i 0) 0 (h i p))
+
+-- such bytes are as many zeros
+pub zero-replicate : (bs : List ℕ) → allZero bs ≡ true → bs ≡ replicate (length bs) 0
+zero-replicate bs e =
+    ext-getD 0 bs (replicate (length bs) 0) (sym (length-replicate (length bs) 0)) (λ i p. zero-at bs e i ∙ sym (getD-replicate (length bs) i 0 0 p))

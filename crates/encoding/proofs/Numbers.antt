@@ -1,7 +1,7 @@
 -- Laws of little-endian numbers, once for every width.
 use Prim.Native.Nat.{ℕ, zero, suc, _+_, _*_, _/_, _%_, _^_, _≤_, _<_}
 use mathlib.Core.Path.{_≡_, refl, sym, ap, _∙_}
-use mathlib.Core.Bool.{Bool, true, false, _&&_, and-true, and-false}
+use mathlib.Core.Bool.{_&&_, and-true, and-false}
 use mathlib.Core.List.{List, [], _∷_, _++_}
 use native.Mathlib.Omega.{arith}
 use native.Mathlib.Nat.{not-suc-le-zero, le-of-suc-le-suc, zero-add, suc-add, add-zero, add-assoc, mul-zero, mul-suc, one-le-pow, div-one, div-div-eq-div-mul}
@@ -15,7 +15,7 @@ use Rattle.encoding.specs.Below.{allBelow}
 use Rattle.encoding.specs.Words.{zeroAt}
 use Rattle.encoding.specs.Numbers.{leValue, leBytes, leAt, lePut}
 use Rattle.encoding.proofs.Below.{either, tests, all-same, all-add}
-use Rattle.encoding.proofs.Pieces.{piece-cons, piece-past, piece-add, piece-length, piece-most, bytes-piece, length-splice, splice-cons, splice-none, splice-next, piece-same, piece-below, piece-above}
+use Rattle.encoding.proofs.Pieces.{piece-cons, piece-past, piece-add, piece-length, piece-most, bytes-piece, length-splice, splice-cons, splice-none, splice-then, piece-same, piece-below, piece-above}
 
 pub bytes-length : (w v : ℕ) → length (leBytes w v) ≡ w
 unfolding leBytes
@@ -160,10 +160,8 @@ four-stores bs off v h =
 pub put-add : (m n : ℕ) (bs : List ℕ) (off v : ℕ) → off + m ≤ length bs → lePut n (lePut m bs off (v % 256 ^ m)) (off + m) (v / 256 ^ m) ≡ lePut (m + n) bs off v
 unfolding lePut
 put-add m n bs off v h =
-    let l : length (leBytes m v) ≡ m = bytes-length m v in
-    let s : splice (splice bs off (leBytes m v)) (off + length (leBytes m v)) (leBytes n (v / 256 ^ m)) ≡ splice bs off (leBytes m v ++ leBytes n (v / 256 ^ m)) =
-    splice-next bs off (leBytes m v) (leBytes n (v / 256 ^ m)) (rw l h) in
-    rw (bytes-mod m v) ((rw l at s) ∙ ap (splice bs off) (sym (bytes-add m n v)))
+    rw (bytes-mod m v)
+    (splice-then bs off m (leBytes m v) (leBytes n (v / 256 ^ m)) (bytes-length m v) h refl refl ∙ ap (splice bs off) (sym (bytes-add m n v)))
 
 -- a number of one byte
 pub at-one : (bs : List ℕ) (off : ℕ) → leAt 1 bs off ≡ getD bs off 0
@@ -179,6 +177,7 @@ unfolding leAt
 at-last w bs off =
     rw (← add-one w, piece-add bs off w 1, value-append (piece bs off w) (piece bs (off + w) 1)) (ap (λ (b : ℕ). leAt w bs off + 256 ^ length (piece bs off w) * b) (at-one bs (off + w)))
 
+-- a sum is 0 where both parts are
 sum-zero : (a p b : ℕ) → 0 < p → eqb (a + p * b) 0 ≡ (eqb a 0 && eqb b 0)
 sum-zero a p zero h = rw (mul-zero, add-zero, and-true)
 sum-zero a p (suc b) h = rw (eqb·suc-zero b, and-false) (ne-eqb (a + p * suc b) 0 (λ e. omega arith))

@@ -1,33 +1,35 @@
 -- Laws of records as words of 8 bytes, and of the zero test.
-use Prim.Native.Nat.{ℕ, zero, suc, _+_, _*_, _≤_, _<_}
-use mathlib.Core.Path.{_≡_, refl, sym, ap, _∙_}
-use mathlib.Core.List.{List, [], _∷_, _++_}
-use native.Mathlib.Nat.{add-assoc, mul-suc}
-use native.Mathlib.Omega.{arith}
+use Prim.Native.Nat.{ℕ, suc, _+_, _*_, _≤_, _<_}
+use mathlib.Core.Path.{_≡_, refl, sym, _∙_}
 use mathlib.Core.Bool.{Bool, true, false, _&&_}
-use lib.Dec.{eqb, ltb}
+use mathlib.Core.List.{List, [], _∷_, _++_}
+use native.Mathlib.Omega.{arith}
+use lib.Dec.{ltb}
 use lib.ListN.{length, getD, replicate, length-append, length-replicate, getD-replicate, List·getD-eq-default}
 use lib.Seq.{ext-getD}
 use borrow.Author.Tests.{eqb-true, eq-eqb}
 use Rattle.encoding.specs.declared.record.Words40.{Words40}
 use Rattle.encoding.specs.declared.record.Words64.{Words64}
 use Rattle.encoding.specs.Pieces.{piece, splice, Bytes}
-use Rattle.encoding.specs.Numbers.{leBytes, leAt, lePut, u64At, putU64}
+use Rattle.encoding.specs.Numbers.{leBytes, lePut, u64At, putU64}
 use Rattle.encoding.specs.Below.{allBelow}
 use Rattle.encoding.specs.Words.{wordBytes, bytes40, bytes64, zeroAt, allZero}
 use Rattle.encoding.proofs.Below.{either, clash, tests, all-at, all-intro, all-add}
 use Rattle.encoding.proofs.Pieces.{piece-add, splice-none, splice-then}
 use Rattle.encoding.proofs.Numbers.{bytes-length, at-bytes, length-put}
 
+-- 8 bytes a word
 pub words-length : (ws : List ℕ) → length (wordBytes ws) ≡ length ws * 8
 unfolding wordBytes
 words-length [] = refl
 words-length (w ∷ ws) = rw (length-append, bytes-length 8 w, words-length ws) (omega arith)
 
+-- a record of 40 bytes is as long
 pub bytes40-length : (r : Words40) → length (bytes40 r) ≡ 40
 unfolding bytes40
 bytes40-length r = words-length (r .w0 ∷ r .w1 ∷ r .w2 ∷ r .w3 ∷ r .w4 ∷ [])
 
+-- and one of 64 bytes
 pub bytes64-length : (r : Words64) → length (bytes64 r) ≡ 64
 unfolding bytes64
 bytes64-length r = rw (length-append, bytes40-length (r .core), words-length (r .w5 ∷ r .w6 ∷ r .w7 ∷ []))
@@ -48,7 +50,7 @@ words-read {bs} {off} b h (next {k} {w} {ws} e r) =
     let i : wordBytes ws ≡ piece bs (off + (k + 8)) (length ws * 8) = words-read b (omega arith) r in
     rw (a, i, m, piece-add bs (off + k) 8 (length ws * 8), s)
 
--- the words were written one after the other, the first at off + k, and turned bs into the second list
+-- the words were written one after the other, the first at off + k: the first list is the buffer before, the second the buffer after
 pub data Written (off : ℕ) : ℕ → List ℕ → List ℕ → List ℕ → Type 0 where
   none : {k : ℕ} {bs : List ℕ} → Written off k [] bs bs
   next : {k w : ℕ} {ws bs mid last : List ℕ} → mid ≡ putU64 bs (off + k) w → Written off (k + 8) ws mid last → Written off k (w ∷ ws) bs last

@@ -2,3 +2,4 @@
 pub mod Below
 pub mod Pieces
 pub mod Numbers
+pub mod Words

@@ -1,15 +1,21 @@
 -- Laws of little-endian numbers, once for every width.
 use Prim.Native.Nat.{ℕ, zero, suc, _+_, _*_, _/_, _%_, _^_, _≤_, _<_}
 use mathlib.Core.Path.{_≡_, refl, sym, ap, _∙_}
+use mathlib.Core.Bool.{_&&_, and-true, and-false}
 use mathlib.Core.List.{List, [], _∷_, _++_}
 use native.Mathlib.Omega.{arith}
-use native.Mathlib.Nat.{not-suc-le-zero, le-of-suc-le-suc, zero-add, suc-add, div-one, div-div-eq-div-mul}
+use native.Mathlib.Nat.{not-suc-le-zero, le-of-suc-le-suc, zero-add, suc-add, add-zero, add-assoc, mul-zero, mul-suc, one-le-pow, div-one, div-div-eq-div-mul}
 use lib.Arith.{mod-mul}
 use native.Mathlib.Numerals.{add-one, add-two, add-three}
-use lib.ListN.{length, getD, set, length-set}
+use lib.Dec.{eqb, ltb, eqb·suc-zero}
+use lib.ListN.{length, getD, set, length-set, List·getD-eq-default}
+use borrow.Author.Tests.{ne-eqb}
 use Rattle.encoding.specs.Pieces.{piece, splice, Bytes}
+use Rattle.encoding.specs.Below.{allBelow}
+use Rattle.encoding.specs.Words.{zeroAt}
 use Rattle.encoding.specs.Numbers.{leValue, leBytes, leAt, lePut}
-use Rattle.encoding.proofs.Pieces.{piece-cons, piece-past, piece-add, piece-length, piece-most, bytes-piece, length-splice, splice-cons, splice-none, splice-next, piece-same, piece-below, piece-above}
+use Rattle.encoding.proofs.Below.{either, tests, all-same, all-add}
+use Rattle.encoding.proofs.Pieces.{piece-cons, piece-past, piece-add, piece-length, piece-most, bytes-piece, length-splice, splice-cons, splice-none, splice-then, piece-same, piece-below, piece-above}
 
 pub bytes-length : (w v : ℕ) → length (leBytes w v) ≡ w
 unfolding leBytes
@@ -116,6 +122,11 @@ pub at-above : (w : ℕ) (bs : List ℕ) (off v m at : ℕ) → off + w ≤ leng
 unfolding leAt lePut
 at-above w bs off v m at h k = ap leValue (piece-above bs off (leBytes w v) at m (rw (bytes-length w v) h) (rw (bytes-length w v) k))
 
+-- the bytes of the number that stands somewhere are the bytes there
+pub at-bytes : (w : ℕ) (bs : List ℕ) (off : ℕ) → Bytes bs → off + w ≤ length bs → leBytes w (leAt w bs off) ≡ piece bs off w
+unfolding leAt
+at-bytes w bs off b h = rw (piece-length bs off w h) at (bytes-value (piece bs off w) (bytes-piece bs off w b))
+
 -- a number of no bytes is 0
 pub at-none : (bs : List ℕ) (off : ℕ) → leAt 0 bs off ≡ 0
 unfolding leAt leValue piece
@@ -149,7 +160,42 @@ four-stores bs off v h =
 pub put-add : (m n : ℕ) (bs : List ℕ) (off v : ℕ) → off + m ≤ length bs → lePut n (lePut m bs off (v % 256 ^ m)) (off + m) (v / 256 ^ m) ≡ lePut (m + n) bs off v
 unfolding lePut
 put-add m n bs off v h =
-    let l : length (leBytes m v) ≡ m = bytes-length m v in
-    let s : splice (splice bs off (leBytes m v)) (off + length (leBytes m v)) (leBytes n (v / 256 ^ m)) ≡ splice bs off (leBytes m v ++ leBytes n (v / 256 ^ m)) =
-    splice-next bs off (leBytes m v) (leBytes n (v / 256 ^ m)) (rw l h) in
-    rw (bytes-mod m v) ((rw l at s) ∙ ap (splice bs off) (sym (bytes-add m n v)))
+    rw (bytes-mod m v)
+    (splice-then bs off m (leBytes m v) (leBytes n (v / 256 ^ m)) (bytes-length m v) h refl refl ∙ ap (splice bs off) (sym (bytes-add m n v)))
+
+-- a number of one byte
+pub at-one : (bs : List ℕ) (off : ℕ) → leAt 1 bs off ≡ getD bs off 0
+unfolding leAt leValue
+at-one bs off =
+    either (ltb off (length bs))
+    (λ p. omega (arith, at-step 0 bs off (omega tests), at-none bs (suc off)))
+    (λ p. let l : length bs ≤ off = omega tests in rw (piece-past bs off 1 l, List·getD-eq-default bs 0 l))
+
+-- the last byte behind the others
+at-last : (w : ℕ) (bs : List ℕ) (off : ℕ) → leAt (suc w) bs off ≡ leAt w bs off + 256 ^ length (piece bs off w) * getD bs (off + w) 0
+unfolding leAt
+at-last w bs off =
+    rw (← add-one w, piece-add bs off w 1, value-append (piece bs off w) (piece bs (off + w) 1)) (ap (λ (b : ℕ). leAt w bs off + 256 ^ length (piece bs off w) * b) (at-one bs (off + w)))
+
+-- a sum is 0 where both parts are
+sum-zero : (a p b : ℕ) → 0 < p → eqb (a + p * b) 0 ≡ (eqb a 0 && eqb b 0)
+sum-zero a p zero h = rw (mul-zero, add-zero, and-true)
+sum-zero a p (suc b) h = rw (eqb·suc-zero b, and-false) (ne-eqb (a + p * suc b) 0 (λ e. omega arith))
+
+-- a number is 0 where each of its bytes is
+pub at-zero : (w : ℕ) (bs : List ℕ) (off : ℕ) → eqb (leAt w bs off) 0 ≡ allBelow w (λ i. zeroAt bs (off + i))
+unfolding allBelow
+at-zero zero bs off = rw (at-none bs off)
+at-zero (suc w) bs off =
+    let l : ℕ = length (piece bs off w) in
+    let p : 0 < 256 ^ l = one-le-pow l 256 (omega arith) in
+    rw (at-last w bs off, sum-zero (leAt w bs off) (256 ^ l) (getD bs (off + w) 0) p, at-zero w bs off)
+
+-- n numbers in a row are 0 where each of their bytes is
+pub row-zero : (w n : ℕ) (bs : List ℕ) (off : ℕ) → allBelow n (λ k. eqb (leAt w bs (off + w * k)) 0) ≡ allBelow (w * n) (λ i. zeroAt bs (off + i))
+unfolding allBelow
+row-zero w zero bs off = rw mul-zero
+row-zero w (suc n) bs off =
+    let s : allBelow w (λ i. zeroAt bs (off + w * n + i)) ≡ allBelow w (λ i. zeroAt bs (off + (w * n + i))) =
+    all-same w (λ i. zeroAt bs (off + w * n + i)) (λ i. zeroAt bs (off + (w * n + i))) (λ i h. ap (zeroAt bs) (add-assoc off (w * n) i)) in
+    rw (mul-suc, all-add (w * n) w (λ i. zeroAt bs (off + i)), row-zero w n bs off, at-zero w bs (off + w * n), s)

@@ -114,6 +114,15 @@ module _ (bs : List ℕ) where
       ∙ (ap (λ (l : List ℕ). (take off bs ++ a) ++ (b ++ l)) d
       ∙ (ap (λ (m : ℕ). (take off bs ++ a) ++ (b ++ drop m bs)) (sym e) ∙ simp append-assoc))
 
+  -- the same as two steps, where the first is n bytes long
+  pub splice-then : {mid last : List ℕ} (off n : ℕ) (a b : List ℕ) → length a ≡ n → off + n ≤ length bs → mid ≡ splice bs off a → last ≡ splice mid (off + n) b
+      → last ≡ splice bs off (a ++ b)
+  splice-then off n a b e h p q = rw (q, p, ← e) (splice-next off a b (rw e h))
+
+  -- a splice of what equals q is a splice of q
+  pub splice-of : {p q last : List ℕ} (off : ℕ) → last ≡ splice bs off p → p ≡ q → last ≡ splice bs off q
+  splice-of off e h = e ∙ ap (splice bs off) h
+
   -- writing what stands there changes nothing
   pub splice-piece : (off n : ℕ) → off + n ≤ length bs → splice bs off (piece bs off n) ≡ bs
   unfolding splice piece

@@ -2,5 +2,6 @@
 pub mod Below
 pub mod Pieces
 pub mod Numbers
+pub mod Words
 pub mod Refusal
 pub mod Answer

@@ -3,39 +3,28 @@ use native.Mathlib.Omega.{arith}
 use borrow.Author.Needs.{needs}
 use Rattle.encoding.proofs.read_u64.Statement.{statement}
 use Rattle.encoding.proofs.read_u64.Tie as tie
-use Rattle.encoding.proofs.read_u64.Reads as reads
-use Rattle.encoding.proofs.read_u64.Lts as lts
-use Rattle.encoding.proofs.read_u32.Reads as read-u32-reads
 
--- src/lib.rt:28:15
 read-u32-requires : tie.Need-read-u32-requires
 read-u32-requires c κs = search needs
 
--- src/lib.rt:28:15
 cast-low : tie.Need-cast-low
 cast-low c = search needs
 
--- src/lib.rt:29:29
 add-read-u32 : tie.Need-add-read-u32
 add-read-u32 c = search needs
 
--- src/lib.rt:29:16
 read-u32-requires-2 : tie.Need-read-u32-requires-2
 read-u32-requires-2 c κs = search needs
 
--- src/lib.rt:29:16
 cast-high : tie.Need-cast-high
 cast-high c = search needs
 
--- src/lib.rt:30:11
 mul-result : tie.Need-mul-result
 mul-result c = search needs
 
--- src/lib.rt:30:5
 add-result : tie.Need-add-result
 add-result c = search needs
 
--- src/lib.rt:24:1
 returns : tie.Need-returns
 returns c = omega (arith, at-add 4 4 (c .before .before .before .args .bs .now) (c .before .before .before .args .at) (omega arith))
 

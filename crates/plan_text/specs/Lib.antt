@@ -2,3 +2,4 @@
 pub mod Text
 pub mod Read
 pub mod Plan
+pub mod Mirror

@@ -1,1 +1,158 @@
--- Senders
+-- Laws of the sender of a tree, and of the trees from one rank to another.
+use Prim.Native.Nat.{ℕ, zero, suc, _+_, _-_, _≤_, _<_, min, max}
+use native.Mathlib.Nat.{le-refl, le-of-eq}
+use native.Mathlib.Omega.{arith}
+use mathlib.Core.Path.{_≡_, refl, sym, ap, _∙_}
+use mathlib.Core.Bool.{Bool, true, false, cond, _&&_}
+use mathlib.Core.List.{List}
+use lib.Dec.{leb, ltb, eqb}
+use borrow.Author.Tests.{ltb-true, ltb-false, leb-true, eqb-true, lt-ltb, le-ltb, le-leb, lt-leb, eq-eqb, ne-eqb}
+use Rattle.encoding.specs.Below.{anyBelow, leastBelow, countBelow}
+use Rattle.encoding.specs.Pieces.{Bytes}
+use Rattle.encoding.proofs.Below.{tests, either, clash, and-fst, and-snd, and-intro, iff-eq, any-intro, least-lt, least-at, least-below, least-is, least-none, any-none, count-range, count-none}
+use Rattle.offsets.specs.Table.{ranks, ranksOk, valid, trees, entry, negative, magnitude, firstTree, endTree, holds}
+use Rattle.offsets.proofs.Tables.{ranks-low, zero-first, plain-magnitude, small-plain, plain-first, shared-first, end-next, end-trees, rises, last-end}
+use Rattle.pattern.specs.declared.Sender.{Sender}
+use Rattle.pattern.specs.declared.Sender.the-variants.{Rank, Nobody}
+use Rattle.pattern.specs.Sender.{Tables, leastHolder, sender, senderTo, sends, sentCount, sentFirst}
+use Rattle.pattern.specs.Mirror.{sentLow, sentHigh}
+
+-- ---- the test of a range
+
+-- a number that passes is in the range
+pub range-true : (a b k : ℕ) → (leb a k && ltb k b) ≡ true → (a ≤ k) × (k < b)
+range-true a b k e = (leb-true a k (and-fst (leb a k) (ltb k b) e), ltb-true k b (and-snd (leb a k) (ltb k b) e))
+
+-- a number in the range passes
+pub range-in : (a b k : ℕ) → a ≤ k → k < b → (leb a k && ltb k b) ≡ true
+range-in a b k l h = and-intro (leb a k) (ltb k b) (le-leb a k l) (lt-ltb k b h)
+
+-- a number outside the range fails
+pub range-out : (a b k : ℕ) → (a ≤ k → b ≤ k) → (leb a k && ltb k b) ≡ false
+range-out a b k h = either (leb a k && ltb k b) (λ e. let r = range-true a b k e in absurd (omega (arith, h (r .0), r .1))) (λ e. e)
+
+-- the same for the trees of a rank
+pub holds-true : (t : List ℕ) (p k : ℕ) → holds t p k ≡ true → (firstTree t p ≤ k) × (k < endTree t p)
+unfolding holds
+holds-true t p k e = range-true (firstTree t p) (endTree t p) k e
+
+pub holds-in : (t : List ℕ) (p k : ℕ) → firstTree t p ≤ k → k < endTree t p → holds t p k ≡ true
+unfolding holds
+holds-in t p k l h = range-in (firstTree t p) (endTree t p) k l h
+
+pub holds-out : (t : List ℕ) (p k : ℕ) → (firstTree t p ≤ k → endTree t p ≤ k) → holds t p k ≡ false
+unfolding holds
+holds-out t p k h = range-out (firstTree t p) (endTree t p) k h
+
+-- ---- the least holder, in one valid table
+
+module _ (t : List ℕ) (b : Bytes t) (ok : ranksOk t ≡ true) (v : valid t ≡ true) where
+  -- the first tree of p is |O[p]| or |O[p]| - 1
+  pub first-near : (p : ℕ) → (firstTree t p ≤ magnitude (entry t p)) × (magnitude (entry t p) ≤ firstTree t p + 1)
+  first-near p =
+      either (negative (entry t p))
+      (λ e. let s = shared-first t b ok v p e in (omega arith, omega arith))
+      (λ e. let s = plain-first t b ok v p e in (omega arith, omega arith))
+
+  -- the trees of lower ranks end at |O[q]| or before it
+  pub end-before : (p q : ℕ) → p < q → q ≤ ranks t → endTree t p ≤ magnitude (entry t q)
+  end-before p q h l = rw (end-next t p) (rises t b ok v (suc p) q h l)
+
+  -- the least holder of the trees from |O[p]| up to |O[p+1]| is p
+  pub holder-is : (p k : ℕ) → p < ranks t → magnitude (entry t p) ≤ k → k < endTree t p → leastHolder t k ≡ p
+  unfolding leastHolder
+  holder-is p k h l u =
+      least-is (ranks t) (λ q. holds t q k) p h (holds-in t p k (omega (arith, first-near p .0)) u)
+      (λ q s. holds-out t q k (λ _. omega (arith, end-before q p s (omega arith))))
+
+  -- |O[p]| is at most a number from the ends of all lower ranks on
+  low-le : (p k : ℕ) → ((q : ℕ) → q < p → endTree t q ≤ k) → magnitude (entry t p) ≤ k
+  low-le zero k h = rw (zero-first t b ok v, plain-magnitude 0 (small-plain 0 (omega arith))) (omega arith)
+  low-le (suc p) k h = rw (← end-next t p) (h p (le-refl (suc p)))
+
+  module _ (k : ℕ) (h : k < trees t) where
+    found : anyBelow (ranks t) (λ p. ltb k (endTree t p)) ≡ true
+    found =
+        let P = ranks t in
+        let l = ranks-low t b ok v in
+        let e : suc (P - 1) ≡ P = omega arith in
+        any-intro P (λ p. ltb k (endTree t p)) (P - 1) (omega arith) (lt-ltb k (endTree t (P - 1)) (rw (end-next t (P - 1), e, last-end t b ok v) h))
+
+    -- the least rank whose trees end after k, which a binary search finds
+    pub least-end : leastHolder t k ≡ leastBelow (ranks t) (λ p. ltb k (endTree t p))
+    least-end =
+        let f : ℕ → Bool = λ p. ltb k (endTree t p) in
+        let i = leastBelow (ranks t) f in
+        holder-is i k (least-lt (ranks t) f found) (low-le i k (λ q s. ltb-false k (endTree t q) (least-below (ranks t) f q s))) (ltb-true k (endTree t i) (least-at (ranks t) f found))
+
+    -- it is a rank
+    pub holder-lt : leastHolder t k < ranks t
+    holder-lt = rw least-end (least-lt (ranks t) (λ p. ltb k (endTree t p)) found)
+
+    holder-low : magnitude (entry t (leastHolder t k)) ≤ k
+    holder-low = rw least-end (low-le _ k (λ q s. ltb-false k (endTree t q) (least-below (ranks t) (λ p. ltb k (endTree t p)) q s)))
+
+    holder-high : k < endTree t (leastHolder t k)
+    holder-high = rw least-end (ltb-true k _ (least-at (ranks t) (λ p. ltb k (endTree t p)) found))
+
+    -- and it holds k
+    pub holder-holds : holds t (leastHolder t k) k ≡ true
+    holder-holds = holds-in t (leastHolder t k) k (omega (arith, holder-low, first-near (leastHolder t k) .0)) holder-high
+
+  -- the trees whose least holder is p are one range
+  pub holder-range : (p k : ℕ) → p < ranks t → k < trees t → eqb (leastHolder t k) p ≡ (leb (magnitude (entry t p)) k && ltb k (endTree t p))
+  holder-range p k l h =
+      iff-eq (eqb (leastHolder t k) p) (leb (magnitude (entry t p)) k && ltb k (endTree t p))
+      (λ e. rw (← eqb-true (leastHolder t k) p e) (range-in _ _ k (holder-low k h) (holder-high k h)))
+      (λ e. let r = range-true _ _ k e in eq-eqb (leastHolder t k) p (holder-is p k l (r .0) (r .1)))
+
+-- ---- the sender
+
+module _ (old new : List ℕ) (T : Tables old new) where
+  -- the sender is a rank
+  pub sender-lt : (k q : ℕ) → k < trees old → q < ranks old → sender old k q < ranks old
+  unfolding sender
+  sender-lt k q h l = either (holds old q k) (λ e. rw e l) (λ e. rw e (holder-lt old (T .oldBytes) (T .oldRanks) (T .oldValid) k h))
+
+  -- it holds the tree under the old table
+  pub sender-holds : (k q : ℕ) → k < trees old → q < ranks old → holds old (sender old k q) k ≡ true
+  unfolding sender
+  sender-holds k q h l = either (holds old q k) (λ e. rw e e) (λ e. rw e (holder-holds old (T .oldBytes) (T .oldRanks) (T .oldValid) k h))
+
+  -- a rank that holds the tree has it from itself
+  pub sender-self : (k q : ℕ) → holds old q k ≡ true → sender old k q ≡ q
+  unfolding sender
+  sender-self k q e = rw e
+
+  -- there is a sender exactly for the trees of the new range
+  pub sender-defined : (k q : ℕ) → holds new q k ≡ true → senderTo old new k q ≡ Rank (sender old k q)
+  unfolding senderTo
+  sender-defined k q e = rw e
+
+  pub sender-nobody : (k q : ℕ) → holds new q k ≡ false → senderTo old new k q ≡ Nobody
+  unfolding senderTo
+  sender-nobody k q e = rw e
+
+  pub nobody-only : (k q : ℕ) → senderTo old new k q ≡ Nobody → holds new q k ≡ false
+  nobody-only k q e =
+      either (holds new q k)
+      (λ h. let d = sender-defined k q h in let z : _≡_ {A = ℕ} 0 1 = cc in absurd (omega arith))
+      (λ h. h)
+
+  near : (p : ℕ) → (firstTree old p ≤ magnitude (entry old p)) × (magnitude (entry old p) ≤ firstTree old p + 1)
+  near = first-near old (T .oldBytes) (T .oldRanks) (T .oldValid)
+
+  before : (p q : ℕ) → p < q → q ≤ ranks old → endTree old p ≤ magnitude (entry old q)
+  before = end-before old (T .oldBytes) (T .oldRanks) (T .oldValid)
+
+  -- to one rank, the sender never falls from tree to tree
+  pub sender-rises : (j k q : ℕ) → j ≤ k → k < trees old → q < ranks old → sender old j q ≤ sender old k q
+  sender-rises j k q l h r =
+      let a = sender old j q in
+      let c = sender old k q in
+      let n : a < ranks old = sender-lt j q (omega arith) r in
+      let s = holds-true old a j (sender-holds j q (omega arith) r) in
+      let u = holds-true old c k (sender-holds k q h r) in
+      either (ltb j k)
+      (λ e. either (ltb c a) (λ d. absurd (omega (tests, before c a (omega tests) (omega arith), near a))) (λ d. omega tests))
+      (λ e. let i : j ≡ k = omega tests in le-of-eq (ap (λ m. sender old m q) i))

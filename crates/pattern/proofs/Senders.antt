@@ -6,10 +6,11 @@ use mathlib.Core.Path.{_≡_, refl, sym, ap, _∙_}
 use mathlib.Core.Bool.{Bool, true, false, cond, _&&_}
 use mathlib.Core.List.{List}
 use lib.Dec.{leb, ltb, eqb}
-use borrow.Author.Tests.{ltb-true, ltb-false, leb-true, eqb-true, lt-ltb, le-ltb, le-leb, lt-leb, eq-eqb, ne-eqb}
+use borrow.Author.Tests.{ltb-true, ltb-false, leb-true, eqb-true, eqb-false, lt-ltb, le-ltb, le-leb, lt-leb, eq-eqb, ne-eqb}
 use Rattle.encoding.specs.Below.{anyBelow, leastBelow, countBelow}
 use Rattle.encoding.specs.Pieces.{Bytes}
 use Rattle.encoding.proofs.Below.{tests, either, clash, and-fst, and-snd, and-intro, iff-eq, any-intro, least-lt, least-at, least-below, least-is, least-none, any-none, count-range, count-none}
+use Rattle.pattern.proofs.Counting.{range-true, range-in, range-out, range-meet, count-span, least-span}
 use Rattle.offsets.specs.Table.{ranks, ranksOk, valid, trees, entry, negative, magnitude, firstTree, endTree, holds}
 use Rattle.offsets.proofs.Tables.{ranks-low, zero-first, plain-magnitude, small-plain, plain-first, shared-first, end-next, end-trees, rises, last-end}
 use Rattle.pattern.specs.declared.Sender.{Sender}
@@ -17,21 +18,9 @@ use Rattle.pattern.specs.declared.Sender.the-variants.{Rank, Nobody}
 use Rattle.pattern.specs.Sender.{Tables, leastHolder, sender, senderTo, sends, sentCount, sentFirst}
 use Rattle.pattern.specs.Mirror.{sentLow, sentHigh}
 
--- ---- the test of a range
+-- ---- the trees of a rank
 
--- a number that passes is in the range
-pub range-true : (a b k : ℕ) → (leb a k && ltb k b) ≡ true → (a ≤ k) × (k < b)
-range-true a b k e = (leb-true a k (and-fst (leb a k) (ltb k b) e), ltb-true k b (and-snd (leb a k) (ltb k b) e))
-
--- a number in the range passes
-pub range-in : (a b k : ℕ) → a ≤ k → k < b → (leb a k && ltb k b) ≡ true
-range-in a b k l h = and-intro (leb a k) (ltb k b) (le-leb a k l) (lt-ltb k b h)
-
--- a number outside the range fails
-pub range-out : (a b k : ℕ) → (a ≤ k → b ≤ k) → (leb a k && ltb k b) ≡ false
-range-out a b k h = either (leb a k && ltb k b) (λ e. let r = range-true a b k e in absurd (omega (arith, h (r .0), r .1))) (λ e. e)
-
--- the same for the trees of a rank
+-- a rank holds the trees from its first up to its end
 pub holds-true : (t : List ℕ) (p k : ℕ) → holds t p k ≡ true → (firstTree t p ≤ k) × (k < endTree t p)
 unfolding holds
 holds-true t p k e = range-true (firstTree t p) (endTree t p) k e
@@ -43,6 +32,9 @@ holds-in t p k l h = range-in (firstTree t p) (endTree t p) k l h
 pub holds-out : (t : List ℕ) (p k : ℕ) → (firstTree t p ≤ k → endTree t p ≤ k) → holds t p k ≡ false
 unfolding holds
 holds-out t p k h = range-out (firstTree t p) (endTree t p) k h
+
+pub holds-false : (t : List ℕ) (p k : ℕ) → holds t p k ≡ false → firstTree t p ≤ k → endTree t p ≤ k
+holds-false t p k e l = either (ltb k (endTree t p)) (λ h. clash (holds-in t p k l (ltb-true k (endTree t p) h)) e) (ltb-false k (endTree t p))
 
 -- ---- the least holder, in one valid table
 
@@ -108,6 +100,17 @@ module _ (t : List ℕ) (b : Bytes t) (ok : ranksOk t ≡ true) (v : valid t ≡
 
 -- ---- the sender
 
+-- q, above p, shares the last tree for which p is the least holder
+abbrev shares : List ℕ → ℕ → ℕ → Bool
+shares old p q = ltb p q && (ltb (firstTree old q) (endTree old q) && ltb (firstTree old q) (endTree old p))
+
+-- the trees that p sends to q where q needs them
+abbrev senderLow : List ℕ → ℕ → ℕ → ℕ
+senderLow old p q = cond (eqb p q) (firstTree old p) (magnitude (entry old p))
+
+abbrev senderHigh : List ℕ → ℕ → ℕ → ℕ
+senderHigh old p q = cond (shares old p q) (endTree old p - 1) (endTree old p)
+
 module _ (old new : List ℕ) (T : Tables old new) where
   -- the sender is a rank
   pub sender-lt : (k q : ℕ) → k < trees old → q < ranks old → sender old k q < ranks old
@@ -156,3 +159,81 @@ module _ (old new : List ℕ) (T : Tables old new) where
       either (ltb j k)
       (λ e. either (ltb c a) (λ d. absurd (omega (tests, before c a (omega tests) (omega arith), near a))) (λ d. omega tests))
       (λ e. let i : j ≡ k = omega tests in le-of-eq (ap (λ m. sender old m q) i))
+
+  -- ---- the trees from one rank to another
+
+  sender-own : (q k : ℕ) → k < trees old → eqb (sender old k q) q ≡ holds old q k
+  unfolding sender
+  sender-own q k h =
+      either (holds old q k) (λ e. rw e (eq-eqb q q refl))
+      (λ e. rw e (ne-eqb (leastHolder old k) q (λ i. clash (rw i at (holder-holds old (T .oldBytes) (T .oldRanks) (T .oldValid) k h)) e)))
+
+  shares-parts : (p q : ℕ) → shares old p q ≡ true → (p < q) × (firstTree old q < endTree old q) × (firstTree old q < endTree old p)
+  shares-parts p q e =
+      let r = and-snd (ltb p q) (ltb (firstTree old q) (endTree old q) && ltb (firstTree old q) (endTree old p)) e in
+      (ltb-true p q (and-fst _ _ e), ltb-true _ _ (and-fst _ _ r), ltb-true (firstTree old q) (endTree old p) (and-snd (ltb (firstTree old q) (endTree old q)) _ r))
+
+  module _ (p q k : ℕ) (l : p < ranks old) (r : q < ranks old) (h : k < trees old) where
+    -- what q holds itself, no other rank sends
+    held : (p ≡ q → ⊥) → holds old q k ≡ true → magnitude (entry old p) ≤ k → senderHigh old p q ≤ k
+    held n e m =
+        let u = holds-true old q k e in
+        either (ltb p q)
+        (λ c. let d = before p q (ltb-true p q c) (omega arith) in
+        either (ltb (firstTree old q) (endTree old p))
+        (λ f. rw (c, f, lt-ltb (firstTree old q) (endTree old q) (omega arith)) (omega (arith, near q)))
+        (λ f. rw (c, f, lt-ltb (firstTree old q) (endTree old q) (omega arith)) (omega tests)))
+        (λ c. absurd (omega (tests, before q p (omega tests) (omega arith))))
+
+    other : (p ≡ q → ⊥) → eqb (sender old k q) p ≡ (leb (magnitude (entry old p)) k && ltb k (senderHigh old p q))
+    unfolding sender
+    other n =
+        either (holds old q k)
+        (λ e. rw (e, ne-eqb q p (λ i. n (sym i))) (sym (range-out (magnitude (entry old p)) (senderHigh old p q) k (held n e))))
+        (λ e. rw (e, holder-range old (T .oldBytes) (T .oldRanks) (T .oldValid) p k l h) (ap (λ c. leb (magnitude (entry old p)) k && c)
+        (either (shares old p q)
+        (λ c. let s = shares-parts p q c in
+        let d = before p q (s .0) (omega arith) in
+        rw c (iff-eq (ltb k (endTree old p)) (ltb k (endTree old p - 1))
+        (λ x. lt-ltb k (endTree old p - 1) (either (ltb k (firstTree old q)) (λ y. omega tests) (λ y. absurd (omega (tests, near q, holds-false old q k e (omega tests))))))
+        (λ x. lt-ltb k (endTree old p) (omega tests))))
+        (λ c. rw c))))
+
+    -- the trees whose sender to q is p are one range
+    sender-range : eqb (sender old k q) p ≡ (leb (senderLow old p q) k && ltb k (senderHigh old p q))
+    unfolding holds
+    sender-range =
+        either (eqb p q)
+        (λ e. let i = eqb-true p q e in rw (i, eq-eqb q q refl, le-ltb q q (le-refl q)) (sender-own q k h))
+        (λ e. rw e (other (eqb-false p q e)))
+
+    -- p sends q the trees from sentLow up to sentHigh
+    pub sends-range : sends old new p q k ≡ (leb (sentLow old new p q) k && ltb k (sentHigh old new p q))
+    unfolding sends sentLow sentHigh holds
+    sends-range = rw sender-range (range-meet (firstTree new q) (endTree new q) (senderLow old p q) (senderHigh old p q) k)
+
+  module _ (p q : ℕ) (l : p < ranks old) (r : q < ranks old) where
+    -- none of them is above K
+    pub sent-high : sentHigh old new p q ≤ trees old
+    unfolding sentHigh
+    sent-high =
+        let n = T .sameRanks in
+        let k = T .sameTrees in
+        omega (arith, end-trees new (T .newBytes) (T .newRanks) (T .newValid) q (omega arith))
+
+    range : (k : ℕ) → k < trees old → sends old new p q k ≡ (leb (sentLow old new p q) k && ltb k (sentHigh old new p q))
+    range k h = sends-range p q k l r h
+
+    -- how many
+    pub sent-count : sentCount old new p q ≡ sentHigh old new p q - sentLow old new p q
+    unfolding sentCount
+    sent-count = count-span (trees old) (sends old new p q) (sentLow old new p q) (sentHigh old new p q) sent-high range
+
+    -- the first
+    pub sent-first : sentFirst old new p q ≡ cond (eqb (sentCount old new p q) 0) 0 (sentLow old new p q)
+    unfolding sentFirst
+    sent-first =
+        either (eqb (sentCount old new p q) 0) (λ e. rw e)
+        (λ e. let n = eqb-false (sentCount old new p q) 0 e in
+        let c = sent-count in
+        rw e (least-span (trees old) (sends old new p q) (sentLow old new p q) (sentHigh old new p q) sent-high range (omega arith)))

@@ -2,18 +2,60 @@
 use Prim.Native.Nat.{ℕ, _+_, _-_, _≤_, _<_}
 use native.Mathlib.Omega.{arith}
 use mathlib.Core.Path.{_≡_, refl, sym, _∙_}
-use mathlib.Core.Bool.{Bool, true, false, _&&_}
+use mathlib.Core.Bool.{Bool, true, _&&_}
 use mathlib.Core.List.{List}
-use lib.Dec.{ltb, eqb}
-use Rattle.encoding.specs.Below.{anyBelow}
-use Rattle.encoding.proofs.Below.{and-fst, and-snd, and-intro, iff-eq, any-intro, any-at}
+use lib.Dec.{leb, ltb, eqb}
+use lib.ListN.{length, getD}
+use borrow.Author.Tests.{ltb-true, eqb-true, eqb-false, lt-ltb, eq-eqb}
+use Rattle.encoding.specs.Below.{anyBelow, countBelow, member}
+use Rattle.encoding.proofs.Below.{either, and-fst, and-snd, and-intro, iff-eq, any-intro, any-at, kept-member, kept-length, kept-ascends}
 use Rattle.offsets.specs.Table.{ranks, trees, firstTree, endTree, treeCount, holds}
 use Rattle.offsets.proofs.Tables.{count-add, end-trees}
-use Rattle.pattern.specs.Sender.{Tables, sender, sends}
+use Rattle.pattern.specs.Sender.{Tables, sender, sends, sentFirst, sentCount}
 use Rattle.pattern.specs.Sets.{sendsTo, sendSet, getsFrom, receiveSet}
 use Rattle.pattern.specs.Mirror.{sentLow, sentHigh}
-use Rattle.pattern.proofs.Counting.{any-span}
-use Rattle.pattern.proofs.Senders.{holds-true, holds-in, sends-range, sent-high}
+use Rattle.pattern.proofs.Counting.{range-true, range-in, range-out, any-span}
+use Rattle.pattern.proofs.Senders.{holds-true, holds-in, sender-lt, sender-holds, sends-range, sent-high, sent-count, sent-first}
+
+-- ---- the two lists
+
+module _ (old new : List ℕ) where
+  -- the send set of p has the ranks below P to which p sends a tree
+  pub send-member : (p q : ℕ) → member q (sendSet old new p) ≡ (ltb q (ranks old) && sendsTo old new p q)
+  unfolding sendSet
+  send-member p q = kept-member (ranks old) (sendsTo old new p) q
+
+  -- the receive set of q has the ranks below P from which it gets a tree
+  pub receive-member : (q p : ℕ) → member p (receiveSet old new q) ≡ (ltb p (ranks old) && getsFrom old new q p)
+  unfolding receiveSet
+  receive-member q p = kept-member (ranks old) (getsFrom old new q) p
+
+  -- both hold ranks only
+  pub send-below : (p q : ℕ) → member q (sendSet old new p) ≡ true → q < ranks old
+  send-below p q e = ltb-true q (ranks old) (and-fst _ (sendsTo old new p q) (rw (send-member p q) at e))
+
+  pub receive-below : (q p : ℕ) → member p (receiveSet old new q) ≡ true → p < ranks old
+  receive-below q p e = ltb-true p (ranks old) (and-fst _ (getsFrom old new q p) (rw (receive-member q p) at e))
+
+  -- as many as pass
+  pub send-length : (p : ℕ) → length (sendSet old new p) ≡ countBelow (ranks old) (sendsTo old new p)
+  unfolding sendSet
+  send-length p = kept-length (ranks old) (sendsTo old new p)
+
+  pub receive-length : (q : ℕ) → length (receiveSet old new q) ≡ countBelow (ranks old) (getsFrom old new q)
+  unfolding receiveSet
+  receive-length q = kept-length (ranks old) (getsFrom old new q)
+
+  -- both ascend strictly
+  pub send-ascends : (p i j d : ℕ) → i < j → j < length (sendSet old new p) → getD (sendSet old new p) i d < getD (sendSet old new p) j d
+  unfolding sendSet
+  send-ascends p i j d h l = kept-ascends (ranks old) (sendsTo old new p) i j d h (rw (send-length p) at l)
+
+  pub receive-ascends : (q i j d : ℕ) → i < j → j < length (receiveSet old new q) → getD (receiveSet old new q) i d < getD (receiveSet old new q) j d
+  unfolding receiveSet
+  receive-ascends q i j d h l = kept-ascends (ranks old) (getsFrom old new q) i j d h (rw (receive-length q) at l)
+
+-- ---- who is in them
 
 module _ (old new : List ℕ) (T : Tables old new) where
   -- the trees of a rank's new range are below K
@@ -51,3 +93,76 @@ module _ (old new : List ℕ) (T : Tables old new) where
 
     pub gets-from : getsFrom old new q p ≡ ltb (sentLow old new p q) (sentHigh old new p q)
     gets-from = gets-sends ∙ sends-to
+
+    -- q is in the send set of p exactly where p is in the receive set of q
+    pub symmetric : member q (sendSet old new p) ≡ member p (receiveSet old new q)
+    symmetric = rw (send-member old new p q, receive-member old new q p, lt-ltb p (ranks old) l, lt-ltb q (ranks old) r, gets-sends)
+
+    -- the trees from p to q are those from sentFirst, sentCount of them
+    pub one-range : (k : ℕ) → k < trees old → sends old new p q k ≡ (leb (sentFirst old new p q) k && ltb k (sentFirst old new p q + sentCount old new p q))
+    one-range k h =
+        let c = sent-count old new T p q l r in
+        let f = sent-first old new T p q l r in
+        sends-range old new T p q k l r h
+        ∙ either (eqb (sentCount old new p q) 0)
+        (λ e. let z = eqb-true (sentCount old new p q) 0 e in
+        range-out (sentLow old new p q) (sentHigh old new p q) k (λ m. omega arith)
+        ∙ sym (range-out (sentFirst old new p q) (sentFirst old new p q + sentCount old new p q) k (λ m. omega arith)))
+        (λ e. let z = eqb-false (sentCount old new p q) 0 e in
+        let g : sentFirst old new p q ≡ sentLow old new p q = rw e at f in
+        let u : sentFirst old new p q + sentCount old new p q ≡ sentHigh old new p q = omega arith in
+        rw (u, g))
+
+    -- they are trees
+    pub sent-below : sentFirst old new p q + sentCount old new p q ≤ trees old
+    sent-below =
+        let c = sent-count old new T p q l r in
+        let f = sent-first old new T p q l r in
+        let h = sent-high old new T p q l r in
+        either (eqb (sentCount old new p q) 0)
+        (λ e. let z = eqb-true (sentCount old new p q) 0 e in let g : sentFirst old new p q ≡ 0 = rw e at f in omega arith)
+        (λ e. let z = eqb-false (sentCount old new p q) 0 e in let g : sentFirst old new p q ≡ sentLow old new p q = rw e at f in omega arith)
+
+    -- a tree in that range is one that p sends q
+    pub sent-in : (k : ℕ) → sentFirst old new p q ≤ k → k < sentFirst old new p q + sentCount old new p q → sends old new p q k ≡ true
+    sent-in k m h = one-range k (omega (arith, sent-below)) ∙ range-in (sentFirst old new p q) (sentFirst old new p q + sentCount old new p q) k m h
+
+  -- each tree of the new range of q has one sender, a holder under the old table
+  pub one-sender : (q k : ℕ) → q < ranks old → holds new q k ≡ true
+      → (p : ℕ) × (p < ranks old) × (sends old new p q k ≡ true) × (holds old p k ≡ true) × ((r : ℕ) → sends old new r q k ≡ true → r ≡ p)
+  unfolding sends
+  one-sender q k l e =
+      let h = new-below q k l e in
+      let p = sender old k q in (
+        p,
+        sender-lt old new T k q h l,
+        and-intro (holds new q k) (eqb p p) e (eq-eqb p p refl),
+        sender-holds old new T k q h l,
+        (λ r s. sym (eqb-true p r (and-snd (holds new q k) (eqb p r) s))),
+      )
+
+  -- no tree comes to q from two ranks
+  pub received-disjoint : (p r q k : ℕ) → p < ranks old → r < ranks old → q < ranks old
+      → sentFirst old new p q ≤ k → k < sentFirst old new p q + sentCount old new p q
+      → sentFirst old new r q ≤ k → k < sentFirst old new r q + sentCount old new r q → p ≡ r
+  unfolding sends
+  received-disjoint p r q k lp lr lq a b c d =
+      sym (eqb-true (sender old k q) p (and-snd (holds new q k) (eqb (sender old k q) p) (sent-in p q lp lq k a b)))
+      ∙ eqb-true (sender old k q) r (and-snd (holds new q k) (eqb (sender old k q) r) (sent-in r q lr lq k c d))
+
+  -- each tree of the new range of q is in the range from a rank of its receive set
+  pub received-covers : (q k : ℕ) → q < ranks old → holds new q k ≡ true
+      → (p : ℕ) × (member p (receiveSet old new q) ≡ true) × (sentFirst old new p q ≤ k) × (k < sentFirst old new p q + sentCount old new p q)
+  unfolding sendsTo sends
+  received-covers q k l e =
+      let h = new-below q k l e in
+      let s = one-sender q k l e in
+      let p = s .0 in
+      let n : p < ranks old = s .1 in
+      let i = range-true (sentFirst old new p q) (sentFirst old new p q + sentCount old new p q) k (sym (one-range p q n l k h) ∙ s .2) in
+      (p, sym (symmetric p q n l) ∙ rw (send-member old new p q) (and-intro (ltb q (ranks old)) (sendsTo old new p q) (lt-ltb q (ranks old) l) (any-intro (trees old) (sends old new p q) k h (s .2))), i .0, i .1)
+
+  -- and no other tree is
+  pub received-only : (p q k : ℕ) → p < ranks old → q < ranks old → sentFirst old new p q ≤ k → k < sentFirst old new p q + sentCount old new p q → holds new q k ≡ true
+  unfolding sends
+  received-only p q k lp lq a b = and-fst (holds new q k) (eqb (sender old k q) p) (sent-in p q lp lq k a b)

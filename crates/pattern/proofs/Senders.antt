@@ -237,3 +237,13 @@ module _ (old new : List ℕ) (T : Tables old new) where
         (λ e. let n = eqb-false (sentCount old new p q) 0 e in
         let c = sent-count in
         rw e (least-span (trees old) (sends old new p q) (sentLow old new p q) (sentHigh old new p q) sent-high range (omega arith)))
+
+    -- for p ≠ q they are trees whose least holder is p
+    pub sent-other : (p ≡ q → ⊥) → (magnitude (entry old p) ≤ sentLow old new p q) × (sentHigh old new p q ≤ endTree old p)
+    unfolding sentLow sentHigh
+    sent-other n = (rw (ne-eqb p q n) (omega arith), either (shares old p q) (λ e. rw e (omega arith)) (λ e. rw e (omega arith)))
+
+    -- they are trees of q
+    pub sent-new : (firstTree new q ≤ sentLow old new p q) × (sentHigh old new p q ≤ endTree new q)
+    unfolding sentLow sentHigh
+    sent-new = (omega arith, omega arith)

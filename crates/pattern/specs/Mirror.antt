@@ -1,9 +1,10 @@
 -- Values that mirror the code of inner functions. Each is proved equal to what the public definitions say.
-use Prim.Native.Nat.{ℕ, _+_, _-_, _<_, min, max}
+use Prim.Native.Nat.{ℕ, _+_, _-_, _≤_, _<_, min, max}
 use mathlib.Core.Path.{_≡_}
 use mathlib.Core.Bool.{Bool, true, cond, _&&_}
 use mathlib.Core.List.{List}
 use lib.Dec.{ltb, eqb}
+use lib.ListN.{length}
 use Rattle.encoding.specs.Below.{keptBelow}
 use Rattle.offsets.specs.Table.{ranks, ranksOk, valid, trees, entry, magnitude, firstTree, endTree}
 use Rattle.pattern.specs.Sender.{Tables}
@@ -55,3 +56,8 @@ inSet old new rank sending other = cond sending (sendsSome old new rank other) (
 
 unfoldable pub rankSet : List ℕ → List ℕ → ℕ → Bool → List ℕ
 rankSet old new rank sending = keptBelow (ranks old) (inSet old new rank sending)
+
+-- what writing a set takes: room in the lent list
+pub record RoomFor (old new : List ℕ) (p : ℕ) (sending : Bool) (out : List ℕ) : Type 0 where
+  pub rank : RankOf old new p
+  pub room : length (rankSet old new p sending) ≤ length out

@@ -7,23 +7,29 @@ use mathlib.Core.Bool.{Bool, true, false, cond, _&&_}
 use mathlib.Core.List.{List, [], _∷_, _++_, append-nil}
 use lib.Dec.{ltb}
 use lib.ListN.{length, set}
-use borrow.Author.Tests.{ltb-true, lt-ltb, le-ltb}
+use borrow.Author.Tests.{ltb-true, lt-ltb, le-ltb, le-leb, lt-leb, eq-eqb, ne-eqb}
 use Rattle.encoding.specs.Below.{countBelow, keptBelow, leastBelow}
 use Rattle.encoding.specs.Pieces.{Bytes, splice}
 use Rattle.encoding.proofs.Below.{and-fst, and-snd, count-le, count-more, count-mono, count-lt, kept-more, kept-length, least-is}
 use Rattle.encoding.proofs.Pieces.{splice-none, splice-cons, splice-next, length-splice}
-use Rattle.offsets.specs.Limits.{maxRanks}
+use Rattle.offsets.specs.Limits.{maxRanks, maxTrees}
 use Rattle.offsets.specs.Table.{tableLength, ranks, ranksOk, entry, magnitude, trees, endTree}
 use Rattle.offsets.proofs.OnePass.{ranks-known}
-use Rattle.offsets.proofs.Tables.{end-next, rises, last-end, ranks-low}
-use Rattle.pattern.specs.Sender.{Tables}
-use Rattle.pattern.specs.Mirror.{TreeOf, RankOf, PairOf, RoomFor, inSet, rankSet}
+use Rattle.offsets.proofs.Tables.{end-next, rises, last-end, ranks-low, trees-high}
+use Rattle.pattern.proofs.Senders.{least-end, sent-high, sent-count, sent-first}
+use Rattle.pattern.proofs.Sets.{sends-to}
+use Rattle.pattern.specs.Sender.{Tables, leastHolder, sentFirst, sentCount}
+use Rattle.pattern.specs.Mirror.{TreeOf, RankOf, PairOf, RoomFor, sentLow, sentHigh, inSet, rankSet}
+use Rattle.pattern.specs.Sets.{sendsTo}
 
 -- ---- what is read stands in the tables
 
 -- the entry of a rank and the next one stand in the table
 pub row-fits : (t : List ℕ) (p : ℕ) → ranksOk t ≡ true → p < ranks t → tableLength (p + 1) ≤ length t
 row-fits t p ok h = omega (arith, ranks-known t ok .size)
+
+pub receiver-in-new : (old new : List ℕ) → Tables old new → (q : ℕ) → q < ranks old → tableLength (q + 1) ≤ length new
+receiver-in-new old new T q h = row-fits new q (T .newRanks) (rw (T .sameRanks) h)
 
 module _ {old new : List ℕ} {p q : ℕ} (f : PairOf old new p q) where
   pub sender-row : tableLength (p + 1) ≤ length old
@@ -33,7 +39,32 @@ module _ {old new : List ℕ} {p q : ℕ} (f : PairOf old new p q) where
   receiver-row = row-fits old q (f .tables .oldRanks) (f .receiverBelow)
 
   pub receiver-new-row : tableLength (q + 1) ≤ length new
-  receiver-new-row = row-fits new q (f .tables .newRanks) (rw (f .tables .sameRanks) (f .receiverBelow))
+  receiver-new-row = receiver-in-new old new (f .tables) q (f .receiverBelow)
+
+-- ---- the trees from p to q
+
+module _ (old new : List ℕ) (p q : ℕ) (f : PairOf old new p q) (low high : ℕ) (a : low ≡ sentLow old new p q) (b : high ≡ sentHigh old new p q) where
+  pub sends-tested : ltb low high ≡ sendsTo old new p q
+  sends-tested = rw (a, b) (sym (sends-to old new (f .tables) p q (f .senderBelow) (f .receiverBelow)))
+
+  -- they are below K
+  pub sent-fits : high ≤ maxTrees
+  sent-fits =
+      let T = f .tables in
+      omega (arith, sent-high old new T p q (f .senderBelow) (f .receiverBelow), trees-high old (T .oldBytes) (T .oldRanks) (T .oldValid))
+
+  counted : sentCount old new p q ≡ high - low
+  counted = rw (a, b) (sent-count old new (f .tables) p q (f .senderBelow) (f .receiverBelow))
+
+  pub sent-none : high ≤ low → (0 ≡ sentFirst old new p q) × (0 ≡ sentCount old new p q)
+  sent-none h =
+      let n : sentCount old new p q ≡ 0 = omega (arith, counted) in
+      (sym (sent-first old new (f .tables) p q (f .senderBelow) (f .receiverBelow) ∙ rw (eq-eqb (sentCount old new p q) 0 n)), sym n)
+
+  pub sent-some : low < high → (low ≡ sentFirst old new p q) × (high - low ≡ sentCount old new p q)
+  sent-some h =
+      let n : sentCount old new p q ≡ 0 → ⊥ = λ z. omega (arith, counted) in
+      (sym (sent-first old new (f .tables) p q (f .senderBelow) (f .receiverBelow) ∙ rw (ne-eqb (sentCount old new p q) 0 n) (sym a)), sym counted)
 
 -- ---- tests
 
@@ -77,10 +108,10 @@ module _ (t : List ℕ) (k : ℕ) (b : Bytes t) (f : TreeOf t k) where
         passed = λ p h. omega (arith, ends-rise p mid (omega arith) (omega arith))
       }
 
-  pub search-done : (low high : ℕ) → Search t k low high → high ≤ low → low ≡ leastBelow (ranks t) (λ p. ltb k (endTree t p))
+  pub search-done : (low high : ℕ) → Search t k low high → high ≤ low → low ≡ leastHolder t k
   search-done low high s h =
       let e : low ≡ high = omega arith in
-      rw e
+      rw (e, least-end t b (f .ranksFit) (f .isValid) k (f .treeBelow))
       (sym
       (least-is (ranks t) (λ p. ltb k (endTree t p)) high (s .inside) (lt-ltb k (endTree t high) (s .reached)) (λ p l. le-ltb k (endTree t p) (s .passed p (omega arith)))))
 

@@ -9,8 +9,10 @@ ghost use Rattle.encoding.specs.Refusal.{firstFailed};
 ghost use Rattle.offsets.specs.Limits.{maxRanks};
 ghost use Rattle.offsets.specs.Table.{tableLength, ranksOk, ranks as ranksOf, valid as isValid, trees as treesOf, holds as isHeld};
 ghost use Rattle.pattern.specs.Calls.{tableChecks};
-ghost use Rattle.pattern.specs.Mirror.{TreeOf, RankOf, PairOf, TreeTo, RoomFor, sentLow, sentHigh, sendsSome, inSet, rankSet};
-ghost use Rattle.pattern.specs.Sender.{leastHolder, sender as senderIs, senderTo};
+ghost use Rattle.pattern.specs.Mirror.{TreeOf, RankOf, PairOf, TreeTo, RoomFor, senderFits, sentLow, sentHigh, inSet, rankSet};
+ghost use Rattle.pattern.specs.Sender.{leastHolder, sender as senderIs, senderTo, sentFirst, sentCount};
+ghost use Rattle.pattern.specs.Sets.{sendsTo};
+use crate::Sender;
 use offsets::inner::{end_tree, entry, first_tree, magnitude, ranks, ranks_ok, valid};
 
 // K.
@@ -102,10 +104,31 @@ pub fn sent_high(old: &[u8], new: &[u8], p: usize, q: usize) -> u64
     smaller(end, limit)
 }
 
+// The trees from one rank to another: the first, 0 where there are none, and how many.
+pub struct SentRange {
+    pub first: u32,
+    pub count: u32,
+}
+
+pub fn sent(old: &[u8], new: &[u8], p: usize, q: usize) -> SentRange
+    requires { ⌜ PairOf (now old) (now new) p q ⌝ }
+    ensures { λ r. ⌜ (r .first ≡ sentFirst (now (old .entry)) (now (new .entry)) p q) × (r .count ≡ sentCount (now (old .entry)) (now (new .entry)) p q) ⌝ }
+{
+    let low = sent_low(old, new, p, q);
+    let high = sent_high(old, new, p, q);
+    if high <= low {
+        return SentRange { first: 0, count: 0 };
+    }
+    SentRange {
+        first: low as u32,
+        count: (high - low) as u32,
+    }
+}
+
 // Whether p sends q a tree.
 pub fn sends_some(old: &[u8], new: &[u8], p: usize, q: usize) -> bool
     requires { ⌜ PairOf (now old) (now new) p q ⌝ }
-    ensures { λ r. ⌜ r ≡ sendsSome (now (old .entry)) (now (new .entry)) p q ⌝ }
+    ensures { λ r. ⌜ r ≡ sendsTo (now (old .entry)) (now (new .entry)) p q ⌝ }
 {
     sent_low(old, new, p, q) < sent_high(old, new, p, q)
 }
@@ -145,6 +168,17 @@ pub fn sender(old: &[u8], k: u64, q: usize) -> usize
         return q;
     }
     least_holder(old, k)
+}
+
+// The same where q may not get k.
+pub fn sender_to(old: &[u8], new: &[u8], k: u64, q: usize) -> Sender
+    requires { ⌜ TreeTo (now old) (now new) k q ⌝ }
+    ensures { λ r. ⌜ (r ≡ senderTo (now (old .entry)) (now (new .entry)) k q) × (senderFits r ≡ true) ⌝ }
+{
+    if holds(new, q, k) {
+        return Sender::Rank(sender(old, k, q) as u32);
+    }
+    Sender::Nobody
 }
 
 // Whether the rank sends the other a tree; where it isn't sending, whether it gets one from the other.

@@ -61,7 +61,7 @@ loop-again-2 c = search-up _ _ (λ i. c .before .before .before .before .before 
 
 -- src/inner.rt:122:1
 returns : tie.Need-returns Inv-loop μ-loop
-returns c = (?, omega arith)
+returns c = (search-done _ _ (λ i. c .before .before .before .shared-slice-known .given i .fits) (c .before .before .before .before .pre) _ _ (c .before .loop .inv) (c .loop-test .left), omega arith)
 
 pub least-holder-spec : {M : Type 1} → statement M
 least-holder-spec =

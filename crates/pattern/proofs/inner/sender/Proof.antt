@@ -1,3 +1,7 @@
+use native.Mathlib.Omega.{arith}
+use Rattle.offsets.proofs.OnePass.{ranks-known}
+use Rattle.pattern.specs.Sender.{sender}
+use Rattle.pattern.proofs.Laws.{row-fits}
 use borrow.Author.Needs.{needs}
 use Rattle.pattern.proofs.inner.sender.Statement.{statement}
 use Rattle.pattern.proofs.inner.sender.Tie as tie
@@ -6,21 +10,23 @@ use Rattle.pattern.proofs.inner.sender.Lts as lts
 use Rattle.pattern.proofs.inner.holds.Reads as holds-reads
 use Rattle.pattern.proofs.inner.least_holder.Reads as least-holder-reads
 
--- src/inner.rt:144:8
+-- src/inner.rt:167:8
 holds-requires : tie.Need-holds-requires
-holds-requires c κs = ?
+holds-requires c κs = row-fits _ _ (c .before .pre .0 .ranksFit) (c .before .pre .1)
 
--- src/inner.rt:145:9
+-- src/inner.rt:168:9
 returns : tie.Need-returns
-returns c = ?
+unfolding sender
+returns c = (simp (← c .before .holds .ensures, c .if1 .taken), omega (arith, ranks-known _ (c .before .before .before .pre .0 .ranksFit) .high))
 
--- src/inner.rt:147:5
+-- src/inner.rt:170:5
 least-holder-requires : tie.Need-least-holder-requires
 least-holder-requires c κs = search needs
 
--- src/inner.rt:140:1
+-- src/inner.rt:163:1
 returns-2 : tie.Need-returns-2
-returns-2 c = ?
+unfolding sender
+returns-2 c = (simp (← c .before .before .holds .ensures, c .before .if1 .left, c .least-holder .ensures .0), c .least-holder .ensures .1)
 
 pub sender-spec : {M : Type 1} → statement M
 sender-spec = tie.close (tie.spec holds-requires returns least-holder-requires returns-2)

@@ -1,0 +1,55 @@
+use borrow.Author.Needs.{needs}
+use Rattle.pattern.proofs.ranks_found.Statement.{statement}
+use Rattle.pattern.proofs.ranks_found.Tie as tie
+use Rattle.pattern.proofs.ranks_found.Reads as reads
+use Rattle.pattern.proofs.ranks_found.Lts as lts
+
+-- src/lib.rt:127:9
+returns : tie.Need-returns
+returns c = ?
+
+-- src/lib.rt:136:16
+cast-t4 : tie.Need-cast-t4
+cast-t4 c = search needs
+
+-- src/lib.rt:137:19
+shared-slice-read-t6 : tie.Need-shared-slice-read-t6
+shared-slice-read-t6 c = search needs
+
+-- src/lib.rt:137:19
+cast-t7 : tie.Need-cast-t7
+cast-t7 c = ?
+
+-- src/lib.rt:138:22
+sub-t8 : tie.Need-sub-t8
+sub-t8 c = search needs
+
+-- src/lib.rt:138:18
+mul-t9 : tie.Need-mul-t9
+mul-t9 c = search needs
+
+-- src/lib.rt:138:18
+shared-slice-read-t11 : tie.Need-shared-slice-read-t11
+shared-slice-read-t11 c = search needs
+
+-- src/lib.rt:138:18
+cast-t12 : tie.Need-cast-t12
+cast-t12 c = ?
+
+-- src/lib.rt:121:1
+returns-2 : tie.Need-returns-2
+returns-2 c = ?
+
+pub ranks-found-spec : {M : Type 1} → statement M
+ranks-found-spec =
+    tie.close
+    (tie.spec
+    returns
+    cast-t4
+    shared-slice-read-t6
+    cast-t7
+    sub-t8
+    mul-t9
+    shared-slice-read-t11
+    cast-t12
+    returns-2)

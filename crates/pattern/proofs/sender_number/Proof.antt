@@ -1,0 +1,28 @@
+use borrow.Author.Needs.{needs}
+use Rattle.pattern.proofs.sender_number.Statement.{statement}
+use Rattle.pattern.proofs.sender_number.Tie as tie
+use Rattle.pattern.proofs.sender_number.Reads as reads
+use Rattle.pattern.proofs.sender_number.Lts as lts
+
+-- src/lib.rt:38:22
+enum-known-s : tie.Need-enum-known-s
+enum-known-s c = search needs
+
+-- src/lib.rt:38:28
+cast-result : tie.Need-cast-result
+cast-result c = ?
+
+-- src/lib.rt:39:27
+enum-told : tie.Need-enum-told
+enum-told c = search needs
+
+-- src/lib.rt:33:1
+returns : tie.Need-returns
+returns c = ?
+
+-- src/lib.rt:33:1
+returns-2 : tie.Need-returns-2
+returns-2 c = ?
+
+pub sender-number-spec : {M : Type 1} → statement M
+sender-number-spec = tie.close (tie.spec enum-known-s cast-result enum-told returns returns-2)

@@ -1,3 +1,5 @@
+use mathlib.Core.Path.{_∙_}
+use Rattle.pattern.proofs.Answers.{send-is}
 use borrow.Author.Needs.{needs}
 use Rattle.pattern.proofs.send_set.Statement.{statement}
 use Rattle.pattern.proofs.send_set.Tie as tie
@@ -15,7 +17,7 @@ same-length c = search needs
 
 -- src/lib.rt:163:1
 returns : tie.Need-returns
-returns c = ?
+returns c = c .before .before .rank-set .ensures ∙ send-is _ _ _ _
 
 pub send-set-spec : {M : Type 1} → statement M
 send-set-spec = tie.close (tie.spec rank-set-requires same-length returns)

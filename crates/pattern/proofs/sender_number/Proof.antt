@@ -1,3 +1,8 @@
+use mathlib.Core.Path.{sym, ap, _∙_}
+use mir.Syntax.{w32}
+use mir.Facts.{toZ-pos}
+use Rattle.pattern.specs.Sender.{senderNumber}
+use Rattle.pattern.proofs.Answers.{rank-fits}
 use borrow.Author.Needs.{needs}
 use Rattle.pattern.proofs.sender_number.Statement.{statement}
 use Rattle.pattern.proofs.sender_number.Tie as tie
@@ -10,7 +15,7 @@ enum-known-s c = search needs
 
 -- src/lib.rt:38:28
 cast-result : tie.Need-cast-result
-cast-result c = ?
+cast-result c = record { sfits = rank-fits _ _ (c .before .before .before .pre) (c .before .s .given .1) }
 
 -- src/lib.rt:39:27
 enum-told : tie.Need-enum-told
@@ -18,11 +23,13 @@ enum-told c = search needs
 
 -- src/lib.rt:33:1
 returns : tie.Need-returns
-returns c = ?
+unfolding senderNumber
+returns c = toZ-pos w32 (rank-fits _ _ (c .before .before .before .pre) (c .before .s .given .1)) ∙ sym (ap senderNumber (c .before .s .given .1))
 
 -- src/lib.rt:33:1
 returns-2 : tie.Need-returns-2
-returns-2 c = ?
+unfolding senderNumber
+returns-2 c = sym (ap senderNumber (c .enum-told .given .1))
 
 pub sender-number-spec : {M : Type 1} → statement M
 sender-number-spec = tie.close (tie.spec enum-known-s cast-result enum-told returns returns-2)

@@ -1,3 +1,7 @@
+use mir.Syntax.{w32}
+use mir.Facts.{toZ-ofZ}
+use mathlib.Core.Path.{_∙_}
+use Rattle.pattern.proofs.Answers.{old-ranks, tree-to, sender-fails, tree-past, receiver-past, sender-found}
 use borrow.Author.Needs.{needs}
 use Rattle.pattern.proofs.sender_of.Statement.{statement}
 use Rattle.pattern.proofs.sender_of.Tie as tie
@@ -20,11 +24,11 @@ sender-refused-requires c κs = search needs
 
 -- src/lib.rt:58:9
 returns : tie.Need-returns
-returns c = ?
+returns c = c .sender-refused .ensures ∙ sender-fails _ _ _ (c .before .before .tables-refusal .ensures) _ _ (c .before .if1 .taken)
 
 -- src/lib.rt:61:8
 trees-requires : tie.Need-trees-requires
-trees-requires c κs = ?
+trees-requires c κs = old-ranks _ _ _ (c .before .tables-refusal .ensures) (λ i. c .before .before .before .shared-slice-known .given i .fits) (λ i. c .before .before .shared-slice-known2 .given i .fits) (c .if1 .left)
 
 -- src/lib.rt:62:9
 sender-refused-requires-2 : tie.Need-sender-refused-requires-2
@@ -32,11 +36,11 @@ sender-refused-requires-2 c κs = search needs
 
 -- src/lib.rt:62:9
 returns-2 : tie.Need-returns-2
-returns-2 c = ?
+returns-2 c = c .sender-refused2 .ensures ∙ tree-past _ _ _ (c .before .before .before .before .tables-refusal .ensures) _ _ (c .before .before .before .if1 .left) _ (c .before .before .trees .ensures) (c .before .if2 .taken)
 
 -- src/lib.rt:65:8
 ranks-requires : tie.Need-ranks-requires
-ranks-requires c κs = ?
+ranks-requires c κs = old-ranks _ _ _ (c .before .before .before .tables-refusal .ensures) (λ i. c .before .before .before .before .before .shared-slice-known .given i .fits) (λ i. c .before .before .before .before .shared-slice-known2 .given i .fits) (c .before .before .if1 .left)
 
 -- src/lib.rt:66:9
 sender-refused-requires-3 : tie.Need-sender-refused-requires-3
@@ -44,11 +48,11 @@ sender-refused-requires-3 c κs = search needs
 
 -- src/lib.rt:66:9
 returns-3 : tie.Need-returns-3
-returns-3 c = ?
+returns-3 c = c .sender-refused3 .ensures ∙ receiver-past _ _ _ (c .before .before .before .before .before .before .tables-refusal .ensures) _ _ (c .before .before .before .before .before .if1 .left) _ (c .before .before .before .before .trees .ensures) _ (c .before .before .ranks .ensures .0) (c .before .if3 .taken)
 
 -- src/lib.rt:70:31
 sender-to-requires : tie.Need-sender-to-requires
-sender-to-requires c κs = ?
+sender-to-requires c κs = tree-to _ _ _ (c .before .before .before .before .before .tables-refusal .ensures) (λ i. c .before .before .before .before .before .before .before .shared-slice-known .given i .fits) (λ i. c .before .before .before .before .before .before .shared-slice-known2 .given i .fits) (c .before .before .before .before .if1 .left) _ _ _ _ (c .before .before .before .trees .ensures) (c .before .before .if2 .left) (c .before .ranks .ensures .0) (c .if3 .left)
 
 -- src/lib.rt:70:17
 sender-number-requires : tie.Need-sender-number-requires
@@ -56,7 +60,7 @@ sender-number-requires c κs = search needs
 
 -- src/lib.rt:53:1
 returns-4 : tie.Need-returns-4
-returns-4 c = ?
+returns-4 c = sender-found _ _ _ (c .before .before .before .before .before .before .before .tables-refusal .ensures) _ _ (c .before .before .before .before .before .before .if1 .left) _ (c .before .before .before .before .before .trees .ensures) _ (c .before .before .before .ranks .ensures .0) (c .before .before .before .before .if2 .left) (c .before .before .if3 .left) _ _ (c .before .sender-to .ensures .0) (toZ-ofZ {w = w32} (record { sfits = c .sender-number .ok }) ∙ c .sender-number .ensures)
 
 pub sender-of-spec : {M : Type 1} → statement M
 sender-of-spec =

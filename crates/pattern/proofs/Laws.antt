@@ -13,13 +13,13 @@ use Rattle.encoding.specs.Pieces.{Bytes, splice}
 use Rattle.encoding.proofs.Below.{and-fst, and-snd, count-le, count-more, count-mono, count-lt, kept-more, kept-length, least-is}
 use Rattle.encoding.proofs.Pieces.{splice-none, splice-cons, splice-next, length-splice}
 use Rattle.offsets.specs.Limits.{maxRanks, maxTrees}
-use Rattle.offsets.specs.Table.{tableLength, ranks, ranksOk, entry, magnitude, trees, endTree}
+use Rattle.offsets.specs.Table.{tableLength, ranks, ranksOk, entry, magnitude, trees, firstTree, endTree}
 use Rattle.offsets.proofs.OnePass.{ranks-known}
 use Rattle.offsets.proofs.Tables.{end-next, rises, last-end, ranks-low, trees-high}
 use Rattle.pattern.proofs.Senders.{least-end, sent-high, sent-count, sent-first}
 use Rattle.pattern.proofs.Sets.{sends-to}
 use Rattle.pattern.specs.Sender.{Tables, leastHolder, sentFirst, sentCount}
-use Rattle.pattern.specs.Mirror.{TreeOf, RankOf, PairOf, RoomFor, sentLow, sentHigh, inSet, rankSet}
+use Rattle.pattern.specs.Mirror.{TreeOf, RankOf, PairOf, RoomFor, sharesLast, sentLow, sentHigh, inSet, rankSet}
 use Rattle.pattern.specs.Sets.{sendsTo}
 
 -- ---- what is read stands in the tables
@@ -66,11 +66,12 @@ module _ (old new : List ℕ) (p q : ℕ) (f : PairOf old new p q) (low high : �
       let n : sentCount old new p q ≡ 0 → ⊥ = λ z. omega (arith, counted) in
       (sym (sent-first old new (f .tables) p q (f .senderBelow) (f .receiverBelow) ∙ rw (ne-eqb (sentCount old new p q) 0 n) (sym a)), sym counted)
 
--- ---- tests
-
--- where one number is below another, the other is at least 1
-pub third-low : (a b : Bool) (m n : ℕ) → (a && (b && ltb m n)) ≡ true → 1 ≤ n
-third-low a b m n e = let h = ltb-true m n (and-snd b (ltb m n) (and-snd a (b && ltb m n) e)) in omega arith
+-- a rank whose last tree is shared has one
+pub shares-low : (old : List ℕ) (p q : ℕ) (b : Bool) (end : ℕ) → b ≡ sharesLast old p q → b ≡ true → end ≡ endTree old p → 1 ≤ end
+shares-low old p q b end e t d =
+    let m = ltb (firstTree old q) (endTree old q) in
+    let h = ltb-true (firstTree old q) (endTree old p) (and-snd m _ (and-snd (ltb p q) (m && ltb (firstTree old q) (endTree old p)) (sym e ∙ t))) in
+    omega arith
 
 -- ---- the search by halves for the least holder of tree k
 

@@ -52,6 +52,10 @@ unfoldable pub sentHigh : List ℕ → List ℕ → ℕ → ℕ → ℕ
 sentHigh old new p q =
     min (cond (ltb p q && (ltb (firstTree old q) (endTree old q) && ltb (firstTree old q) (endTree old p))) (endTree old p - 1) (endTree old p)) (endTree new q)
 
+-- the test in sentHigh: q, above p, shares the last tree of p
+abbrev pub sharesLast : List ℕ → ℕ → ℕ → Bool
+sharesLast old p q = ltb p q && (ltb (firstTree old q) (endTree old q) && ltb (firstTree old q) (endTree old p))
+
 -- ---- the two sets of a rank by one test: to the other where the rank is sending, else from the other
 
 unfoldable pub inSet : List ℕ → List ℕ → ℕ → Bool → ℕ → Bool

@@ -9,7 +9,7 @@ ghost use Rattle.encoding.specs.Refusal.{firstFailed};
 ghost use Rattle.offsets.specs.Limits.{maxRanks};
 ghost use Rattle.offsets.specs.Table.{tableLength, ranksOk, ranks as ranksOf, valid as isValid, trees as treesOf, holds as isHeld};
 ghost use Rattle.pattern.specs.Calls.{tableChecks};
-ghost use Rattle.pattern.specs.Mirror.{TreeOf, RankOf, PairOf, TreeTo, RoomFor, senderFits, sentLow, sentHigh, inSet, rankSet};
+ghost use Rattle.pattern.specs.Mirror.{TreeOf, RankOf, PairOf, TreeTo, RoomFor, senderFits, sharesLast, sentLow, sentHigh, inSet, rankSet};
 ghost use Rattle.pattern.specs.Sender.{leastHolder, sender as senderIs, senderTo, sentFirst, sentCount};
 ghost use Rattle.pattern.specs.Sets.{sendsTo};
 use crate::Sender;
@@ -90,6 +90,15 @@ pub fn sent_low(old: &[u8], new: &[u8], p: usize, q: usize) -> u64
     larger(magnitude(entry(old, p)), first)
 }
 
+// Whether q, above p, shares the last tree of p.
+fn shares(old: &[u8], p: usize, q: usize) -> bool
+    requires { ⌜ (tableLength (p + 1) ≤ length (now old)) × (tableLength (q + 1) ≤ length (now old)) ⌝ }
+    ensures { λ r. ⌜ r ≡ sharesLast (now (old .entry)) p q ⌝ }
+{
+    let first = first_tree(old, q);
+    (p < q) & ((first < end_tree(old, q)) & (first < end_tree(old, p)))
+}
+
 // One past the last tree from p to q, if there is one.
 pub fn sent_high(old: &[u8], new: &[u8], p: usize, q: usize) -> u64
     requires { ⌜ PairOf (now old) (now new) p q ⌝ }
@@ -97,8 +106,7 @@ pub fn sent_high(old: &[u8], new: &[u8], p: usize, q: usize) -> u64
 {
     let limit = end_tree(new, q);
     let end = end_tree(old, p);
-    let own = first_tree(old, q);
-    if (p < q) & ((own < end_tree(old, q)) & (own < end)) {
+    if shares(old, p, q) {
         return smaller(end - 1, limit);
     }
     smaller(end, limit)

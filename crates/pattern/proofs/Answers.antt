@@ -1,33 +1,29 @@
 -- Laws that the proofs of the public calls cite.
 use Prim.Native.Nat.{ℕ, _+_, _-_, _^_, _≤_, _<_}
-use native.Mathlib.Nat.{zero-add}
 use native.Mathlib.Omega.{arith}
-use mathlib.Core.Path.{_≡_, refl, sym, ap, ap₂, _∙_}
+use mathlib.Core.Path.{_≡_, refl, sym, ap, _∙_}
 use mathlib.Core.Bool.{Bool, true, false, cond, _&&_, and-false}
 use mathlib.Core.List.{List, [], _∷_, _++_}
 use lib.Dec.{ltb, leb, eqb}
-use lib.IntN.{ℤ, pos, negsuc}
+use lib.IntN.{ℤ, negsuc}
 use lib.ListN.{length, getD, take}
 use mir.Facts.{toZ-pos}
 use mir.Syntax.{w32}
 use mir.Val.{toZ}
 use borrow.Author.Tests.{ltb-true, eqb-true, lt-ltb, le-ltb, le-leb, lt-leb, eq-eqb, ne-eqb}
 use Rattle.encoding.specs.Answer.{written}
-use Rattle.encoding.specs.Below.{keptBelow}
 use Rattle.encoding.specs.Pieces.{Bytes, splice}
 use Rattle.encoding.specs.Refusal.{Check, check, firstFailed}
 use Rattle.encoding.proofs.Below.{and-fst, and-snd, count-le, kept-found, kept-length}
-use Rattle.encoding.proofs.Pieces.{length-splice, splice-take}
+use Rattle.encoding.proofs.Pieces.{splice-take}
 use Rattle.offsets.specs.Calls.{rangeRefused, rangeAnswer}
-use Rattle.offsets.specs.Limits.{maxRanks}
 use Rattle.offsets.specs.Table.{ranks, ranksOk, valid, trees}
 use Rattle.offsets.proofs.OnePass.{ranks-known}
 use Rattle.pattern.specs.declared.Ranks.{Ranks}
 use Rattle.pattern.specs.declared.Sender.{Sender}
-use Rattle.pattern.specs.declared.Sender.the-variants.{Rank, Nobody}
-use Rattle.pattern.specs.declared.SenderAnswer.{SenderAnswer}
+use Rattle.pattern.specs.declared.Sender.the-variants.{Rank}
 use Rattle.pattern.specs.Calls.{tableChecks, senderRefusal, senderOf, sentRefusal, treesSent, setRefusal, setAnswer, ranksAnswer, sendSetOf, receiveSetOf}
-use Rattle.pattern.specs.Mirror.{TreeTo, RankOf, PairOf, RoomFor, SmallNumbers, inSet, rankSet, rankSetOf, senderFits, senderRefused, ranksRefused}
+use Rattle.pattern.specs.Mirror.{TreeTo, RankOf, SmallNumbers, inSet, rankSet, rankSetOf, senderFits, senderRefused, ranksRefused}
 use Rattle.pattern.specs.Sender.{Tables, senderTo, senderNumber, sentFirst, sentCount}
 use Rattle.pattern.specs.Sets.{sendSet, receiveSet, smallest, largest}
 
@@ -74,7 +70,7 @@ set-small old new p sending ok =
     let k = kept-length (ranks old) f in
     record {
       few = omega (arith, count-le (ranks old) f);
-      small = λ i h. omega (arith, kept-found (ranks old) f i 0 (omega arith) .0)
+      small = λ i h. omega (arith, kept-found (ranks old) f i 0 (omega arith) .0);
     }
 
 -- ---- the checks of two tables
@@ -105,7 +101,7 @@ module _ (old new : List ℕ) (r : ℕ) (e : r ≡ firstFailed (tableChecks old 
         oldValid = and-fst (valid old) (valid new) (h .1);
         newValid = and-snd (valid old) (valid new) (h .1);
         sameRanks = sym (eqb-true (ranks old) (ranks new) (and-fst (eqb (ranks old) (ranks new)) (eqb (trees old) (trees new)) (h .2)));
-        sameTrees = sym (eqb-true (trees old) (trees new) (and-snd (eqb (ranks old) (ranks new)) (eqb (trees old) (trees new)) (h .2)))
+        sameTrees = sym (eqb-true (trees old) (trees new) (and-snd (eqb (ranks old) (ranks new)) (eqb (trees old) (trees new)) (h .2)));
       }
 
   -- the checks behind theirs count where they pass
@@ -125,9 +121,6 @@ module _ (old new : List ℕ) (r : ℕ) (e : r ≡ firstFailed (tableChecks old 
 
     pub rank-of : (P p : ℕ) → P ≡ ranks old → p < P → RankOf old new p
     rank-of P p k h = record { tables = tables-agree b b' z; rankBelow = omega arith }
-
-    pub pair-of-checked : (P p q : ℕ) → P ≡ ranks old → p < P → q < P → PairOf old new p q
-    pair-of-checked P p q k h l = record { tables = tables-agree b b' z; senderBelow = omega arith; receiverBelow = omega arith }
 
     pub tree-to : (K P k q : ℕ) → K ≡ trees old → k < K → P ≡ ranks old → q < P → TreeTo old new k q
     tree-to K P k q e' h d l = record { tables = tables-agree b b' z; treeBelow = omega arith; receiverBelow = omega arith }

@@ -1,19 +1,18 @@
 -- Laws that the proofs of this crate's functions cite.
 use Prim.Native.Nat.{ℕ, suc, _+_, _-_, _≤_, _<_}
-use native.Mathlib.Numerals.{add-one}
 use native.Mathlib.Omega.{arith}
-use mathlib.Core.Path.{_≡_, refl, sym, ap, _∙_}
-use mathlib.Core.Bool.{Bool, true, false, cond, _&&_}
-use mathlib.Core.List.{List, [], _∷_, _++_, append-nil}
+use mathlib.Core.Path.{_≡_, refl, sym, _∙_}
+use mathlib.Core.Bool.{Bool, true, false, _&&_}
+use mathlib.Core.List.{List, [], _∷_, append-nil}
 use lib.Dec.{ltb}
 use lib.ListN.{length, set}
-use borrow.Author.Tests.{ltb-true, lt-ltb, le-ltb, le-leb, lt-leb, eq-eqb, ne-eqb}
-use Rattle.encoding.specs.Below.{countBelow, keptBelow, leastBelow}
+use borrow.Author.Tests.{ltb-true, lt-ltb, le-ltb, eq-eqb, ne-eqb}
+use Rattle.encoding.specs.Below.{countBelow, keptBelow}
 use Rattle.encoding.specs.Pieces.{Bytes, splice}
-use Rattle.encoding.proofs.Below.{and-fst, and-snd, count-le, count-more, count-mono, count-lt, kept-more, kept-length, least-is}
+use Rattle.encoding.proofs.Below.{and-snd, count-le, count-more, count-mono, count-lt, kept-more, kept-length, least-is}
 use Rattle.encoding.proofs.Pieces.{splice-none, splice-cons, splice-next, length-splice}
 use Rattle.offsets.specs.Limits.{maxRanks, maxTrees}
-use Rattle.offsets.specs.Table.{tableLength, ranks, ranksOk, entry, magnitude, trees, firstTree, endTree}
+use Rattle.offsets.specs.Table.{tableLength, ranks, ranksOk, entry, trees, firstTree, endTree}
 use Rattle.offsets.proofs.OnePass.{ranks-known}
 use Rattle.offsets.proofs.Tables.{end-next, rises, last-end, ranks-low, trees-high}
 use Rattle.pattern.proofs.Senders.{least-end, sent-high, sent-count, sent-first}
@@ -94,7 +93,7 @@ module _ (t : List ℕ) (k : ℕ) (b : Bytes t) (f : TreeOf t k) where
         order = omega arith;
         inside = omega arith;
         reached = rw (end-next t (P - 1), next, last-end t b (f .ranksFit) (f .isValid)) (f .treeBelow);
-        passed = λ p h. absurd (omega arith)
+        passed = λ p h. absurd (omega arith);
       }
 
   pub search-down : (low high mid end : ℕ) → Search t k low high → low ≤ mid → mid < high → end ≡ endTree t mid → k < end → Search t k low mid
@@ -106,7 +105,7 @@ module _ (t : List ℕ) (k : ℕ) (b : Bytes t) (f : TreeOf t k) where
         order = omega arith;
         inside = s .inside;
         reached = s .reached;
-        passed = λ p h. omega (arith, ends-rise p mid (omega arith) (omega arith))
+        passed = λ p h. omega (arith, ends-rise p mid (omega arith) (omega arith));
       }
 
   pub search-done : (low high : ℕ) → Search t k low high → high ≤ low → low ≡ leastHolder t k
@@ -159,7 +158,7 @@ module _ (f : ℕ → Bool) (P : ℕ) (start : List ℕ) (room : length (keptBel
       record {
         within = omega arith;
         counted = count-one i n f (w .counted) e;
-        kept = s ∙ rw (kept-more i f, e, w .kept, l) (splice-next start 0 (keptBelow i f) (i ∷ []) (omega (arith, part-fits i (w .within))))
+        kept = s ∙ rw (kept-more i f, e, w .kept, l) (splice-next start 0 (keptBelow i f) (i ∷ []) (omega (arith, part-fits i (w .within))));
       }
 
   pub write-skip : (out : List ℕ) (n i : ℕ) → Writing f P start out n i → i < P → f i ≡ false → Writing f P start out n (i + 1)

@@ -1,7 +1,7 @@
 // For the crates above: the pattern of two tables that are known to be valid and to agree. No calls for users.
 ghost use mathlib.Core.Path.{_≡_};
-ghost use mathlib.Core.Bool.{Bool, true, _&&_};
-ghost use Prim.Native.Nat.{ℕ, _+_, _*_, _≤_, _<_, min, max};
+ghost use mathlib.Core.Bool.{true, _&&_};
+ghost use Prim.Native.Nat.{_+_, _≤_, _<_, min, max};
 ghost use lib.Dec.{eqb};
 ghost use lib.ListN.{length};
 ghost use Rattle.encoding.specs.Pieces.{splice};
@@ -13,7 +13,13 @@ ghost use Rattle.pattern.specs.Mirror.{TreeOf, RankOf, PairOf, TreeTo, R
 ghost use Rattle.pattern.specs.Sender.{leastHolder, sender as senderIs, senderTo, sentFirst, sentCount};
 ghost use Rattle.pattern.specs.Sets.{sendsTo};
 use crate::Sender;
-use offsets::inner::{end_tree, entry, first_tree, magnitude, ranks, ranks_ok, valid};
+use offsets::inner::end_tree;
+use offsets::inner::entry;
+use offsets::inner::first_tree;
+use offsets::inner::magnitude;
+use offsets::inner::ranks;
+use offsets::inner::ranks_ok;
+use offsets::inner::valid;
 
 // K.
 pub fn trees(t: &[u8]) -> u64

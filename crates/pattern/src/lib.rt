@@ -1,6 +1,6 @@
 // Who sends: the communication pattern between an old and a new partition.
 ghost use mathlib.Core.Path.{_≡_};
-ghost use mathlib.Core.Bool.{Bool, true};
+ghost use mathlib.Core.Bool.{true};
 ghost use Rattle.offsets.specs.Calls.{rangeRefused};
 ghost use Rattle.pattern.specs.Calls.{senderOf, treesSent, sendSetOf, receiveSetOf, ranksAnswer};
 ghost use Rattle.pattern.specs.Mirror.{SmallNumbers, senderFits, senderRefused, ranksRefused, rankSetOf};
@@ -43,10 +43,7 @@ fn sender_number(s: Sender) -> i32
 fn sender_refused(refusal: u32) -> SenderAnswer
     ensures { λ r. ⌜ r ≡ senderRefused refusal ⌝ }
 {
-    SenderAnswer {
-        refusal,
-        sender: 0,
-    }
+    SenderAnswer { refusal, sender: 0 }
 }
 
 // The sender of a tree to a rank (2, 3, 4, 5).

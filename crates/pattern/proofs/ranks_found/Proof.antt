@@ -3,42 +3,31 @@ use Rattle.pattern.proofs.Answers.{ranks-none, ranks-some}
 use borrow.Author.Needs.{needs}
 use Rattle.pattern.proofs.ranks_found.Statement.{statement}
 use Rattle.pattern.proofs.ranks_found.Tie as tie
-use Rattle.pattern.proofs.ranks_found.Reads as reads
-use Rattle.pattern.proofs.ranks_found.Lts as lts
 
--- src/lib.rt:127:9
 returns : tie.Need-returns
 returns c = ranks-none _ (c .if1 .taken)
 
--- src/lib.rt:136:16
 cast-t4 : tie.Need-cast-t4
 cast-t4 c = search needs
 
--- src/lib.rt:137:19
 shared-slice-read-t6 : tie.Need-shared-slice-read-t6
 shared-slice-read-t6 c = search needs
 
--- src/lib.rt:137:19
 cast-t7 : tie.Need-cast-t7
 cast-t7 c = record { sfits = (c .before .before .pre .small) 0 (omega arith) }
 
--- src/lib.rt:138:22
 sub-t8 : tie.Need-sub-t8
 sub-t8 c = search needs
 
--- src/lib.rt:138:18
 mul-t9 : tie.Need-mul-t9
 mul-t9 c = search needs
 
--- src/lib.rt:138:18
 shared-slice-read-t11 : tie.Need-shared-slice-read-t11
 shared-slice-read-t11 c = search needs
 
--- src/lib.rt:138:18
 cast-t12 : tie.Need-cast-t12
 cast-t12 c = record { sfits = (c .before .before .before .pre .small) _ (omega arith) }
 
--- src/lib.rt:121:1
 returns-2 : tie.Need-returns-2
 returns-2 c = ranks-some _ (c .before .before .before .pre) (c .before .before .if1 .left)
 

@@ -6,27 +6,20 @@ use Rattle.pattern.proofs.Answers.{rank-fits}
 use borrow.Author.Needs.{needs}
 use Rattle.pattern.proofs.sender_number.Statement.{statement}
 use Rattle.pattern.proofs.sender_number.Tie as tie
-use Rattle.pattern.proofs.sender_number.Reads as reads
-use Rattle.pattern.proofs.sender_number.Lts as lts
 
--- src/lib.rt:38:22
 enum-known-s : tie.Need-enum-known-s
 enum-known-s c = search needs
 
--- src/lib.rt:38:28
 cast-result : tie.Need-cast-result
 cast-result c = record { sfits = rank-fits _ _ (c .before .before .before .pre) (c .before .s .given .1) }
 
--- src/lib.rt:39:27
 enum-told : tie.Need-enum-told
 enum-told c = search needs
 
--- src/lib.rt:33:1
 returns : tie.Need-returns
 unfolding senderNumber
 returns c = toZ-pos w32 (rank-fits _ _ (c .before .before .before .pre) (c .before .s .given .1)) ∙ sym (ap senderNumber (c .before .s .given .1))
 
--- src/lib.rt:33:1
 returns-2 : tie.Need-returns-2
 unfolding senderNumber
 returns-2 c = sym (ap senderNumber (c .enum-told .given .1))

@@ -5,60 +5,40 @@ use Rattle.pattern.proofs.Answers.{old-ranks, tree-to, sender-fails, tr
 use borrow.Author.Needs.{needs}
 use Rattle.pattern.proofs.sender_of.Statement.{statement}
 use Rattle.pattern.proofs.sender_of.Tie as tie
-use Rattle.pattern.proofs.sender_of.Reads as reads
-use Rattle.pattern.proofs.sender_of.Lts as lts
-use Rattle.offsets.proofs.inner.ranks.Reads as ranks-reads
-use Rattle.pattern.proofs.inner.sender_to.Reads as sender-to-reads
-use Rattle.pattern.proofs.inner.tables_refusal.Reads as tables-refusal-reads
-use Rattle.pattern.proofs.inner.trees.Reads as trees-reads
-use Rattle.pattern.proofs.sender_number.Reads as sender-number-reads
-use Rattle.pattern.proofs.sender_refused.Reads as sender-refused-reads
 
--- src/lib.rt:56:9
 tables-refusal-requires : tie.Need-tables-refusal-requires
 tables-refusal-requires c κs = search needs
 
--- src/lib.rt:58:9
 sender-refused-requires : tie.Need-sender-refused-requires
 sender-refused-requires c κs = search needs
 
--- src/lib.rt:58:9
 returns : tie.Need-returns
 returns c = c .sender-refused .ensures ∙ sender-fails _ _ _ (c .before .before .tables-refusal .ensures) _ _ (c .before .if1 .taken)
 
--- src/lib.rt:61:8
 trees-requires : tie.Need-trees-requires
 trees-requires c κs = old-ranks _ _ _ (c .before .tables-refusal .ensures) (λ i. c .before .before .before .shared-slice-known .given i .fits) (λ i. c .before .before .shared-slice-known2 .given i .fits) (c .if1 .left)
 
--- src/lib.rt:62:9
 sender-refused-requires-2 : tie.Need-sender-refused-requires-2
 sender-refused-requires-2 c κs = search needs
 
--- src/lib.rt:62:9
 returns-2 : tie.Need-returns-2
 returns-2 c = c .sender-refused2 .ensures ∙ tree-past _ _ _ (c .before .before .before .before .tables-refusal .ensures) _ _ (c .before .before .before .if1 .left) _ (c .before .before .trees .ensures) (c .before .if2 .taken)
 
--- src/lib.rt:65:8
 ranks-requires : tie.Need-ranks-requires
 ranks-requires c κs = old-ranks _ _ _ (c .before .before .before .tables-refusal .ensures) (λ i. c .before .before .before .before .before .shared-slice-known .given i .fits) (λ i. c .before .before .before .before .shared-slice-known2 .given i .fits) (c .before .before .if1 .left)
 
--- src/lib.rt:66:9
 sender-refused-requires-3 : tie.Need-sender-refused-requires-3
 sender-refused-requires-3 c κs = search needs
 
--- src/lib.rt:66:9
 returns-3 : tie.Need-returns-3
 returns-3 c = c .sender-refused3 .ensures ∙ receiver-past _ _ _ (c .before .before .before .before .before .before .tables-refusal .ensures) _ _ (c .before .before .before .before .before .if1 .left) _ (c .before .before .before .before .trees .ensures) _ (c .before .before .ranks .ensures .0) (c .before .if3 .taken)
 
--- src/lib.rt:70:31
 sender-to-requires : tie.Need-sender-to-requires
 sender-to-requires c κs = tree-to _ _ _ (c .before .before .before .before .before .tables-refusal .ensures) (λ i. c .before .before .before .before .before .before .before .shared-slice-known .given i .fits) (λ i. c .before .before .before .before .before .before .shared-slice-known2 .given i .fits) (c .before .before .before .before .if1 .left) _ _ _ _ (c .before .before .before .trees .ensures) (c .before .before .if2 .left) (c .before .ranks .ensures .0) (c .if3 .left)
 
--- src/lib.rt:70:17
 sender-number-requires : tie.Need-sender-number-requires
 sender-number-requires c κs = search needs
 
--- src/lib.rt:53:1
 returns-4 : tie.Need-returns-4
 returns-4 c = sender-found _ _ _ (c .before .before .before .before .before .before .before .tables-refusal .ensures) _ _ (c .before .before .before .before .before .before .if1 .left) _ (c .before .before .before .before .before .trees .ensures) _ (c .before .before .before .ranks .ensures .0) (c .before .before .before .before .if2 .left) (c .before .before .if3 .left) _ _ (c .before .sender-to .ensures .0) (toZ-ofZ {w = w32} (record { sfits = c .sender-number .ok }) ∙ c .sender-number .ensures)
 

@@ -1,19 +1,13 @@
 use borrow.Author.Needs.{needs}
 use Rattle.pattern.proofs.inner.both_ranks_ok.Statement.{statement}
 use Rattle.pattern.proofs.inner.both_ranks_ok.Tie as tie
-use Rattle.pattern.proofs.inner.both_ranks_ok.Reads as reads
-use Rattle.pattern.proofs.inner.both_ranks_ok.Lts as lts
-use Rattle.offsets.proofs.inner.ranks_ok.Reads as ranks-ok-reads
 
--- src/inner.rt:24:5
 ranks-ok-requires : tie.Need-ranks-ok-requires
 ranks-ok-requires c κs = search needs
 
--- src/inner.rt:24:21
 ranks-ok-requires-2 : tie.Need-ranks-ok-requires-2
 ranks-ok-requires-2 c κs = search needs
 
--- src/inner.rt:21:1
 returns : tie.Need-returns
 returns c = rw (c .before .ranks-ok .ensures, c .ranks-ok2 .ensures)
 

@@ -2,19 +2,13 @@ use Rattle.offsets.specs.Table.{ranksOk}
 use Rattle.encoding.proofs.Below.{and-fst, and-snd}
 use Rattle.pattern.proofs.inner.both_valid.Statement.{statement}
 use Rattle.pattern.proofs.inner.both_valid.Tie as tie
-use Rattle.pattern.proofs.inner.both_valid.Reads as reads
-use Rattle.pattern.proofs.inner.both_valid.Lts as lts
-use Rattle.offsets.proofs.inner.valid.Reads as valid-reads
 
--- src/inner.rt:31:5
 valid-requires : tie.Need-valid-requires
 valid-requires c κs = and-fst _ _ (c .before .before .pre)
 
--- src/inner.rt:31:18
 valid-requires-2 : tie.Need-valid-requires-2
 valid-requires-2 c κs = and-snd (ranksOk (c .before .before .before .args .old .now)) _ (c .before .before .before .pre)
 
--- src/inner.rt:27:1
 returns : tie.Need-returns
 returns c = rw (c .before .valid .ensures, c .valid2 .ensures)
 

@@ -4,24 +4,17 @@ use Rattle.pattern.specs.Mirror.{inSet}
 use borrow.Author.Needs.{needs}
 use Rattle.pattern.proofs.inner.in_set.Statement.{statement}
 use Rattle.pattern.proofs.inner.in_set.Tie as tie
-use Rattle.pattern.proofs.inner.in_set.Reads as reads
-use Rattle.pattern.proofs.inner.in_set.Lts as lts
-use Rattle.pattern.proofs.inner.sends_some.Reads as sends-some-reads
 
--- src/inner.rt:190:9
 sends-some-requires : tie.Need-sends-some-requires
 sends-some-requires c κs = search needs
 
--- src/inner.rt:190:9
 returns : tie.Need-returns
 unfolding inSet
 returns c = rw (c .before .if1 .taken) (c .sends-some .ensures)
 
--- src/inner.rt:192:5
 sends-some-requires-2 : tie.Need-sends-some-requires-2
 sends-some-requires-2 c κs = search needs
 
--- src/inner.rt:185:1
 returns-2 : tie.Need-returns-2
 unfolding inSet
 returns-2 c = rw (c .before .if1 .left) (c .sends-some2 .ensures ∙ sym (gets-sends _ _ (c .before .before .before .before .pre .tables) _ _ (c .before .before .before .before .pre .receiverBelow) (c .before .before .before .before .pre .senderBelow)))

@@ -4,10 +4,6 @@ use Rattle.pattern.proofs.Laws.{Search, search-start, search-down, sear
 use borrow.Author.Needs.{needs}
 use Rattle.pattern.proofs.inner.least_holder.Statement.{statement}
 use Rattle.pattern.proofs.inner.least_holder.Tie as tie
-use Rattle.pattern.proofs.inner.least_holder.Reads as reads
-use Rattle.pattern.proofs.inner.least_holder.Lts as lts
-use Rattle.offsets.proofs.inner.end_tree.Reads as end-tree-reads
-use Rattle.offsets.proofs.inner.ranks.Reads as ranks-reads
 
 abbrev Inv-loop : tie.InvT-loop
 Inv-loop t k low₀ high₀ low high = Search t k low high
@@ -15,51 +11,39 @@ Inv-loop t k low₀ high₀ low high = Search t k low high
 abbrev μ-loop : tie.MeasureT-loop
 μ-loop t k low₀ high₀ low high = high - low
 
--- src/inner.rt:127:20
 ranks-requires : tie.Need-ranks-requires Inv-loop μ-loop
 ranks-requires c κs = c .before .pre .ranksFit
 
--- src/inner.rt:127:20
 sub-high : tie.Need-sub-high Inv-loop μ-loop
 sub-high c = search needs
 
--- src/inner.rt:128:5
 loop-holds : tie.Need-loop-holds Inv-loop μ-loop
 loop-holds c = search-start _ _ (λ i. c .before .shared-slice-known .given i .fits) (c .before .before .pre) _ (c .ranks .ensures .0)
 
--- src/inner.rt:129:26
 sub-mid : tie.Need-sub-mid Inv-loop μ-loop
 sub-mid c = search needs
 
--- src/inner.rt:129:19
 add-mid : tie.Need-add-mid Inv-loop μ-loop
 add-mid c = search needs
 
--- src/inner.rt:130:16
 end-tree-requires : tie.Need-end-tree-requires Inv-loop μ-loop
 end-tree-requires c κs = omega (arith, row-fits _ (c .before .loop .high) (c .before .before .before .before .pre .ranksFit) (c .before .loop .inv .inside))
 
--- src/inner.rt:128:5
 loop-less : tie.Need-loop-less Inv-loop μ-loop
 loop-less c = search needs
 
--- src/inner.rt:128:5
 loop-again : tie.Need-loop-again Inv-loop μ-loop
 loop-again c = search-down _ _ (λ i. c .before .before .before .before .before .shared-slice-known .given i .fits) (c .before .before .before .before .before .before .pre) _ _ _ _ (c .before .before .before .loop .inv) (omega arith) (omega arith) (c .before .end-tree .ensures) (c .if1 .taken)
 
--- src/inner.rt:133:19
 add-low : tie.Need-add-low Inv-loop μ-loop
 add-low c = search needs
 
--- src/inner.rt:128:5
 loop-less-2 : tie.Need-loop-less-2 Inv-loop μ-loop
 loop-less-2 c = search needs
 
--- src/inner.rt:128:5
 loop-again-2 : tie.Need-loop-again-2 Inv-loop μ-loop
 loop-again-2 c = search-up _ _ (λ i. c .before .before .before .before .before .shared-slice-known .given i .fits) (c .before .before .before .before .before .before .pre) _ _ _ _ (c .before .before .before .loop .inv) (omega arith) (c .before .end-tree .ensures) (c .if1 .left)
 
--- src/inner.rt:122:1
 returns : tie.Need-returns Inv-loop μ-loop
 returns c = (search-done _ _ (λ i. c .before .before .before .shared-slice-known .given i .fits) (c .before .before .before .before .pre) _ _ (c .before .loop .inv) (c .loop-test .left), omega arith)
 

@@ -5,25 +5,17 @@ use Rattle.pattern.proofs.Laws.{row-fits}
 use borrow.Author.Needs.{needs}
 use Rattle.pattern.proofs.inner.sender.Statement.{statement}
 use Rattle.pattern.proofs.inner.sender.Tie as tie
-use Rattle.pattern.proofs.inner.sender.Reads as reads
-use Rattle.pattern.proofs.inner.sender.Lts as lts
-use Rattle.pattern.proofs.inner.holds.Reads as holds-reads
-use Rattle.pattern.proofs.inner.least_holder.Reads as least-holder-reads
 
--- src/inner.rt:167:8
 holds-requires : tie.Need-holds-requires
 holds-requires c κs = row-fits _ _ (c .before .pre .0 .ranksFit) (c .before .pre .1)
 
--- src/inner.rt:168:9
 returns : tie.Need-returns
 unfolding sender
 returns c = (simp (← c .before .holds .ensures, c .if1 .taken), omega (arith, ranks-known _ (c .before .before .before .pre .0 .ranksFit) .high))
 
--- src/inner.rt:170:5
 least-holder-requires : tie.Need-least-holder-requires
 least-holder-requires c κs = search needs
 
--- src/inner.rt:163:1
 returns-2 : tie.Need-returns-2
 unfolding sender
 returns-2 c = (simp (← c .before .before .holds .ensures, c .before .if1 .left, c .least-holder .ensures .0), c .least-holder .ensures .1)

@@ -8,29 +8,20 @@ use Rattle.pattern.proofs.Laws.{receiver-in-new}
 use borrow.Author.Needs.{needs}
 use Rattle.pattern.proofs.inner.sender_to.Statement.{statement}
 use Rattle.pattern.proofs.inner.sender_to.Tie as tie
-use Rattle.pattern.proofs.inner.sender_to.Reads as reads
-use Rattle.pattern.proofs.inner.sender_to.Lts as lts
-use Rattle.pattern.proofs.inner.holds.Reads as holds-reads
-use Rattle.pattern.proofs.inner.sender.Reads as sender-reads
 
--- src/inner.rt:178:8
 holds-requires : tie.Need-holds-requires
 holds-requires c κs = receiver-in-new _ _ (c .before .before .pre .tables) _ (c .before .before .pre .receiverBelow)
 
--- src/inner.rt:179:29
 sender-requires : tie.Need-sender-requires
 sender-requires c κs = search needs
 
--- src/inner.rt:179:29
 cast-t7 : tie.Need-cast-t7
 cast-t7 c = search needs
 
--- src/inner.rt:179:9
 returns : tie.Need-returns
 unfolding senderTo senderFits
 returns c = (simp (← c .before .before .holds .ensures, c .before .if1 .taken, c .sender .ensures .0), lt-ltb (c .sender .result) (2 ^ 31) (omega arith))
 
--- src/inner.rt:174:1
 returns-2 : tie.Need-returns-2
 unfolding senderTo senderFits
 returns-2 c = (simp (← c .before .holds .ensures, c .if1 .left), refl)

@@ -3,36 +3,25 @@ use Rattle.pattern.proofs.Laws.{sent-fits, sent-none, sent-some}
 use borrow.Author.Needs.{needs}
 use Rattle.pattern.proofs.inner.sent.Statement.{statement}
 use Rattle.pattern.proofs.inner.sent.Tie as tie
-use Rattle.pattern.proofs.inner.sent.Reads as reads
-use Rattle.pattern.proofs.inner.sent.Lts as lts
-use Rattle.pattern.proofs.inner.sent_high.Reads as sent-high-reads
-use Rattle.pattern.proofs.inner.sent_low.Reads as sent-low-reads
 
--- src/inner.rt:117:9
 sent-low-requires : tie.Need-sent-low-requires
 sent-low-requires c κs = search needs
 
--- src/inner.rt:118:9
 sent-high-requires : tie.Need-sent-high-requires
 sent-high-requires c κs = search needs
 
--- src/inner.rt:120:9
 returns : tie.Need-returns
 returns c = sent-none _ _ _ _ (c .before .before .before .before .before .pre) _ _ (c .before .before .sent-low .ensures) (c .before .sent-high .ensures) (c .if1 .taken)
 
--- src/inner.rt:123:16
 cast-t8 : tie.Need-cast-t8
 cast-t8 c = omega (arith, sent-fits _ _ _ _ (c .before .before .before .before .before .pre) _ _ (c .before .before .sent-low .ensures) (c .before .sent-high .ensures))
 
--- src/inner.rt:124:17
 sub-t9 : tie.Need-sub-t9
 sub-t9 c = search needs
 
--- src/inner.rt:124:16
 cast-t10 : tie.Need-cast-t10
 cast-t10 c = omega (arith, sent-fits _ _ _ _ (c .before .before .before .before .before .pre) _ _ (c .before .before .sent-low .ensures) (c .before .sent-high .ensures))
 
--- src/inner.rt:113:1
 returns-2 : tie.Need-returns-2
 returns-2 c = sent-some _ _ _ _ (c .before .before .before .before .before .pre) _ _ (c .before .before .sent-low .ensures) (c .before .sent-high .ensures) (c .if1 .left)
 

@@ -5,40 +5,28 @@ use Rattle.pattern.specs.Calls.{tableChecks}
 use borrow.Author.Needs.{needs}
 use Rattle.pattern.proofs.inner.tables_refusal.Statement.{statement}
 use Rattle.pattern.proofs.inner.tables_refusal.Tie as tie
-use Rattle.pattern.proofs.inner.tables_refusal.Reads as reads
-use Rattle.pattern.proofs.inner.tables_refusal.Lts as lts
-use Rattle.pattern.proofs.inner.agree.Reads as agree-reads
-use Rattle.pattern.proofs.inner.both_ranks_ok.Reads as both-ranks-ok-reads
-use Rattle.pattern.proofs.inner.both_valid.Reads as both-valid-reads
 
--- src/inner.rt:46:9
 both-ranks-ok-requires : tie.Need-both-ranks-ok-requires
 both-ranks-ok-requires c κs = search needs
 
--- src/inner.rt:47:9
 returns : tie.Need-returns
 unfolding tableChecks firstFailed
 returns c = simp (← c .before .both-ranks-ok .ensures, not-true (c .before .both-ranks-ok .result) (c .if1 .taken))
 
--- src/inner.rt:49:9
 both-valid-requires : tie.Need-both-valid-requires
 both-valid-requires c κs = sym (c .before .both-ranks-ok .ensures) ∙ not-false _ (c .if1 .left)
 
--- src/inner.rt:50:9
 returns-2 : tie.Need-returns-2
 unfolding tableChecks firstFailed
 returns-2 c = simp (← c .before .before .before .both-ranks-ok .ensures, not-false (c .before .before .before .both-ranks-ok .result) (c .before .before .if1 .left), ← c .before .both-valid .ensures, not-true (c .before .both-valid .result) (c .if2 .taken))
 
--- src/inner.rt:52:9
 agree-requires : tie.Need-agree-requires
 agree-requires c κs = sym (c .before .before .before .both-ranks-ok .ensures) ∙ not-false _ (c .before .before .if1 .left)
 
--- src/inner.rt:53:9
 returns-3 : tie.Need-returns-3
 unfolding tableChecks firstFailed
 returns-3 c = simp (← c .before .before .before .before .before .both-ranks-ok .ensures, not-false (c .before .before .before .before .before .both-ranks-ok .result) (c .before .before .before .before .if1 .left), ← c .before .before .before .both-valid .ensures, not-false (c .before .before .before .both-valid .result) (c .before .before .if2 .left), ← c .before .agree .ensures, not-true (c .before .agree .result) (c .if3 .taken))
 
--- src/inner.rt:43:1
 returns-4 : tie.Need-returns-4
 unfolding tableChecks firstFailed
 returns-4 c = simp (← c .before .before .before .before .before .both-ranks-ok .ensures, not-false (c .before .before .before .before .before .both-ranks-ok .result) (c .before .before .before .before .if1 .left), ← c .before .before .before .both-valid .ensures, not-false (c .before .before .before .both-valid .result) (c .before .before .if2 .left), ← c .before .agree .ensures, not-false (c .before .agree .result) (c .if3 .left))

@@ -2,4 +2,6 @@
 pub mod Counting
 pub mod Senders
 pub mod Sets
+pub mod Laws
+pub mod Answers
 pub mod Examples

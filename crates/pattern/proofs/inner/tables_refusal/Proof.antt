@@ -1,0 +1,44 @@
+use mathlib.Core.Path.{_∙_, sym}
+use borrow.Author.Tests.{not-true, not-false}
+use Rattle.encoding.specs.Refusal.{firstFailed}
+use Rattle.pattern.specs.Calls.{tableChecks}
+use borrow.Author.Needs.{needs}
+use Rattle.pattern.proofs.inner.tables_refusal.Statement.{statement}
+use Rattle.pattern.proofs.inner.tables_refusal.Tie as tie
+
+both-ranks-ok-requires : tie.Need-both-ranks-ok-requires
+both-ranks-ok-requires c κs = search needs
+
+returns : tie.Need-returns
+unfolding tableChecks firstFailed
+returns c = simp (← c .before .both-ranks-ok .ensures, not-true (c .before .both-ranks-ok .result) (c .if1 .taken))
+
+both-valid-requires : tie.Need-both-valid-requires
+both-valid-requires c κs = sym (c .before .both-ranks-ok .ensures) ∙ not-false _ (c .if1 .left)
+
+returns-2 : tie.Need-returns-2
+unfolding tableChecks firstFailed
+returns-2 c = simp (← c .before .before .before .both-ranks-ok .ensures, not-false (c .before .before .before .both-ranks-ok .result) (c .before .before .if1 .left), ← c .before .both-valid .ensures, not-true (c .before .both-valid .result) (c .if2 .taken))
+
+agree-requires : tie.Need-agree-requires
+agree-requires c κs = sym (c .before .before .before .both-ranks-ok .ensures) ∙ not-false _ (c .before .before .if1 .left)
+
+returns-3 : tie.Need-returns-3
+unfolding tableChecks firstFailed
+returns-3 c = simp (← c .before .before .before .before .before .both-ranks-ok .ensures, not-false (c .before .before .before .before .before .both-ranks-ok .result) (c .before .before .before .before .if1 .left), ← c .before .before .before .both-valid .ensures, not-false (c .before .before .before .both-valid .result) (c .before .before .if2 .left), ← c .before .agree .ensures, not-true (c .before .agree .result) (c .if3 .taken))
+
+returns-4 : tie.Need-returns-4
+unfolding tableChecks firstFailed
+returns-4 c = simp (← c .before .before .before .before .before .both-ranks-ok .ensures, not-false (c .before .before .before .before .before .both-ranks-ok .result) (c .before .before .before .before .if1 .left), ← c .before .before .before .both-valid .ensures, not-false (c .before .before .before .both-valid .result) (c .before .before .if2 .left), ← c .before .agree .ensures, not-false (c .before .agree .result) (c .if3 .left))
+
+pub tables-refusal-spec : {M : Type 1} → statement M
+tables-refusal-spec =
+    tie.close
+    (tie.spec
+    both-ranks-ok-requires
+    returns
+    both-valid-requires
+    returns-2
+    agree-requires
+    returns-3
+    returns-4)

@@ -35,7 +35,7 @@ pub place-behind : (text : List ℕ) (at : ℕ) (a rest : List ℕ) → drop at 
 place-behind text at a rest e = sym (drop-drop (length a) at text) ∙ (ap (drop (length a)) e ∙ drop-at a rest (length a) refl)
 
 -- how many bytes stand from a place on
-from-length : (text : List ℕ) (at : ℕ) (a rest : List ℕ) → drop at text ≡ a ++ rest → length text - at ≡ length a + length rest
+pub from-length : (text : List ℕ) (at : ℕ) (a rest : List ℕ) → drop at text ≡ a ++ rest → length text - at ≡ length a + length rest
 from-length text at a rest e = sym (length-drop at text) ∙ (ap length e ∙ length-append a rest)
 
 -- a place with a byte that isn't 0 is within the text
@@ -291,7 +291,7 @@ list-before text at n es e b o l =
           (join (entryText (n .value)) (e .1) (join (44 ∷ []) (byte-sound text (n .next) 44 (omega arith) b) (l .stands)));
     }
 
-before-ok : (v : ℕ) (es : Entries) → before v es .ok ≡ es .ok
+pub before-ok : (v : ℕ) (es : Entries) → before v es .ok ≡ es .ok
 unfolding before
 before-ok v es = either (es .ok) (λ p. rw p) (λ p. rw p)
 

@@ -4,13 +4,20 @@ ghost use mathlib.Core.Bool.{true};
 ghost use Prim.Native.Nat.{_+_, _-_, _≤_, _<_, _^_};
 ghost use lib.ListN.{length};
 ghost use Rattle.encoding.specs.Pieces.{piece};
-ghost use Rattle.plan_text.specs.Read.{byteAt, isDigit, digitCount, valueOf, readNumber, negated, readEntry, wordAt};
-ghost use Rattle.plan_text.specs.Mirror.Reading.{numberOf, countOk};
+ghost use Rattle.plan_text.specs.Read.{byteAt, isDigit, digitCount, valueOf, readNumber, negated, readEntry, readList, wordAt};
+ghost use Rattle.plan_text.specs.Mirror.Reading.{numberOf, countOk, stored, ListRead};
 
 // A number that was read, and the place behind it.
 struct Numeral {
     ok: bool,
     value: u64,
+    next: usize,
+}
+
+// A list that was read: how many entries it has, and the place behind its LF.
+struct Counted {
+    ok: bool,
+    count: usize,
     next: usize,
 }
 
@@ -127,4 +134,49 @@ fn word_at(text: &[u8], at: usize, word: &[u8]) -> bool
         i += 1;
     }
     true
+}
+
+// Entry i of a table, where there is room for it.
+fn store(table: &mut [u8], i: usize, v: u64)
+    ensures { λ r. ⌜ now (table .exit) ≡ stored (now (table .entry)) i v ⌝ }
+{
+    if i < table.len() / 8 {
+        encoding::write_u64(&mut *table, 8 * i, v);
+    }
+}
+
+// A list of entries, with commas between them and LF behind the last. Entries for which the table has no room are counted.
+fn read_list(text: &[u8], at: usize, table: &mut [u8]) -> Counted
+    ensures { λ r. ⌜ ListRead (now (text .entry)) (readList (length (now (text .entry))) (now (text .entry)) at) (now (table .entry)) (now (table .exit)) r ⌝ }
+{
+    let mut place = at;
+    let mut count: usize = 0;
+    loop {
+        let n = read_entry(text, place);
+        if !n.ok {
+            return Counted {
+                ok: false,
+                count: 0,
+                next: 0,
+            };
+        }
+        store(&mut *table, count, n.value);
+        count += 1;
+        let b = byte_at(text, n.next);
+        if b == 10 {
+            return Counted {
+                ok: true,
+                count: count,
+                next: n.next + 1,
+            };
+        }
+        if b != 44 {
+            return Counted {
+                ok: false,
+                count: 0,
+                next: 0,
+            };
+        }
+        place = n.next + 1;
+    }
 }

@@ -16,12 +16,14 @@ pub enum Sender {
 }
 
 // The sender's number, −1 for nobody. When refused, `refusal` is the number of the first check that failed and the rest is 0.
+#[repr(C)]
 pub struct SenderAnswer {
     pub refusal: u32,
     pub sender: i32,
 }
 
 // A set of ranks: how many, the smallest and the largest (−1 and −2 where it is empty). When refused, `refusal` is the number of the first check that failed and the rest is 0.
+#[repr(C)]
 pub struct Ranks {
     pub refusal: u32,
     pub count: u32,

@@ -1,0 +1,71 @@
+// The C interface: include/vejgodat.h says what each function takes, checks and answers. A slice is a pointer and a count.
+ghost use mathlib.Core.Path.{_≡_};
+ghost use Rattle.offsets.specs.Calls.{tableRefusal, tableRange, tableLengthAnswer, writeTable, tableFromLeaves};
+ghost use Rattle.pattern.specs.Calls.{senderOf, treesSent, sendSetOf, receiveSetOf};
+use encoding::answer::Length;
+use offsets::Range;
+use pattern::Ranks;
+use pattern::SenderAnswer;
+
+#[no_mangle]
+pub extern "C" fn vejgodat_check_table(table: &[u8]) -> u32
+    ensures { λ r. ⌜ r ≡ tableRefusal (now (table .entry)) ⌝ }
+{
+    offsets::check_table(table)
+}
+
+#[no_mangle]
+pub extern "C" fn vejgodat_table_length(ranks: u32) -> Length
+    ensures { λ r. ⌜ r ≡ tableLengthAnswer ranks ⌝ }
+{
+    offsets::table_length(ranks)
+}
+
+#[no_mangle]
+pub extern "C" fn vejgodat_table_range(table: &[u8], rank: u32) -> Range
+    ensures { λ r. ⌜ r ≡ tableRange (now (table .entry)) rank ⌝ }
+{
+    offsets::table_range(table, rank)
+}
+
+#[no_mangle]
+pub extern "C" fn vejgodat_write_table(ranks: u32, first: &[u32], count: &[u32], out: &mut [u8]) -> Length
+    ensures { λ r. ⌜ (r, now (out .exit)) ≡ writeTable ranks (now (first .entry)) (now (count .entry)) (now (out .entry)) ⌝ }
+{
+    offsets::write_table(ranks, first, count, out)
+}
+
+#[no_mangle]
+pub extern "C" fn vejgodat_table_from_leaves(ranks: u32, leaves: &[u32], out: &mut [u8]) -> Length
+    ensures { λ r. ⌜ (r, now (out .exit)) ≡ tableFromLeaves ranks (now (leaves .entry)) (now (out .entry)) ⌝ }
+{
+    offsets::table_from_leaves(ranks, leaves, out)
+}
+
+#[no_mangle]
+pub extern "C" fn vejgodat_sender_of(old: &[u8], new: &[u8], tree: u32, receiver: u32) -> SenderAnswer
+    ensures { λ r. ⌜ r ≡ senderOf (now (old .entry)) (now (new .entry)) tree receiver ⌝ }
+{
+    pattern::sender_of(old, new, tree, receiver)
+}
+
+#[no_mangle]
+pub extern "C" fn vejgodat_trees_sent(old: &[u8], new: &[u8], sender: u32, receiver: u32) -> Range
+    ensures { λ r. ⌜ r ≡ treesSent (now (old .entry)) (now (new .entry)) sender receiver ⌝ }
+{
+    pattern::trees_sent(old, new, sender, receiver)
+}
+
+#[no_mangle]
+pub extern "C" fn vejgodat_send_set(old: &[u8], new: &[u8], rank: u32, out: &mut [u32]) -> Ranks
+    ensures { λ r. ⌜ (r, now (out .exit)) ≡ sendSetOf (now (old .entry)) (now (new .entry)) rank (now (out .entry)) ⌝ }
+{
+    pattern::send_set(old, new, rank, out)
+}
+
+#[no_mangle]
+pub extern "C" fn vejgodat_receive_set(old: &[u8], new: &[u8], rank: u32, out: &mut [u32]) -> Ranks
+    ensures { λ r. ⌜ (r, now (out .exit)) ≡ receiveSetOf (now (old .entry)) (now (new .entry)) rank (now (out .entry)) ⌝ }
+{
+    pattern::receive_set(old, new, rank, out)
+}

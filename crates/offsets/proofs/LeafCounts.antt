@@ -18,10 +18,10 @@ use Rattle.encoding.proofs.Numbers.{bytes-length, length-put}
 use Rattle.offsets.specs.Limits.{maxRanks, maxTrees, rankCountOk, treeCountOk}
 use Rattle.offsets.specs.Leaves.{maxLeaves, leavesOk, leafStart, leafTotal, cut, leafHolds, leafFirst, leafCount, equalShares, leafTable}
 use Rattle.offsets.specs.Mirror.Leaves.{treesBefore, sharedEntry, leafEntry, Walking}
-use Rattle.offsets.specs.Partition.{nonEmpty, onRank, lastTree, coversAll, coversOnly, ascending, validPartition, endBelow, entryOf, entriesBelow, tableOf}
-use Rattle.offsets.specs.Table.{tableLength}
+use Rattle.offsets.specs.Partition.{nonEmpty, onRank, lastTree, coversAll, coversOnly, ascending, validPartition, endBelow, entryOf, entriesBelow, tableOf, IsTable}
+use Rattle.offsets.specs.Table.{tableLength, holds}
 use Rattle.offsets.proofs.Tables.{ranks-within}
-use Rattle.offsets.proofs.Partitions.{table-length, entries-put, table-put}
+use Rattle.offsets.proofs.Partitions.{table-length, entries-put, table-put, table-of, table-holds}
 
 -- ---- the cut
 
@@ -511,3 +511,18 @@ module _ {ls : List ℕ} {P : ℕ} {bound : ℕ → ℕ} {out₀ : List ℕ} (cu
 pub leaf-table-length : (P : ℕ) (ls : List ℕ) → length (leafTable P ls) ≡ tableLength P
 unfolding leafTable
 leaf-table-length P ls = table-length (leafFirst ls (equalShares P ls)) (leafCount ls (equalShares P ls)) P
+
+-- ---- the table from leaf counts
+
+module _ (P : ℕ) (ls : List ℕ) (ro : rankCountOk P ≡ true) (ok : leavesOk ls ≡ true) where
+  -- it is the table of that partition
+  pub leaf-table-is : IsTable (leafFirst ls (equalShares P ls)) (leafCount ls (equalShares P ls)) P (length ls) (leafTable P ls)
+  unfolding leafTable leavesOk
+  leaf-table-is =
+      table-of (leafFirst ls (equalShares P ls)) (leafCount ls (equalShares P ls)) P (length ls) ro (and-fst (treeCountOk (length ls)) _ ok) (leaf-table-partition P ls ro ok)
+
+  -- tree k is in f(p) exactly when a leaf of rank p is in k
+  pub leaf-table-holds : (p k : ℕ) → p < P → k < length ls → holds (leafTable P ls) p k ≡ leafHolds ls (equalShares P ls) p k
+  leaf-table-holds p k h l =
+      table-holds (leafFirst ls (equalShares P ls)) (leafCount ls (equalShares P ls)) P ro (length ls) (leafTable P ls) leaf-table-is p k h
+      ∙ leaf-on-rank ls ok P (equalShares P ls) (shares-none P ls) (shares-all P ls (ranks-within P ro .0)) (shares-mono P ls) p k h l

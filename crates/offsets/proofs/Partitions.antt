@@ -16,7 +16,7 @@ use Rattle.encoding.proofs.Below.{tests, either, and-fst, and-snd, and-intro, i
 use Rattle.encoding.proofs.Pieces.{piece-length, bytes-piece, splice-next}
 use Rattle.encoding.proofs.Numbers.{bytes-length, value-bytes, bytes-value, put-next}
 use Rattle.offsets.specs.Limits.{maxTrees, rankCountOk, treeCountOk}
-use Rattle.offsets.specs.Table.{tableLength, ranks, ranksOk, entry, negative, magnitude, trees, firstTree, endTree, treeCount, entriesWithin, countsOk, valid}
+use Rattle.offsets.specs.Table.{tableLength, ranks, ranksOk, entry, negative, magnitude, trees, firstTree, endTree, treeCount, holds, entriesWithin, countsOk, valid}
 use Rattle.offsets.specs.Partition.{nonEmpty, onRank, lastTree, coversAll, coversOnly, ascending, validPartition, endBelow, rangesFit, entryOf, entriesBelow, tableOf, IsTable}
 use Rattle.offsets.specs.Sharing.{nearestLower, sharesWithLower}
 use Rattle.offsets.specs.Mirror.Ranges.{rangeFits, nextEnd, nextEntry, ranksFollow, rangesFitLinear}
@@ -564,6 +564,10 @@ module _ (first count : ℕ → ℕ) (P K : ℕ) (ro : rankCountOk P ≡ true) (
         firsts = λ p h c. first-read p h (count-some first count p c);
       }
 
+-- no number is from a up to b where b isn't above a
+span-none : (a b k : ℕ) → b ≤ a → (leb a k && ltb k b) ≡ false
+span-none a b k h = either (leb a k) (λ e. rw (e, le-ltb k b (omega tests))) (λ e. rw e)
+
 module _ (first count : ℕ → ℕ) (P : ℕ) (ro : rankCountOk P ≡ true) where
   module _ (K : ℕ) (t : List ℕ) (i : IsTable first count P K t) where
     ranks-are : ranks t ≡ P
@@ -585,6 +589,15 @@ module _ (first count : ℕ → ℕ) (P : ℕ) (ro : rankCountOk P ≡ true) whe
     table-fits =
         rw (← same-partition (firstTree t) (treeCount t) first count P K ranges-agree, ← i .treesAre, ← ranks-are)
         (table-partition t (i .bytes) ranks-ok (i .isValid))
+
+    -- the table's ranks hold the trees that the partition puts on them
+    pub table-holds : (p k : ℕ) → p < P → holds t p k ≡ onRank first count p k
+    unfolding holds onRank
+    table-holds p k h =
+        let c : firstTree t p + count p ≡ endTree t p = rw (i .counts p h) at (count-add t (i .bytes) ranks-ok (i .isValid) p (rw ranks-are h)) in
+        either (ltb 0 (count p))
+        (λ e. rw (← c, i .firsts p h (omega tests)))
+        (λ e. span-none (firstTree t p) (endTree t p) k (omega tests) ∙ sym (span-none (first p) (first p + count p) k (omega tests)))
 
   -- a valid partition has one table
   pub one-table : (K : ℕ) → treeCountOk K ≡ true → validPartition first count P K ≡ true

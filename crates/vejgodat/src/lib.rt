@@ -29,7 +29,12 @@ pub extern "C" fn vejgodat_table_range(table: &[u8], rank: u32) -> Range
 }
 
 #[no_mangle]
-pub extern "C" fn vejgodat_write_table(ranks: u32, first: &[u32], count: &[u32], out: &mut [u8]) -> Length
+pub extern "C" fn vejgodat_write_table(
+    ranks: u32,
+    first: &[u32],
+    count: &[u32],
+    out: &mut [u8],
+) -> Length
     ensures { λ r. ⌜ (r, now (out .exit)) ≡ writeTable ranks (now (first .entry)) (now (count .entry)) (now (out .entry)) ⌝ }
 {
     offsets::write_table(ranks, first, count, out)
@@ -43,7 +48,12 @@ pub extern "C" fn vejgodat_table_from_leaves(ranks: u32, leaves: &[u32], out: &m
 }
 
 #[no_mangle]
-pub extern "C" fn vejgodat_sender_of(old: &[u8], new: &[u8], tree: u32, receiver: u32) -> SenderAnswer
+pub extern "C" fn vejgodat_sender_of(
+    old: &[u8],
+    new: &[u8],
+    tree: u32,
+    receiver: u32,
+) -> SenderAnswer
     ensures { λ r. ⌜ r ≡ senderOf (now (old .entry)) (now (new .entry)) tree receiver ⌝ }
 {
     pattern::sender_of(old, new, tree, receiver)

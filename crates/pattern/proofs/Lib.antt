@@ -2,4 +2,5 @@
 pub mod Counting
 pub mod Senders
 pub mod Sets
+pub mod Laws
 pub mod Examples

@@ -1,4 +1,5 @@
-use Rattle.plan_text.proofs.Writing.{decimal-one, decimal-length, length-more}
+use Rattle.plan_text.proofs.Writing.{decimal-one, length-more}
+use Rattle.plan_text.proofs.Decimals.{decimal-least, decimal-most}
 use Rattle.plan_text.specs.Text.{decimal}
 use lib.ListN.{length}
 use native.Mathlib.Omega.{arith}
@@ -18,7 +19,7 @@ loop-holds : tie.Need-loop-holds Inv-loop μ-loop
 loop-holds c = (omega arith, omega arith)
 
 add-count : tie.Need-add-count Inv-loop μ-loop
-add-count c = omega (arith, decimal-length (c .before .before .args .n), decimal-length (c .before .loop .m))
+add-count c = omega (arith, decimal-most (c .before .before .args .n), decimal-least (c .before .loop .m))
 
 loop-less : tie.Need-loop-less Inv-loop μ-loop
 loop-less c = search needs
@@ -27,7 +28,7 @@ loop-again : tie.Need-loop-again Inv-loop μ-loop
 loop-again c = (omega arith, length-more _ _ _ (omega arith) (c .loop-test .taken) (c .before .loop .inv .1))
 
 returns : tie.Need-returns Inv-loop μ-loop
-returns c = let e = ap length (decimal-one (c .before .loop .m) (c .loop-test .left)) in (omega arith, omega (arith, decimal-length (c .before .before .args .n)))
+returns c = let e = ap length (decimal-one (c .before .loop .m) (c .loop-test .left)) in (omega arith, omega (arith, decimal-most (c .before .before .args .n)))
 
 pub decimal-length-spec : {M : Type 1} → statement M
 decimal-length-spec =

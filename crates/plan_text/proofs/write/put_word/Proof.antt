@@ -1,7 +1,7 @@
-use mathlib.Core.Path.{_≡_, refl}
-use Rattle.plan_text.proofs.Writing.{put-none, put-as, put-word-more, fits-byte}
+use mathlib.Core.Path.{_≡_, refl, sym}
+use Rattle.plan_text.proofs.Writing.{put-none, put-as, fits-turn, put-turn, word-more, fits-as}
 use Rattle.plan_text.specs.Mirror.Writing.{Put}
-use lib.Seq.{take-all}
+use lib.Seq.{take-all, take-length}
 use lib.ListN.{length, take}
 use native.Mathlib.Omega.{arith}
 use Prim.Native.Nat.{_-_, _≤_}
@@ -22,7 +22,7 @@ shared-slice-read-put-byte : tie.Need-shared-slice-read-put-byte Inv-loop μ-loo
 shared-slice-read-put-byte c = search needs
 
 put-byte-requires : tie.Need-put-byte-requires Inv-loop μ-loop
-put-byte-requires c κs = fits-byte _ _ (c .before .before .before .before .before .before .pre) (c .before .before .loop-test .taken) (c .before .before .before .loop .inv .1 .0)
+put-byte-requires c κs = let w = c .before .before .before .before .before .before .args .word .now in fits-turn (length w) (λ i. take i w) _ (word-more w) (c .before .before .before .loop .i) (c .before .before .loop-test .taken) (fits-as (sym (take-length w)) (c .before .before .before .before .before .before .pre)) (c .before .before .before .loop .inv .1 .0)
 
 add-i : tie.Need-add-i Inv-loop μ-loop
 add-i c = search needs
@@ -31,7 +31,7 @@ loop-less : tie.Need-loop-less Inv-loop μ-loop
 loop-less c = search needs
 
 loop-again : tie.Need-loop-again Inv-loop μ-loop
-loop-again c = (omega arith, (put-word-more _ _ (c .before .before .before .before .before .before .before .before .before .pre) (c .before .before .before .before .before .loop-test .taken) (c .before .before .before .before .before .before .loop .inv .1 .0) (c .before .before .put-byte .ensures), search needs))
+loop-again c = let w = c .before .before .before .before .before .before .before .before .before .args .word .now in (omega arith, (put-turn (length w) (λ i. take i w) _ (word-more w) (c .before .before .before .before .before .before .loop .i) (c .before .before .before .before .before .loop-test .taken) (fits-as (sym (take-length w)) (c .before .before .before .before .before .before .before .before .before .pre)) (c .before .before .before .before .before .before .loop .inv .1 .0) (c .before .before .put-byte .ensures), search needs))
 
 same-length : tie.Need-same-length Inv-loop μ-loop
 same-length c = search needs

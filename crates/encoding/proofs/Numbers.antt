@@ -15,7 +15,7 @@ use Rattle.encoding.specs.Below.{allBelow}
 use Rattle.encoding.specs.Words.{zeroAt}
 use Rattle.encoding.specs.Numbers.{leValue, leBytes, leAt, lePut}
 use Rattle.encoding.proofs.Below.{either, tests, all-same, all-add}
-use Rattle.encoding.proofs.Pieces.{piece-cons, piece-past, piece-add, piece-length, piece-most, bytes-piece, length-splice, splice-cons, splice-none, splice-then, piece-same, piece-below, piece-above}
+use Rattle.encoding.proofs.Pieces.{splice-next, piece-cons, piece-past, piece-add, piece-length, piece-most, bytes-piece, length-splice, splice-cons, splice-none, splice-then, piece-same, piece-below, piece-above}
 
 pub bytes-length : (w v : ℕ) → length (leBytes w v) ≡ w
 unfolding leBytes
@@ -199,3 +199,10 @@ row-zero w (suc n) bs off =
     let s : allBelow w (λ i. zeroAt bs (off + w * n + i)) ≡ allBelow w (λ i. zeroAt bs (off + (w * n + i))) =
     all-same w (λ i. zeroAt bs (off + w * n + i)) (λ i. zeroAt bs (off + (w * n + i))) (λ i h. ap (zeroAt bs) (add-assoc off (w * n) i)) in
     rw (mul-suc, all-add (w * n) w (λ i. zeroAt bs (off + i)), row-zero w n bs off, at-zero w bs (off + w * n), s)
+
+-- a number written behind what is written already
+pub put-next : (w v off : ℕ) (bs a : List ℕ) → length a ≡ off → off ≤ length bs → lePut w (splice bs 0 a) off v ≡ splice bs 0 (a ++ leBytes w v)
+unfolding lePut
+put-next w v off bs a l h =
+    let z : 0 + length a ≡ off = omega arith in
+    rw z at (splice-next bs 0 a (leBytes w v) (omega arith))

@@ -7,9 +7,13 @@ use lib.ListN.{length}
 use Rattle.encoding.specs.declared.answer.Length.{Length}
 use Rattle.encoding.specs.Pieces.{splice}
 
+-- the refusal alone
+abbrev pub lengthRefused : ℕ → Length
+lengthRefused refusal = record { refusal = refusal; length = 0 }
+
 -- the length n, or the refusal alone
 unfoldable pub lengthAnswer : ℕ → ℕ → Length
-lengthAnswer refusal n = cond (eqb refusal 0) (record { refusal = 0; length = n }) (record { refusal = refusal; length = 0 })
+lengthAnswer refusal n = cond (eqb refusal 0) (record { refusal = 0; length = n }) (lengthRefused refusal)
 
 -- the buffer: the object and the bytes behind it, or as it was
 unfoldable pub written : ℕ → List ℕ → List ℕ → List ℕ

@@ -16,10 +16,12 @@ use Rattle.encoding.proofs.Below.{tests, either, clash, and-fst, and-snd, and-i
 use Rattle.encoding.proofs.Pieces.{splice-none, splice-next}
 use Rattle.encoding.proofs.Numbers.{bytes-length, length-put}
 use Rattle.offsets.specs.Limits.{maxRanks, maxTrees, rankCountOk, treeCountOk}
-use Rattle.offsets.specs.Leaves.{maxLeaves, leavesOk, leafStart, leafTotal, cut, leafHolds, leafFirst, leafCount, equalShares}
+use Rattle.offsets.specs.Leaves.{maxLeaves, leavesOk, leafStart, leafTotal, cut, leafHolds, leafFirst, leafCount, equalShares, leafTable}
 use Rattle.offsets.specs.Mirror.Leaves.{treesBefore, sharedEntry, leafEntry, Walking}
 use Rattle.offsets.specs.Partition.{nonEmpty, onRank, lastTree, coversAll, coversOnly, ascending, validPartition, endBelow, entryOf, entriesBelow, tableOf}
 use Rattle.offsets.specs.Table.{tableLength}
+use Rattle.offsets.proofs.Tables.{ranks-within}
+use Rattle.offsets.proofs.Partitions.{table-length, entries-put, table-put}
 
 -- ---- the cut
 
@@ -440,40 +442,11 @@ pub share-is : (P : ℕ) (ls : List ℕ) (p : ℕ) {n r : ℕ} → n ≡ leafTot
 unfolding equalShares
 share-is P ls p e q = q ∙ ap (λ m. cut m p P) e
 
--- P is within its limits
-pub ranks-fit : (P : ℕ) → rankCountOk P ≡ true → (1 ≤ P) × (P ≤ maxRanks)
-unfolding rankCountOk
-ranks-fit P e = in-limits 1 P maxRanks e
-
 -- what the table from leaf counts is written from is a valid partition
 pub leaf-table-partition : (P : ℕ) (ls : List ℕ) → rankCountOk P ≡ true → leavesOk ls ≡ true → validPartition (leafFirst ls (equalShares P ls)) (leafCount ls (equalShares P ls)) P (length ls) ≡ true
-leaf-table-partition P ls h ok = leaf-partition ls ok P (equalShares P ls) (shares-none P ls) (shares-all P ls (ranks-fit P h .0)) (shares-mono P ls)
+leaf-table-partition P ls h ok = leaf-partition ls ok P (equalShares P ls) (shares-none P ls) (shares-all P ls (ranks-within P h .0)) (shares-mono P ls)
 
 -- ---- the table, written entry by entry
-
--- one more number behind those that are written
-put-next : (bs a : List ℕ) (at v : ℕ) → length a ≡ at → at + 8 ≤ length bs → putU64 (splice bs 0 a) at v ≡ splice bs 0 (a ++ leBytes 8 v)
-unfolding lePut
-put-next bs a at v e h =
-    let z : 0 + length a ≡ at = omega arith in
-    rw z at (splice-next bs 0 a (leBytes 8 v) (omega arith))
-
-module _ (first count : ℕ → ℕ) where
-  -- each entry has 8 bytes
-  entries-length : (p : ℕ) → length (entriesBelow first count p) ≡ 8 * p
-  unfolding entriesBelow
-  entries-length zero = refl
-  entries-length (suc p) = rw (length-append, entries-length p, bytes-length) (omega arith)
-
-  -- one more entry
-  entries-put : (bs : List ℕ) (p : ℕ) → 8 * p + 8 ≤ length bs → putU64 (splice bs 0 (entriesBelow first count p)) (8 * p) (entryOf first count p) ≡ splice bs 0 (entriesBelow first count (p + 1))
-  unfolding entriesBelow
-  entries-put bs p h = rw (add-one p) (put-next bs (entriesBelow first count p) (8 * p) (entryOf first count p) (entries-length p) h)
-
-  -- the last entry
-  table-put : (bs : List ℕ) (P : ℕ) → 8 * P + 8 ≤ length bs → putU64 (splice bs 0 (entriesBelow first count P)) (8 * P) (endBelow first count P) ≡ splice bs 0 (tableOf first count P)
-  unfolding tableOf
-  table-put bs P h = put-next bs (entriesBelow first count P) (8 * P) (endBelow first count P) (entries-length P) h
 
 -- bounds that ascend from no leaf to all leaves
 pub record Cuts (ls : List ℕ) (P : ℕ) (bound : ℕ → ℕ) : Type 0 where
@@ -484,7 +457,7 @@ pub record Cuts (ls : List ℕ) (P : ℕ) (bound : ℕ → ℕ) : Type 0 where
 
 -- equal shares are such bounds
 pub shares-cuts : (P : ℕ) (ls : List ℕ) → rankCountOk P ≡ true → leavesOk ls ≡ true → Cuts ls P (equalShares P ls)
-shares-cuts P ls h ok = record { ok = ok; from = shares-none P ls; to = shares-all P ls (ranks-fit P h .0); mono = shares-mono P ls }
+shares-cuts P ls h ok = record { ok = ok; from = shares-none P ls; to = shares-all P ls (ranks-within P h .0); mono = shares-mono P ls }
 
 -- the first p entries are written, and the walk is on its way to rank p
 pub record Writing (ls : List ℕ) (P : ℕ) (bound : ℕ → ℕ) (out₀ : List ℕ) (p tree start : ℕ) (out : List ℕ) : Type 0 where
@@ -521,7 +494,7 @@ module _ {ls : List ℕ} {P : ℕ} {bound : ℕ → ℕ} {out₀ : List ℕ} (cu
           reached = omega arith;
           passed = rw (et, el) (before-mono ls (cuts .ok) (bound p) (bound (p + 1)) (cuts .mono p (p + 1) (omega arith) (omega arith)) b);
           begins = es;
-          bytes = eo ∙ rw (w .bytes, m) (entries-put first count out₀ p f);
+          bytes = eo ∙ rw (w .bytes, m) (entries-put first count out₀ p (omega arith));
           size = ap length eo ∙ (length-put 8 out (8 * p) v g ∙ w .size);
         }
 
@@ -533,4 +506,8 @@ module _ {ls : List ℕ} {P : ℕ} {bound : ℕ → ℕ} {out₀ : List ℕ} (cu
         let f : 8 * P + 8 ≤ length out₀ = omega arith in
         let q : p ≡ P = omega (arith, w .reached) in
         let d : endBelow first count P ≡ length ls = leaf-end-all ls (cuts .ok) P bound (cuts .from) (cuts .to) (cuts .mono) in
-        e ∙ rw (w .bytes, q, ev, ← d) (table-put first count out₀ P f)
+        e ∙ rw (w .bytes, q, ev, ← d) (table-put first count out₀ P (omega arith))
+
+pub leaf-table-length : (P : ℕ) (ls : List ℕ) → length (leafTable P ls) ≡ tableLength P
+unfolding leafTable
+leaf-table-length P ls = table-length (leafFirst ls (equalShares P ls)) (leafCount ls (equalShares P ls)) P

@@ -14,7 +14,7 @@ use Rattle.encoding.specs.Pieces.{Bytes, piece, splice}
 use Rattle.encoding.specs.Numbers.{leValue, leBytes, leAt, lePut, putU64}
 use Rattle.encoding.proofs.Below.{tests, either, and-fst, and-snd, and-intro, iff-eq, below-suc, all-at, all-intro, all-more, all-fails, all-same, any-at, any-intro}
 use Rattle.encoding.proofs.Pieces.{piece-length, bytes-piece, splice-next}
-use Rattle.encoding.proofs.Numbers.{bytes-length, value-bytes, bytes-value}
+use Rattle.encoding.proofs.Numbers.{bytes-length, value-bytes, bytes-value, put-next}
 use Rattle.offsets.specs.Limits.{maxTrees, rankCountOk, treeCountOk}
 use Rattle.offsets.specs.Table.{tableLength, ranks, ranksOk, entry, negative, magnitude, trees, firstTree, endTree, treeCount, entriesWithin, countsOk, valid}
 use Rattle.offsets.specs.Partition.{nonEmpty, onRank, lastTree, coversAll, coversOnly, ascending, validPartition, endBelow, rangesFit, entryOf, entriesBelow, tableOf, IsTable}
@@ -316,6 +316,15 @@ module _ (first count : ℕ → ℕ) where
   unfolding tableOf
   table-length P = rw (length-append, entries-length P, bytes-length) (omega arith)
 
+  -- one more entry is written, then the last
+  pub entries-put : (bs : List ℕ) (p : ℕ) → 8 * p ≤ length bs → putU64 (splice bs 0 (entriesBelow first count p)) (8 * p) (entryOf first count p) ≡ splice bs 0 (entriesBelow first count (p + 1))
+  unfolding entriesBelow
+  entries-put bs p h = rw (add-one p) (put-next 8 (entryOf first count p) (8 * p) bs (entriesBelow first count p) (entries-length p) h)
+
+  pub table-put : (bs : List ℕ) (P : ℕ) → 8 * P ≤ length bs → putU64 (splice bs 0 (entriesBelow first count P)) (8 * P) (endBelow first count P) ≡ splice bs 0 (tableOf first count P)
+  unfolding tableOf
+  table-put bs P h = put-next 8 (endBelow first count P) (8 * P) bs (entriesBelow first count P) (entries-length P) h
+
   entries-bytes : (p : ℕ) → Bytes (entriesBelow first count p)
   unfolding entriesBelow
   entries-bytes zero = λ i. omega arith
@@ -591,13 +600,6 @@ module _ (first count : ℕ → ℕ) (P : ℕ) (ro : rankCountOk P ≡ true) whe
 
 -- ---- the loops of the code: e is the end that they carry
 
--- a number written behind what is written already
-put-next : (w v off : ℕ) (bs a : List ℕ) → length a ≡ off → off ≤ length bs → lePut w (splice bs 0 a) off v ≡ splice bs 0 (a ++ leBytes w v)
-unfolding lePut
-put-next w v off bs a l h =
-    let z : 0 + length a ≡ off = omega arith in
-    rw z at (splice-next bs 0 a (leBytes w v) (omega arith))
-
 module _ (first count : ℕ → ℕ) where
   -- to the next rank
   pub end-turn : (p e n : ℕ) → e ≡ endBelow first count p → n ≡ nextEnd e (first p) (count p) → n ≡ endBelow first count (p + 1)
@@ -623,12 +625,11 @@ module _ (first count : ℕ → ℕ) where
   module _ (bs out new : List ℕ) where
     pub write-turn : (p e v : ℕ) → e ≡ endBelow first count p → v ≡ nextEntry e (first p) (count p) → out ≡ splice bs 0 (entriesBelow first count p) → new ≡ putU64 out (8 * p) v
         → 8 * p ≤ length bs → new ≡ splice bs 0 (entriesBelow first count (p + 1))
-    unfolding entriesBelow entryOf nonEmpty nextEntry
-    write-turn p e v i h o n l = rw (add-one, n, o, h, i) (put-next 8 _ (8 * p) bs (entriesBelow first count p) (entries-length first count p) l)
+    unfolding entryOf nonEmpty nextEntry
+    write-turn p e v i h o n l = rw (n, o, h, i) (entries-put first count bs p l)
 
     pub write-done : (P p e : ℕ) → p ≤ P → P ≤ p → e ≡ endBelow first count p → out ≡ splice bs 0 (entriesBelow first count p) → new ≡ putU64 out (8 * P) e
         → 8 * P ≤ length bs → new ≡ splice bs 0 (tableOf first count P)
-    unfolding tableOf
     write-done P p e l k i o n h =
         let q : p ≡ P = omega arith in
-        rw (n, o, i, q) (put-next 8 _ (8 * P) bs (entriesBelow first count P) (entries-length first count P) h)
+        rw (n, o, i, q) (table-put first count bs P h)

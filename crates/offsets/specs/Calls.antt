@@ -1,6 +1,6 @@
 -- What each public call answers, refusals included, and what it leaves in the lent buffer.
 use Prim.Native.Nat.{ℕ}
-use mathlib.Core.Bool.{cond, _&&_}
+use mathlib.Core.Bool.{Bool, cond, _&&_}
 use mathlib.Core.List.{List, [], _∷_}
 use lib.Dec.{leb, ltb, eqb}
 use lib.ListN.{length, getD}
@@ -41,12 +41,16 @@ tableLengthAnswer P = lengthAnswer (firstFailed (check (rankCountOk P) 2 ∷ [])
 abbrev pub each : List ℕ → ℕ → ℕ
 each xs p = getD xs p 0
 
--- write the table of a partition: lists of P numbers whose ranges fit a table, and room for it
+-- a first tree and a count for each of P ranks, and ranges that fit a table
+unfoldable pub partitionOk : ℕ → List ℕ → List ℕ → Bool
+partitionOk P first count = eqb (length first) P && (eqb (length count) P && rangesFit (each first) (each count) P)
+
+-- write the table of a partition
 unfoldable pub writeRefusal : ℕ → List ℕ → List ℕ → List ℕ → ℕ
 writeRefusal P first count out =
     firstFailed
     (check (rankCountOk P) 2
-    ∷ check (eqb (length first) P && eqb (length count) P && rangesFit (each first) (each count) P) 6
+    ∷ check (partitionOk P first count) 6
     ∷ check (leb (tableLength P) (length out)) 22
     ∷ [])
 

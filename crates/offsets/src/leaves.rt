@@ -1,10 +1,11 @@
 // The table that leaf counts give.
+use crate::inner;
 ghost use mathlib.Core.Path.{_≡_};
 ghost use mathlib.Core.Bool.{true};
 ghost use Prim.Native.Nat.{_≤_, _<_, _^_};
 ghost use lib.ListN.{length};
 ghost use Rattle.encoding.specs.Pieces.{splice};
-ghost use Rattle.offsets.specs.Limits.{rankCountOk, treeCountOk};
+ghost use Rattle.offsets.specs.Limits.{rankCountOk};
 ghost use Rattle.offsets.specs.Table.{tableLength};
 ghost use Rattle.offsets.specs.Leaves.{leavesOk, leafStart, leafTotal, cut, leafTable};
 ghost use Rattle.offsets.specs.Mirror.Leaves.{countOk, treesBefore, sharedEntry, Walking};
@@ -21,12 +22,6 @@ fn wide(x: u32) -> u64
     x as u64
 }
 
-fn trees_ok(k: usize) -> bool
-    ensures { λ r. ⌜ r ≡ treeCountOk k ⌝ }
-{
-    (1 <= k) & (k <= 1048576)
-}
-
 fn count_ok(x: u32) -> bool
     ensures { λ r. ⌜ r ≡ countOk x ⌝ }
 {
@@ -37,7 +32,7 @@ pub fn leaves_ok(leaves: &[u32]) -> bool
     ensures { λ r. ⌜ r ≡ leavesOk (now (leaves .entry)) ⌝ }
 {
     let k = leaves.len();
-    if !trees_ok(k) {
+    if !inner::tree_count_ok(k as u64) {
         return false;
     }
     let mut i = 0;

@@ -1,5 +1,6 @@
 // Offset tables: which ranks hold which trees.
 ghost use mathlib.Core.Path.{_≡_};
+ghost use Rattle.encoding.specs.Answer.{lengthRefused};
 ghost use Rattle.offsets.specs.Calls.{rangeRefused, tableRefusal, tableRange, tableLengthAnswer, writeTable, tableFromLeaves};
 use encoding::answer::Length;
 
@@ -22,6 +23,12 @@ fn refused(refusal: u32) -> Range
         first: 0,
         count: 0,
     }
+}
+
+fn length_refused(refusal: u32) -> Length
+    ensures { λ r. ⌜ r ≡ lengthRefused refusal ⌝ }
+{
+    Length { refusal, length: 0 }
 }
 
 // Check a table (2, 3): 0 or the refusal.
@@ -65,13 +72,54 @@ pub fn table_length(ranks: u32) -> Length
     ensures { λ r. ⌜ r ≡ tableLengthAnswer ranks ⌝ }
 {
     if !inner::rank_count_ok(ranks as usize) {
-        return Length {
-            refusal: 2,
-            length: 0,
-        };
+        return length_refused(2);
     }
     Length {
         refusal: 0,
         length: 8 * (ranks as u64 + 1),
+    }
+}
+
+// Write the table of a partition: a first tree and a count for each rank (2, 6, 22). The first of a rank with count 0 isn't read.
+pub fn write_table(ranks: u32, first: &[u32], count: &[u32], out: &mut [u8]) -> Length
+    ensures { λ r. ⌜ (r, now (out .exit)) ≡ writeTable ranks (now (first .entry)) (now (count .entry)) (now (out .entry)) ⌝ }
+{
+    let p = ranks as usize;
+    if !inner::rank_count_ok(p) {
+        return length_refused(2);
+    }
+    if !ranges::partition_ok(p, first, count) {
+        return length_refused(6);
+    }
+    let n = 8 * (p + 1);
+    if out.len() < n {
+        return length_refused(22);
+    }
+    ranges::write(p, first, count, out);
+    Length {
+        refusal: 0,
+        length: n as u64,
+    }
+}
+
+// Write the table that leaf counts give, one count for each tree (2, 6, 22).
+pub fn table_from_leaves(ranks: u32, leaves: &[u32], out: &mut [u8]) -> Length
+    ensures { λ r. ⌜ (r, now (out .exit)) ≡ tableFromLeaves ranks (now (leaves .entry)) (now (out .entry)) ⌝ }
+{
+    let p = ranks as usize;
+    if !inner::rank_count_ok(p) {
+        return length_refused(2);
+    }
+    if !leaves::leaves_ok(leaves) {
+        return length_refused(6);
+    }
+    let n = 8 * (p + 1);
+    if out.len() < n {
+        return length_refused(22);
+    }
+    leaves::write(p, leaves, out);
+    Length {
+        refusal: 0,
+        length: n as u64,
     }
 }

@@ -1,13 +1,13 @@
 // The table of a partition that is given by a first tree and a count for each rank.
+use crate::inner;
 use encoding::write_u64;
 ghost use mathlib.Core.Path.{_≡_};
 ghost use Prim.Native.Nat.{_≤_};
 ghost use lib.ListN.{length};
 ghost use Rattle.encoding.specs.Pieces.{splice};
-ghost use Rattle.offsets.specs.Limits.{treeCountOk};
 ghost use Rattle.offsets.specs.Table.{tableLength};
 ghost use Rattle.offsets.specs.Partition.{rangesFit, tableOf};
-ghost use Rattle.offsets.specs.Calls.{each};
+ghost use Rattle.offsets.specs.Calls.{each, partitionOk};
 ghost use Rattle.offsets.specs.Mirror.Ranges.{rangeFits, nextEnd, nextEntry};
 
 // Whether a rank follows the ranks below it, whose trees stop at `end`.
@@ -39,15 +39,8 @@ fn entry_of(end: u64, first: u32, count: u32) -> u64
     end
 }
 
-// Whether a number of trees is within its limits.
-fn tree_count_ok(trees: u64) -> bool
-    ensures { λ r. ⌜ r ≡ treeCountOk trees ⌝ }
-{
-    (1 <= trees) & (trees <= 1048576)
-}
-
 // Whether the ranges are a valid partition of a number of trees within its limits.
-pub fn ranges_fit(ranks: usize, first: &[u32], count: &[u32]) -> bool
+fn ranges_fit(ranks: usize, first: &[u32], count: &[u32]) -> bool
     requires { ⌜ (length (now first) ≡ ranks) × (length (now count) ≡ ranks) ⌝ }
     ensures { λ r. ⌜ r ≡ rangesFit (each (now (first .entry))) (each (now (count .entry))) ranks ⌝ }
 {
@@ -62,7 +55,20 @@ pub fn ranges_fit(ranks: usize, first: &[u32], count: &[u32]) -> bool
         end = next_end(end, f, n);
         p += 1;
     }
-    tree_count_ok(end)
+    inner::tree_count_ok(end)
+}
+
+// Whether the lists have an element for each rank, and their ranges fit a table.
+pub fn partition_ok(ranks: usize, first: &[u32], count: &[u32]) -> bool
+    ensures { λ r. ⌜ r ≡ partitionOk ranks (now (first .entry)) (now (count .entry)) ⌝ }
+{
+    if first.len() != ranks {
+        return false;
+    }
+    if count.len() != ranks {
+        return false;
+    }
+    ranges_fit(ranks, first, count)
 }
 
 // The table of the ranges, at the start of `out`.

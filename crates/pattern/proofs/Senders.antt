@@ -1,22 +1,21 @@
 -- Laws of the sender of a tree, and of the trees from one rank to another.
-use Prim.Native.Nat.{ℕ, zero, suc, _+_, _-_, _≤_, _<_, min, max}
+use Prim.Native.Nat.{ℕ, zero, suc, _+_, _-_, _≤_, _<_}
 use native.Mathlib.Nat.{le-refl, le-of-eq}
 use native.Mathlib.Omega.{arith}
-use mathlib.Core.Path.{_≡_, refl, sym, ap, _∙_}
+use mathlib.Core.Path.{_≡_, refl, sym, ap}
 use mathlib.Core.Bool.{Bool, true, false, cond, _&&_}
 use mathlib.Core.List.{List}
 use lib.Dec.{leb, ltb, eqb}
-use borrow.Author.Tests.{ltb-true, ltb-false, leb-true, eqb-true, eqb-false, lt-ltb, le-ltb, le-leb, lt-leb, eq-eqb, ne-eqb}
-use Rattle.encoding.specs.Below.{anyBelow, leastBelow, countBelow}
+use borrow.Author.Tests.{ltb-true, ltb-false, eqb-true, eqb-false, lt-ltb, le-ltb, eq-eqb, ne-eqb}
+use Rattle.encoding.specs.Below.{anyBelow, leastBelow}
 use Rattle.encoding.specs.Pieces.{Bytes}
-use Rattle.encoding.proofs.Below.{tests, either, clash, and-fst, and-snd, and-intro, iff-eq, any-intro, least-lt, least-at, least-below, least-is, least-none, any-none, count-range, count-none}
-use Rattle.pattern.proofs.Counting.{range-true, range-in, range-out, range-meet, count-span, least-span}
+use Rattle.encoding.proofs.Below.{tests, either, clash, and-fst, and-snd, and-intro, iff-eq, any-intro, least-lt, least-at, least-below, least-is}
 use Rattle.offsets.specs.Table.{ranks, ranksOk, valid, trees, entry, negative, magnitude, firstTree, endTree, holds}
 use Rattle.offsets.proofs.Tables.{ranks-low, zero-first, plain-magnitude, small-plain, plain-first, shared-first, end-next, end-trees, rises, last-end}
-use Rattle.pattern.specs.declared.Sender.{Sender}
 use Rattle.pattern.specs.declared.Sender.the-variants.{Rank, Nobody}
 use Rattle.pattern.specs.Sender.{Tables, leastHolder, sender, senderTo, sends, sentCount, sentFirst}
 use Rattle.pattern.specs.Mirror.{sentLow, sentHigh}
+use Rattle.pattern.proofs.Counting.{range-true, range-in, range-out, range-meet, count-span, least-span}
 
 -- ---- the trees of a rank
 
@@ -63,31 +62,38 @@ module _ (t : List ℕ) (b : Bytes t) (ok : ranksOk t ≡ true) (v : valid t ≡
   low-le (suc p) k h = rw (← end-next t p) (h p (le-refl (suc p)))
 
   module _ (k : ℕ) (h : k < trees t) where
-    found : anyBelow (ranks t) (λ p. ltb k (endTree t p)) ≡ true
+    abbrev after : ℕ → Bool
+    after p = ltb k (endTree t p)
+
+    found : anyBelow (ranks t) after ≡ true
     found =
         let P = ranks t in
         let l = ranks-low t b ok v in
         let e : suc (P - 1) ≡ P = omega arith in
-        any-intro P (λ p. ltb k (endTree t p)) (P - 1) (omega arith) (lt-ltb k (endTree t (P - 1)) (rw (end-next t (P - 1), e, last-end t b ok v) h))
+        any-intro P after (P - 1) (omega arith) (lt-ltb k (endTree t (P - 1)) (rw (end-next t (P - 1), e, last-end t b ok v) h))
+
+    found-low : magnitude (entry t (leastBelow (ranks t) after)) ≤ k
+    found-low = low-le (leastBelow (ranks t) after) k (λ q s. ltb-false k (endTree t q) (least-below (ranks t) after q s))
+
+    found-high : k < endTree t (leastBelow (ranks t) after)
+    found-high = ltb-true k _ (least-at (ranks t) after found)
 
     -- the least rank whose trees end after k, which a binary search finds
     pub least-end : leastHolder t k ≡ leastBelow (ranks t) (λ p. ltb k (endTree t p))
-    least-end =
-        let f : ℕ → Bool = λ p. ltb k (endTree t p) in
-        let i = leastBelow (ranks t) f in
-        holder-is i k (least-lt (ranks t) f found) (low-le i k (λ q s. ltb-false k (endTree t q) (least-below (ranks t) f q s))) (ltb-true k (endTree t i) (least-at (ranks t) f found))
+    least-end = holder-is (leastBelow (ranks t) after) k (least-lt (ranks t) after found) found-low found-high
 
     -- it is a rank
     pub holder-lt : leastHolder t k < ranks t
-    holder-lt = rw least-end (least-lt (ranks t) (λ p. ltb k (endTree t p)) found)
+    holder-lt = rw least-end (least-lt (ranks t) after found)
 
-    holder-low : magnitude (entry t (leastHolder t k)) ≤ k
-    holder-low = rw least-end (low-le _ k (λ q s. ltb-false k (endTree t q) (least-below (ranks t) (λ p. ltb k (endTree t p)) q s)))
+    -- k is from |O[p]| up to |O[p+1]|
+    pub holder-low : magnitude (entry t (leastHolder t k)) ≤ k
+    holder-low = rw least-end found-low
 
-    holder-high : k < endTree t (leastHolder t k)
-    holder-high = rw least-end (ltb-true k _ (least-at (ranks t) (λ p. ltb k (endTree t p)) found))
+    pub holder-high : k < endTree t (leastHolder t k)
+    holder-high = rw least-end found-high
 
-    -- and it holds k
+    -- it holds k
     pub holder-holds : holds t (leastHolder t k) k ≡ true
     holder-holds = holds-in t (leastHolder t k) k (omega (arith, holder-low, first-near (leastHolder t k) .0)) holder-high
 
@@ -104,7 +110,7 @@ module _ (t : List ℕ) (b : Bytes t) (ok : ranksOk t ≡ true) (v : valid t ≡
 abbrev shares : List ℕ → ℕ → ℕ → Bool
 shares old p q = ltb p q && (ltb (firstTree old q) (endTree old q) && ltb (firstTree old q) (endTree old p))
 
--- the trees that p sends to q where q needs them
+-- the trees that p sends to q, of those that q is to have
 abbrev senderLow : List ℕ → ℕ → ℕ → ℕ
 senderLow old p q = cond (eqb p q) (firstTree old p) (magnitude (entry old p))
 
@@ -112,6 +118,15 @@ abbrev senderHigh : List ℕ → ℕ → ℕ → ℕ
 senderHigh old p q = cond (shares old p q) (endTree old p - 1) (endTree old p)
 
 module _ (old new : List ℕ) (T : Tables old new) where
+  near : (p : ℕ) → (firstTree old p ≤ magnitude (entry old p)) × (magnitude (entry old p) ≤ firstTree old p + 1)
+  near = first-near old (T .oldBytes) (T .oldRanks) (T .oldValid)
+
+  before : (p q : ℕ) → p < q → q ≤ ranks old → endTree old p ≤ magnitude (entry old q)
+  before = end-before old (T .oldBytes) (T .oldRanks) (T .oldValid)
+
+  least-holds : (k : ℕ) → k < trees old → holds old (leastHolder old k) k ≡ true
+  least-holds = holder-holds old (T .oldBytes) (T .oldRanks) (T .oldValid)
+
   -- the sender is a rank
   pub sender-lt : (k q : ℕ) → k < trees old → q < ranks old → sender old k q < ranks old
   unfolding sender
@@ -120,7 +135,7 @@ module _ (old new : List ℕ) (T : Tables old new) where
   -- it holds the tree under the old table
   pub sender-holds : (k q : ℕ) → k < trees old → q < ranks old → holds old (sender old k q) k ≡ true
   unfolding sender
-  sender-holds k q h l = either (holds old q k) (λ e. rw e e) (λ e. rw e (holder-holds old (T .oldBytes) (T .oldRanks) (T .oldValid) k h))
+  sender-holds k q h l = either (holds old q k) (λ e. rw e e) (λ e. rw e (least-holds k h))
 
   -- a rank that holds the tree has it from itself
   pub sender-self : (k q : ℕ) → holds old q k ≡ true → sender old k q ≡ q
@@ -142,12 +157,6 @@ module _ (old new : List ℕ) (T : Tables old new) where
       (λ h. let d = sender-defined k q h in let z : _≡_ {A = ℕ} 0 1 = cc in absurd (omega arith))
       (λ h. h)
 
-  near : (p : ℕ) → (firstTree old p ≤ magnitude (entry old p)) × (magnitude (entry old p) ≤ firstTree old p + 1)
-  near = first-near old (T .oldBytes) (T .oldRanks) (T .oldValid)
-
-  before : (p q : ℕ) → p < q → q ≤ ranks old → endTree old p ≤ magnitude (entry old q)
-  before = end-before old (T .oldBytes) (T .oldRanks) (T .oldValid)
-
   -- to one rank, the sender never falls from tree to tree
   pub sender-rises : (j k q : ℕ) → j ≤ k → k < trees old → q < ranks old → sender old j q ≤ sender old k q
   sender-rises j k q l h r =
@@ -162,11 +171,20 @@ module _ (old new : List ℕ) (T : Tables old new) where
 
   -- ---- the trees from one rank to another
 
+  -- p sends q a tree where it is the sender of a tree of the new range
+  pub sends-true : (p q k : ℕ) → sends old new p q k ≡ true → (holds new q k ≡ true) × (sender old k q ≡ p)
+  unfolding sends
+  sends-true p q k e = (and-fst (holds new q k) (eqb (sender old k q) p) e, eqb-true (sender old k q) p (and-snd (holds new q k) (eqb (sender old k q) p) e))
+
+  pub sends-in : (q k : ℕ) → holds new q k ≡ true → sends old new (sender old k q) q k ≡ true
+  unfolding sends
+  sends-in q k e = and-intro (holds new q k) (eqb (sender old k q) (sender old k q)) e (eq-eqb (sender old k q) (sender old k q) refl)
+
   sender-own : (q k : ℕ) → k < trees old → eqb (sender old k q) q ≡ holds old q k
   unfolding sender
   sender-own q k h =
       either (holds old q k) (λ e. rw e (eq-eqb q q refl))
-      (λ e. rw e (ne-eqb (leastHolder old k) q (λ i. clash (rw i at (holder-holds old (T .oldBytes) (T .oldRanks) (T .oldValid) k h)) e)))
+      (λ e. rw e (ne-eqb (leastHolder old k) q (λ i. clash (rw i at (least-holds k h)) e)))
 
   shares-parts : (p q : ℕ) → shares old p q ≡ true → (p < q) × (firstTree old q < endTree old q) × (firstTree old q < endTree old p)
   shares-parts p q e =
@@ -175,29 +193,40 @@ module _ (old new : List ℕ) (T : Tables old new) where
 
   module _ (p q k : ℕ) (l : p < ranks old) (r : q < ranks old) (h : k < trees old) where
     -- what q holds itself, no other rank sends
+    held-above : p < q → holds old q k ≡ true → senderHigh old p q ≤ k
+    held-above c e =
+        let u = holds-true old q k e in
+        let d = before p q c (omega arith) in
+        let f : ltb (firstTree old q) (endTree old q) ≡ true = lt-ltb (firstTree old q) (endTree old q) (omega arith) in
+        either (ltb (firstTree old q) (endTree old p))
+        (λ g. rw (lt-ltb p q c, f, g) (omega (arith, near q)))
+        (λ g. rw (lt-ltb p q c, f, g) (omega tests))
+
     held : (p ≡ q → ⊥) → holds old q k ≡ true → magnitude (entry old p) ≤ k → senderHigh old p q ≤ k
     held n e m =
         let u = holds-true old q k e in
-        either (ltb p q)
-        (λ c. let d = before p q (ltb-true p q c) (omega arith) in
-        either (ltb (firstTree old q) (endTree old p))
-        (λ f. rw (c, f, lt-ltb (firstTree old q) (endTree old q) (omega arith)) (omega (arith, near q)))
-        (λ f. rw (c, f, lt-ltb (firstTree old q) (endTree old q) (omega arith)) (omega tests)))
-        (λ c. absurd (omega (tests, before q p (omega tests) (omega arith))))
+        either (ltb p q) (λ c. held-above (ltb-true p q c) e) (λ c. absurd (omega (tests, before q p (omega tests) (omega arith))))
+
+    -- the tree that q shares with p is one that q holds
+    not-last : shares old p q ≡ true → holds old q k ≡ false → k < endTree old p → k < endTree old p - 1
+    not-last c e x =
+        let s = shares-parts p q c in
+        let d = before p q (s .0) (omega arith) in
+        either (ltb k (firstTree old q)) (λ y. omega tests) (λ y. absurd (omega (tests, near q, holds-false old q k e (omega tests))))
+
+    less-shared : holds old q k ≡ false → ltb k (endTree old p) ≡ ltb k (senderHigh old p q)
+    less-shared e =
+        either (shares old p q)
+        (λ c. rw c (iff-eq (ltb k (endTree old p)) (ltb k (endTree old p - 1))
+        (λ x. lt-ltb k (endTree old p - 1) (not-last c e (ltb-true k (endTree old p) x))) (λ x. lt-ltb k (endTree old p) (omega tests))))
+        (λ c. rw c)
 
     other : (p ≡ q → ⊥) → eqb (sender old k q) p ≡ (leb (magnitude (entry old p)) k && ltb k (senderHigh old p q))
     unfolding sender
     other n =
         either (holds old q k)
         (λ e. rw (e, ne-eqb q p (λ i. n (sym i))) (sym (range-out (magnitude (entry old p)) (senderHigh old p q) k (held n e))))
-        (λ e. rw (e, holder-range old (T .oldBytes) (T .oldRanks) (T .oldValid) p k l h) (ap (λ c. leb (magnitude (entry old p)) k && c)
-        (either (shares old p q)
-        (λ c. let s = shares-parts p q c in
-        let d = before p q (s .0) (omega arith) in
-        rw c (iff-eq (ltb k (endTree old p)) (ltb k (endTree old p - 1))
-        (λ x. lt-ltb k (endTree old p - 1) (either (ltb k (firstTree old q)) (λ y. omega tests) (λ y. absurd (omega (tests, near q, holds-false old q k e (omega tests))))))
-        (λ x. lt-ltb k (endTree old p) (omega tests))))
-        (λ c. rw c))))
+        (λ e. rw (e, holder-range old (T .oldBytes) (T .oldRanks) (T .oldValid) p k l h, less-shared e))
 
     -- the trees whose sender to q is p are one range
     sender-range : eqb (sender old k q) p ≡ (leb (senderLow old p q) k && ltb k (senderHigh old p q))

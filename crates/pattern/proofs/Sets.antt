@@ -1,12 +1,12 @@
 -- Laws of the send set and the receive set.
 use Prim.Native.Nat.{ℕ, _+_, _-_, _*_, _≤_, _<_}
 use native.Mathlib.Omega.{arith}
-use mathlib.Core.Path.{_≡_, refl, sym, _∙_}
+use mathlib.Core.Path.{_≡_, sym, _∙_}
 use mathlib.Core.Bool.{Bool, true, _&&_, _||_}
 use mathlib.Core.List.{List}
 use lib.Dec.{leb, ltb, eqb}
 use lib.ListN.{length, getD}
-use borrow.Author.Tests.{ltb-true, eqb-true, eqb-false, lt-ltb, eq-eqb}
+use borrow.Author.Tests.{ltb-true, eqb-true, eqb-false, lt-ltb}
 use Rattle.encoding.specs.Below.{anyBelow, countBelow, sumBelow, member}
 use Rattle.encoding.proofs.Below.{tests, either, and-fst, and-snd, and-intro, iff-eq, any-intro, any-at, kept-member, kept-length, kept-ascends}
 use Rattle.offsets.specs.Table.{ranks, trees, entry, magnitude, firstTree, endTree, treeCount, holds}
@@ -15,7 +15,7 @@ use Rattle.pattern.specs.Sender.{Tables, sender, sends, sentFirst, sentC
 use Rattle.pattern.specs.Sets.{sendsTo, sendSet, getsFrom, receiveSet}
 use Rattle.pattern.specs.Mirror.{sentLow, sentHigh}
 use Rattle.pattern.proofs.Counting.{range-true, range-in, range-out, any-span, count-one, pairs-three}
-use Rattle.pattern.proofs.Senders.{holds-true, holds-in, first-near, end-before, sender-lt, sender-holds, sends-range, sent-high, sent-count, sent-first, sent-other, sent-new}
+use Rattle.pattern.proofs.Senders.{holds-true, holds-in, first-near, end-before, sender-lt, sender-holds, sends-true, sends-in, sends-range, sent-high, sent-count, sent-first, sent-other, sent-new}
 
 -- ---- the two lists
 
@@ -130,25 +130,15 @@ module _ (old new : List ℕ) (T : Tables old new) where
   -- each tree of the new range of q has one sender, a holder under the old table
   pub one-sender : (q k : ℕ) → q < ranks old → holds new q k ≡ true
       → (p : ℕ) × (p < ranks old) × (sends old new p q k ≡ true) × (holds old p k ≡ true) × ((r : ℕ) → sends old new r q k ≡ true → r ≡ p)
-  unfolding sends
   one-sender q k l e =
       let h = new-below q k l e in
-      let p = sender old k q in (
-        p,
-        sender-lt old new T k q h l,
-        and-intro (holds new q k) (eqb p p) e (eq-eqb p p refl),
-        sender-holds old new T k q h l,
-        (λ r s. sym (eqb-true p r (and-snd (holds new q k) (eqb p r) s))),
-      )
+      (sender old k q, sender-lt old new T k q h l, sends-in old new T q k e, sender-holds old new T k q h l, (λ r s. sym (sends-true old new T r q k s .1)))
 
   -- no tree comes to q from two ranks
   pub received-disjoint : (p r q k : ℕ) → p < ranks old → r < ranks old → q < ranks old
       → sentFirst old new p q ≤ k → k < sentFirst old new p q + sentCount old new p q
       → sentFirst old new r q ≤ k → k < sentFirst old new r q + sentCount old new r q → p ≡ r
-  unfolding sends
-  received-disjoint p r q k lp lr lq a b c d =
-      sym (eqb-true (sender old k q) p (and-snd (holds new q k) (eqb (sender old k q) p) (sent-in p q lp lq k a b)))
-      ∙ eqb-true (sender old k q) r (and-snd (holds new q k) (eqb (sender old k q) r) (sent-in r q lr lq k c d))
+  received-disjoint p r q k lp lr lq a b c d = sym (sends-true old new T p q k (sent-in p q lp lq k a b) .1) ∙ sends-true old new T r q k (sent-in r q lr lq k c d) .1
 
   -- each tree of the new range of q is in the range from a rank of its receive set
   pub received-covers : (q k : ℕ) → q < ranks old → holds new q k ≡ true
@@ -160,12 +150,12 @@ module _ (old new : List ℕ) (T : Tables old new) where
       let p = s .0 in
       let n : p < ranks old = s .1 in
       let i = range-true (sentFirst old new p q) (sentFirst old new p q + sentCount old new p q) k (sym (one-range p q n l k h) ∙ s .2) in
-      (p, sym (symmetric p q n l) ∙ rw (send-member old new p q) (and-intro (ltb q (ranks old)) (sendsTo old new p q) (lt-ltb q (ranks old) l) (any-intro (trees old) (sends old new p q) k h (s .2))), i .0, i .1)
+      let m : member q (sendSet old new p) ≡ true = rw (send-member old new p q, lt-ltb q (ranks old) l) (any-intro (trees old) (sends old new p q) k h (s .2)) in
+      (p, sym (symmetric p q n l) ∙ m, i .0, i .1)
 
   -- and no other tree is
   pub received-only : (p q k : ℕ) → p < ranks old → q < ranks old → sentFirst old new p q ≤ k → k < sentFirst old new p q + sentCount old new p q → holds new q k ≡ true
-  unfolding sends
-  received-only p q k lp lq a b = and-fst (holds new q k) (eqb (sender old k q) p) (sent-in p q lp lq k a b)
+  received-only p q k lp lq a b = sends-true old new T p q k (sent-in p q lp lq k a b) .0
 
   -- ---- the number of messages
 

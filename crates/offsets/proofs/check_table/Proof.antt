@@ -5,30 +5,21 @@ use mathlib.Core.Path.{_∙_, sym}
 use borrow.Author.Needs.{needs}
 use Rattle.offsets.proofs.check_table.Statement.{statement}
 use Rattle.offsets.proofs.check_table.Tie as tie
-use Rattle.offsets.proofs.check_table.Reads as reads
-use Rattle.offsets.proofs.check_table.Lts as lts
-use Rattle.offsets.proofs.inner.ranks_ok.Reads as ranks-ok-reads
-use Rattle.offsets.proofs.inner.valid.Reads as valid-reads
 
--- src/lib.rt:32:9
 ranks-ok-requires : tie.Need-ranks-ok-requires
 ranks-ok-requires c κs = search needs
 
--- src/lib.rt:33:9
 returns : tie.Need-returns
 unfolding tableRefusal firstFailed
 returns c = simp (← c .before .ranks-ok .ensures, not-true (c .before .ranks-ok .result) (c .if1 .taken))
 
--- src/lib.rt:35:9
 valid-requires : tie.Need-valid-requires
 valid-requires c κs = sym (c .before .ranks-ok .ensures) ∙ not-false _ (c .if1 .left)
 
--- src/lib.rt:36:9
 returns-2 : tie.Need-returns-2
 unfolding tableRefusal firstFailed
 returns-2 c = simp (← c .before .before .before .ranks-ok .ensures, not-false (c .before .before .before .ranks-ok .result) (c .before .before .if1 .left), ← c .before .valid .ensures, not-true (c .before .valid .result) (c .if2 .taken))
 
--- src/lib.rt:29:1
 returns-3 : tie.Need-returns-3
 unfolding tableRefusal firstFailed
 returns-3 c = simp (← c .before .before .before .ranks-ok .ensures, not-false (c .before .before .before .ranks-ok .result) (c .before .before .if1 .left), ← c .before .valid .ensures, not-false (c .before .valid .result) (c .if2 .left))

@@ -10,82 +10,63 @@ use mathlib.Core.Path.{_∙_, sym, ap}
 use borrow.Author.Needs.{needs}
 use Rattle.offsets.proofs.table_range.Statement.{statement}
 use Rattle.offsets.proofs.table_range.Tie as tie
-use Rattle.offsets.proofs.table_range.Reads as reads
-use Rattle.offsets.proofs.table_range.Lts as lts
-use Rattle.offsets.proofs.inner.end_tree.Reads as end-tree-reads
-use Rattle.offsets.proofs.inner.first_tree.Reads as first-tree-reads
-use Rattle.offsets.proofs.inner.ranks.Reads as ranks-reads
-use Rattle.offsets.proofs.inner.ranks_ok.Reads as ranks-ok-reads
-use Rattle.offsets.proofs.inner.valid.Reads as valid-reads
-use Rattle.offsets.proofs.refused.Reads as refused-reads
 
--- src/lib.rt:45:9
 ranks-ok-requires : tie.Need-ranks-ok-requires
 ranks-ok-requires c κs = search needs
 
--- src/lib.rt:46:9
 refused-requires : tie.Need-refused-requires
 refused-requires c κs = search needs
 
--- src/lib.rt:46:9
 returns : tie.Need-returns
 unfolding tableRange rangeRefusal rangeAnswer firstFailed
 returns c = simp (c .refused .ensures, ← c .before .before .ranks-ok .ensures, not-true (c .before .before .ranks-ok .result) (c .before .if1 .taken))
 
--- src/lib.rt:48:9
 valid-requires : tie.Need-valid-requires
 valid-requires c κs = sym (c .before .ranks-ok .ensures) ∙ not-false _ (c .if1 .left)
 
--- src/lib.rt:49:9
 refused-requires-2 : tie.Need-refused-requires-2
 refused-requires-2 c κs = search needs
 
--- src/lib.rt:49:9
 returns-2 : tie.Need-returns-2
 unfolding tableRange rangeRefusal rangeAnswer firstFailed
 returns-2 c = simp (c .refused2 .ensures, ← c .before .before .before .before .ranks-ok .ensures, not-false (c .before .before .before .before .ranks-ok .result) (c .before .before .before .if1 .left), ← c .before .before .valid .ensures, not-true (c .before .before .valid .result) (c .before .if2 .taken))
 
--- src/lib.rt:52:8
 ranks-requires : tie.Need-ranks-requires
 ranks-requires c κs = sym (c .before .before .before .ranks-ok .ensures) ∙ not-false _ (c .before .before .if1 .left)
 
--- src/lib.rt:53:9
 refused-requires-3 : tie.Need-refused-requires-3
 refused-requires-3 c κs = search needs
 
--- src/lib.rt:53:9
 returns-3 : tie.Need-returns-3
 unfolding tableRange rangeRefusal rangeAnswer firstFailed
 returns-3 c = simp (c .refused3 .ensures, ← c .before .before .before .before .before .before .ranks-ok .ensures, not-false (c .before .before .before .before .before .before .ranks-ok .result) (c .before .before .before .before .before .if1 .left), ← c .before .before .before .before .valid .ensures, not-false (c .before .before .before .before .valid .result) (c .before .before .before .if2 .left), ← (c .before .before .ranks .ensures .0), le-ltb (c .before .before .before .before .before .before .before .before .args .rank) (c .before .before .ranks .result) (c .before .if3 .taken))
 
--- src/lib.rt:55:9
 first-tree-requires : tie.Need-first-tree-requires
 first-tree-requires c κs = search needs
 
--- src/lib.rt:56:9
 end-tree-requires : tie.Need-end-tree-requires
 end-tree-requires c κs = search needs
 
-range : (c : tie.After-end-tree)
-    → (firstTree (c .before .before .before .before .before .before .before .before .before .args .table .now) (c .before .before .before .before .before .before .before .before .before .args .rank) ≤ endTree (c .before .before .before .before .before .before .before .before .before .args .table .now) (c .before .before .before .before .before .before .before .before .before .args .rank)) × (endTree (c .before .before .before .before .before .before .before .before .before .args .table .now) (c .before .before .before .before .before .before .before .before .before .args .rank) ≤ maxTrees)
-range c = range-fits (c .before .before .before .before .before .before .before .before .before .args .table .now) _ _ (λ i. c .before .before .before .before .before .before .before .before .shared-slice-known .given i .fits) (sym (c .before .before .before .before .before .before .before .ranks-ok .ensures) ∙ not-false _ (c .before .before .before .before .before .before .if1 .left)) (sym (c .before .before .before .before .before .valid .ensures) ∙ not-false _ (c .before .before .before .before .if2 .left)) (c .before .before .before .ranks .ensures .0) (c .before .before .if3 .left)
+abbrev start : tie.After-end-tree → tie.Start
+start c = c .before .before .before .before .before .before .before .before .before
 
--- src/lib.rt:59:16
+-- the rank's range fits 32 bits
+range : (c : tie.After-end-tree)
+    → (firstTree (start c .args .table .now) (start c .args .rank) ≤ endTree (start c .args .table .now) (start c .args .rank)) × (endTree (start c .args .table .now) (start c .args .rank) ≤ maxTrees)
+range c = range-fits (start c .args .table .now) _ _ (λ i. c .before .before .before .before .before .before .before .before .shared-slice-known .given i .fits) (sym (c .before .before .before .before .before .before .before .ranks-ok .ensures) ∙ not-false _ (c .before .before .before .before .before .before .if1 .left)) (sym (c .before .before .before .before .before .valid .ensures) ∙ not-false _ (c .before .before .before .before .if2 .left)) (c .before .before .before .ranks .ensures .0) (c .before .before .if3 .left)
+
 cast-t9 : tie.Need-cast-t9
 cast-t9 c = omega (arith, range c, c .before .first-tree .ensures, c .end-tree .ensures)
 
--- src/lib.rt:60:17
 sub-t10 : tie.Need-sub-t10
 sub-t10 c = omega (arith, range c, c .before .first-tree .ensures, c .end-tree .ensures)
 
--- src/lib.rt:60:16
 cast-t11 : tie.Need-cast-t11
 cast-t11 c = omega (arith, range c, c .before .first-tree .ensures, c .end-tree .ensures)
 
--- src/lib.rt:42:1
 returns-4 : tie.Need-returns-4
 unfolding tableRange rangeRefusal rangeAnswer firstFailed treeCount
-returns-4 c = simp (← c .before .before .before .before .before .before .before .ranks-ok .ensures, not-false (c .before .before .before .before .before .before .before .ranks-ok .result) (c .before .before .before .before .before .before .if1 .left), ← c .before .before .before .before .before .valid .ensures, not-false (c .before .before .before .before .before .valid .result) (c .before .before .before .before .if2 .left), ← (c .before .before .before .ranks .ensures .0), lt-ltb (c .before .before .before .before .before .before .before .before .before .args .rank) (c .before .before .before .ranks .result) (c .before .before .if3 .left), c .before .first-tree .ensures, c .end-tree .ensures)
+returns-4 c = simp (← c .before .before .before .before .before .before .before .ranks-ok .ensures, not-false (c .before .before .before .before .before .before .before .ranks-ok .result) (c .before .before .before .before .before .before .if1 .left), ← c .before .before .before .before .before .valid .ensures, not-false (c .before .before .before .before .before .valid .result) (c .before .before .before .before .if2 .left), ← (c .before .before .before .ranks .ensures .0), lt-ltb (start c .args .rank) (c .before .before .before .ranks .result) (c .before .before .if3 .left), c .before .first-tree .ensures, c .end-tree .ensures)
 
 pub table-range-spec : {M : Type 1} → statement M
 table-range-spec =

@@ -10,10 +10,6 @@ use Prim.Native.Nat.{_≤_, _-_}
 use borrow.Author.Needs.{needs}
 use Rattle.offsets.proofs.inner.entries_ok.Statement.{statement}
 use Rattle.offsets.proofs.inner.entries_ok.Tie as tie
-use Rattle.offsets.proofs.inner.entries_ok.Reads as reads
-use Rattle.offsets.proofs.inner.entries_ok.Lts as lts
-use Rattle.offsets.proofs.inner.entry.Reads as entry-reads
-use Rattle.offsets.proofs.inner.entry_ok.Reads as entry-ok-reads
 
 abbrev Inv-loop : tie.InvT-loop
 Inv-loop t ranks trees p₀ p = (p ≤ ranks) × (allBelow p (entryOkAt t trees) ≡ true)
@@ -21,44 +17,34 @@ Inv-loop t ranks trees p₀ p = (p ≤ ranks) × (allBelow p (entryOkAt t trees)
 abbrev μ-loop : tie.MeasureT-loop
 μ-loop t ranks trees p₀ p = ranks - p
 
--- src/inner.rt:95:5
 loop-holds : tie.Need-loop-holds Inv-loop μ-loop
 unfolding allBelow
 loop-holds c = search needs
 
--- src/inner.rt:96:13
 entry-requires : tie.Need-entry-requires Inv-loop μ-loop
 entry-requires c κs = search needs
 
--- src/inner.rt:97:29
 add-entry : tie.Need-add-entry Inv-loop μ-loop
 add-entry c = search needs
 
--- src/inner.rt:97:13
 entry-requires-2 : tie.Need-entry-requires-2 Inv-loop μ-loop
 entry-requires-2 c κs = search needs
 
--- src/inner.rt:98:13
 entry-ok-requires : tie.Need-entry-ok-requires Inv-loop μ-loop
 entry-ok-requires c κs = search needs
 
--- src/inner.rt:99:13
 returns : tie.Need-returns Inv-loop μ-loop
 returns c = sym (all-fails _ _ _ (c .before .before .before .before .loop-test .taken) (sym (entry-turn _ _ _ _ _ _ (c .before .before .before .entry .ensures) (c .before .before .entry2 .ensures) (c .before .entry-ok .ensures)) ∙ not-true _ (c .if1 .taken)))
 
--- src/inner.rt:101:9
 add-p : tie.Need-add-p Inv-loop μ-loop
 add-p c = search needs
 
--- src/inner.rt:95:5
 loop-less : tie.Need-loop-less Inv-loop μ-loop
 loop-less c = search needs
 
--- src/inner.rt:95:5
 loop-again : tie.Need-loop-again Inv-loop μ-loop
 loop-again c = (omega arith, all-more _ _ (c .before .before .before .before .before .loop .inv .1) (sym (entry-turn _ _ _ _ _ _ (c .before .before .before .entry .ensures) (c .before .before .entry2 .ensures) (c .before .entry-ok .ensures)) ∙ not-false _ (c .if1 .left)))
 
--- src/inner.rt:90:1
 returns-2 : tie.Need-returns-2 Inv-loop μ-loop
 returns-2 c = sym (all-to _ _ _ (c .before .loop .inv .0) (omega arith) (c .before .loop .inv .1))
 

@@ -5,47 +5,33 @@ use mathlib.Core.Path.{sym, refl, ap, _∙_}
 use borrow.Author.Needs.{needs}
 use Rattle.offsets.proofs.inner.entry_ok.Statement.{statement}
 use Rattle.offsets.proofs.inner.entry_ok.Tie as tie
-use Rattle.offsets.proofs.inner.entry_ok.Reads as reads
-use Rattle.offsets.proofs.inner.entry_ok.Lts as lts
-use Rattle.offsets.proofs.inner.first_of.Reads as first-of-reads
-use Rattle.offsets.proofs.inner.magnitude.Reads as magnitude-reads
-use Rattle.offsets.proofs.inner.negative.Reads as negative-reads
 
--- src/inner.rt:81:16
 magnitude-requires : tie.Need-magnitude-requires
 magnitude-requires c κs = search needs
 
--- src/inner.rt:82:9
 returns : tie.Need-returns
 unfolding entryOk
 returns c = simp (← c .before .magnitude .ensures, lt-leb _ _ (c .if1 .taken))
 
--- src/inner.rt:84:8
 negative-requires : tie.Need-negative-requires
 negative-requires c κs = search needs
 
--- src/inner.rt:85:16
 first-of-requires : tie.Need-first-of-requires
 first-of-requires c κs = search needs
 
--- src/inner.rt:85:30
 magnitude-requires-2 : tie.Need-magnitude-requires-2
 magnitude-requires-2 c κs = search needs
 
--- src/inner.rt:85:9
 returns-2 : tie.Need-returns-2
 unfolding entryOk
 returns-2 c = simp (← c .before .before .before .before .before .magnitude .ensures, ← c .before .before .before .negative .ensures, ← c .before .first-of .ensures, ← c .magnitude2 .ensures, le-leb _ _ (c .before .before .before .before .if1 .left), c .before .before .if2 .taken)
 
--- src/inner.rt:87:5
 first-of-requires-2 : tie.Need-first-of-requires-2
 first-of-requires-2 c κs = search needs
 
--- src/inner.rt:87:20
 magnitude-requires-3 : tie.Need-magnitude-requires-3
 magnitude-requires-3 c κs = search needs
 
--- src/inner.rt:78:1
 returns-3 : tie.Need-returns-3
 unfolding entryOk
 returns-3 c = simp (← c .before .before .before .before .before .magnitude .ensures, ← c .before .before .before .negative .ensures, ← c .before .first-of2 .ensures, ← c .magnitude3 .ensures, le-leb _ _ (c .before .before .before .before .if1 .left), c .before .before .if2 .left)

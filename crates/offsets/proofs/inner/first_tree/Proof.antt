@@ -3,20 +3,13 @@ use mathlib.Core.Path.{_∙_, ap}
 use borrow.Author.Needs.{needs}
 use Rattle.offsets.proofs.inner.first_tree.Statement.{statement}
 use Rattle.offsets.proofs.inner.first_tree.Tie as tie
-use Rattle.offsets.proofs.inner.first_tree.Reads as reads
-use Rattle.offsets.proofs.inner.first_tree.Lts as lts
-use Rattle.offsets.proofs.inner.entry.Reads as entry-reads
-use Rattle.offsets.proofs.inner.first_of.Reads as first-of-reads
 
--- src/inner.rt:126:14
 entry-requires : tie.Need-entry-requires
 entry-requires c κs = search needs
 
--- src/inner.rt:126:5
 first-of-requires : tie.Need-first-of-requires
 first-of-requires c κs = search needs
 
--- src/inner.rt:122:1
 returns : tie.Need-returns
 unfolding firstTree
 returns c = c .first-of .ensures ∙ ap firstOf (c .before .entry .ensures)

@@ -6,28 +6,20 @@ use mathlib.Core.Path.{_∙_, sym, refl}
 use borrow.Author.Needs.{needs}
 use Rattle.offsets.proofs.inner.magnitude.Statement.{statement}
 use Rattle.offsets.proofs.inner.magnitude.Tie as tie
-use Rattle.offsets.proofs.inner.magnitude.Reads as reads
-use Rattle.offsets.proofs.inner.magnitude.Lts as lts
-use Rattle.offsets.proofs.inner.negative.Reads as negative-reads
 
--- src/inner.rt:62:8
 negative-requires : tie.Need-negative-requires
 negative-requires c κs = search needs
 
--- src/inner.rt:63:17
 sub-result : tie.Need-sub-result
 sub-result c = search needs
 
--- src/inner.rt:63:16
 add-result : tie.Need-add-result
 add-result c = let h = negative-high _ (sym (c .before .negative .ensures) ∙ c .if1 .taken) in omega arith
 
--- src/inner.rt:63:9
 returns : tie.Need-returns
 unfolding magnitude
 returns c = rw (sym (c .before .negative .ensures) ∙ c .if1 .taken) (omega arith)
 
--- src/inner.rt:59:1
 returns-2 : tie.Need-returns-2
 unfolding magnitude
 returns-2 c = rw (sym (c .before .negative .ensures) ∙ c .if1 .left)

@@ -2,10 +2,7 @@ use Rattle.offsets.specs.Table.{negative}
 use mathlib.Core.Path.{refl}
 use Rattle.offsets.proofs.inner.negative.Statement.{statement}
 use Rattle.offsets.proofs.inner.negative.Tie as tie
-use Rattle.offsets.proofs.inner.negative.Reads as reads
-use Rattle.offsets.proofs.inner.negative.Lts as lts
 
--- src/inner.rt:53:1
 returns : tie.Need-returns
 unfolding negative
 returns c = refl

@@ -2,10 +2,7 @@ use Rattle.offsets.specs.Limits.{rankCountOk}
 use mathlib.Core.Path.{refl}
 use Rattle.offsets.proofs.inner.rank_count_ok.Statement.{statement}
 use Rattle.offsets.proofs.inner.rank_count_ok.Tie as tie
-use Rattle.offsets.proofs.inner.rank_count_ok.Reads as reads
-use Rattle.offsets.proofs.inner.rank_count_ok.Lts as lts
 
--- src/inner.rt:14:1
 returns : tie.Need-returns
 unfolding rankCountOk
 returns c = refl

@@ -4,14 +4,10 @@ use Rattle.offsets.specs.Table.{ranks}
 use native.Mathlib.Omega.{arith}
 use Rattle.offsets.proofs.inner.ranks.Statement.{statement}
 use Rattle.offsets.proofs.inner.ranks.Tie as tie
-use Rattle.offsets.proofs.inner.ranks.Reads as reads
-use Rattle.offsets.proofs.inner.ranks.Lts as lts
 
--- src/inner.rt:42:5
 sub-result : tie.Need-sub-result
 sub-result c = let k = ranks-known _ (c .pre) in omega (arith, k .low, k .size)
 
--- src/inner.rt:38:1
 returns : tie.Need-returns
 unfolding ranks
 returns c = let k = ranks-known _ (c .pre) in (refl, (k .low, k .high, k .size))

@@ -2,10 +2,7 @@ use Rattle.offsets.specs.Limits.{treeCountOk}
 use mathlib.Core.Path.{refl}
 use Rattle.offsets.proofs.inner.tree_count_ok.Statement.{statement}
 use Rattle.offsets.proofs.inner.tree_count_ok.Tie as tie
-use Rattle.offsets.proofs.inner.tree_count_ok.Reads as reads
-use Rattle.offsets.proofs.inner.tree_count_ok.Lts as lts
 
--- src/inner.rt:20:1
 returns : tie.Need-returns
 unfolding treeCountOk
 returns c = refl

@@ -7,42 +7,28 @@ use mathlib.Core.Path.{sym, _∙_, ap, _≡_}
 use borrow.Author.Needs.{needs}
 use Rattle.offsets.proofs.inner.valid.Statement.{statement}
 use Rattle.offsets.proofs.inner.valid.Tie as tie
-use Rattle.offsets.proofs.inner.valid.Reads as reads
-use Rattle.offsets.proofs.inner.valid.Lts as lts
-use Rattle.offsets.proofs.inner.entries_ok.Reads as entries-ok-reads
-use Rattle.offsets.proofs.inner.entry.Reads as entry-reads
-use Rattle.offsets.proofs.inner.ranks.Reads as ranks-reads
-use Rattle.offsets.proofs.inner.tree_count_ok.Reads as tree-count-ok-reads
 
--- src/inner.rt:110:9
 ranks-requires : tie.Need-ranks-requires
 ranks-requires c κs = search needs
 
--- src/inner.rt:111:9
 entry-requires : tie.Need-entry-requires
 entry-requires c κs = search needs
 
--- src/inner.rt:112:8
 entry-requires-2 : tie.Need-entry-requires-2
 entry-requires-2 c κs = search needs
 
--- src/inner.rt:113:9
 returns : tie.Need-returns
 returns c = sym (not-from-zero _ (λ e. c .if1 .taken (c .before .entry2 .ensures ∙ e)))
 
--- src/inner.rt:115:9
 tree-count-ok-requires : tie.Need-tree-count-ok-requires
 tree-count-ok-requires c κs = search needs
 
--- src/inner.rt:116:9
 returns-2 : tie.Need-returns-2
 returns-2 c = let k = trees-read _ _ _ (c .before .before .before .before .before .ranks .ensures .0) (c .before .before .before .before .entry .ensures) in sym (not-in-limits _ (ap treeCountOk (sym k) ∙ (sym (c .before .tree-count-ok .ensures) ∙ not-true _ (c .if2 .taken))))
 
--- src/inner.rt:118:5
 entries-ok-requires : tie.Need-entries-ok-requires
 entries-ok-requires c κs = search needs
 
--- src/inner.rt:106:1
 returns-3 : tie.Need-returns-3
 returns-3 c = let k = trees-read _ _ _ (c .before .before .before .before .before .before .ranks .ensures .0) (c .before .before .before .before .before .entry .ensures) in entries-decide _ _ _ _ (c .before .before .before .before .before .before .ranks .ensures .0) k (sym (c .before .before .before .before .entry2 .ensures) ∙ c .before .before .before .if1 .left) (sym (c .before .before .tree-count-ok .ensures) ∙ not-false _ (c .before .if2 .left)) (c .entries-ok .ensures)
 

@@ -18,12 +18,12 @@ Inv-loop leaves k i₀ i = (i ≤ k) × (allBelow i (λ j. countOk (getD leaves 
 abbrev μ-loop : tie.MeasureT-loop
 μ-loop leaves k i₀ i = k - i
 
-trees-ok-requires : tie.Need-trees-ok-requires Inv-loop μ-loop
-trees-ok-requires c κs = search needs
+tree-count-ok-requires : tie.Need-tree-count-ok-requires Inv-loop μ-loop
+tree-count-ok-requires c κs = search needs
 
 returns : tie.Need-returns Inv-loop μ-loop
 unfolding leavesOk
-returns c = rw (sym (c .before .trees-ok .ensures) ∙ not-true _ (c .if1 .taken))
+returns c = rw (sym (c .before .tree-count-ok .ensures) ∙ not-true _ (c .if1 .taken))
 
 loop-holds : tie.Need-loop-holds Inv-loop μ-loop
 unfolding allBelow
@@ -53,7 +53,7 @@ loop-again c = (omega arith, all-more _ _ (c .before .before .before .before .lo
 
 returns-3 : tie.Need-returns-3 Inv-loop μ-loop
 unfolding leavesOk
-returns-3 c = rw (sym (c .before .before .before .trees-ok .ensures) ∙ not-false _ (c .before .before .if1 .left), all-to _ _ (c .before .loop .i) (c .before .loop .inv .0) (c .loop-test .left) (c .before .loop .inv .1))
+returns-3 c = rw (sym (c .before .before .before .tree-count-ok .ensures) ∙ not-false _ (c .before .before .if1 .left), all-to _ _ (c .before .loop .i) (c .before .loop .inv .0) (c .loop-test .left) (c .before .loop .inv .1))
 
 pub leaves-ok-spec : {M : Type 1} → statement M
 leaves-ok-spec =
@@ -61,7 +61,7 @@ leaves-ok-spec =
     (tie.spec
     Inv-loop
     μ-loop
-    trees-ok-requires
+    tree-count-ok-requires
     returns
     loop-holds
     mul-count-ok

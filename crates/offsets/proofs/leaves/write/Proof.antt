@@ -1,4 +1,5 @@
-use Rattle.offsets.proofs.LeafCounts.{ranks-fit, share-is, shares-cuts, begins-later, Writing, writing-none, writing-walk, writing-more, writing-done}
+use Rattle.offsets.proofs.LeafCounts.{share-is, shares-cuts, begins-later, Writing, writing-none, writing-walk, writing-more, writing-done}
+use Rattle.offsets.proofs.Tables.{ranks-within}
 use Rattle.offsets.specs.Leaves.{equalShares, leafTable}
 use native.Mathlib.Omega.{arith}
 use mathlib.Core.Path.{refl}
@@ -20,13 +21,13 @@ loop-holds : tie.Need-loop-holds Inv-loop μ-loop
 loop-holds c = writing-none (shares-cuts _ _ (c .before .before .before .pre .0) (c .before .before .before .pre .1 .0)) (c .before .before .before .pre .1 .1)
 
 cut-requires : tie.Need-cut-requires Inv-loop μ-loop
-cut-requires c κs = omega (arith, ranks-fit _ (c .before .before .before .before .before .pre .0))
+cut-requires c κs = omega (arith, ranks-within _ (c .before .before .before .before .before .pre .0))
 
 add-cut : tie.Need-add-cut Inv-loop μ-loop
-add-cut c = omega (arith, ranks-fit _ (c .before .before .before .before .before .before .pre .0))
+add-cut c = omega (arith, ranks-within _ (c .before .before .before .before .before .before .pre .0))
 
 cut-requires-2 : tie.Need-cut-requires-2 Inv-loop μ-loop
-cut-requires-2 c κs = omega (arith, ranks-fit _ (c .before .before .before .before .before .before .pre .0))
+cut-requires-2 c κs = omega (arith, ranks-within _ (c .before .before .before .before .before .before .pre .0))
 
 advance-requires : tie.Need-advance-requires Inv-loop μ-loop
 advance-requires c κs = writing-walk (shares-cuts _ _ (c .before .before .before .before .before .before .before .pre .0) (c .before .before .before .before .before .before .before .pre .1 .0)) (c .before .before .before .before .before .before .before .pre .1 .1) (c .before .before .before .loop .inv) (share-is _ _ _ (c .before .before .before .before .total .ensures .0) (c .before .cut .ensures .0))

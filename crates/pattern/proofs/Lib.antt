@@ -3,4 +3,5 @@ pub mod Counting
 pub mod Senders
 pub mod Sets
 pub mod Laws
+pub mod Answers
 pub mod Examples

@@ -1,12 +1,20 @@
 -- Values that mirror the code of inner functions. Each is proved equal to what the public definitions say.
-use Prim.Native.Nat.{ℕ, _+_, _-_, _<_, min, max}
+use Prim.Native.Nat.{ℕ, _+_, _-_, _^_, _≤_, _<_, min, max}
 use mathlib.Core.Path.{_≡_}
 use mathlib.Core.Bool.{Bool, true, cond, _&&_}
 use mathlib.Core.List.{List}
 use lib.Dec.{ltb, eqb}
+use lib.IntN.{pos}
+use lib.ListN.{length, getD}
 use Rattle.encoding.specs.Below.{keptBelow}
 use Rattle.offsets.specs.Table.{ranks, ranksOk, valid, trees, entry, magnitude, firstTree, endTree}
+use Rattle.pattern.specs.declared.Ranks.{Ranks}
+use Rattle.pattern.specs.declared.Sender.{Sender}
+use Rattle.pattern.specs.declared.Sender.the-variants.{Rank, Nobody}
+use Rattle.pattern.specs.declared.SenderAnswer.{SenderAnswer}
+use Rattle.pattern.specs.Calls.{setRefusal, setAnswer}
 use Rattle.pattern.specs.Sender.{Tables}
+use Rattle.pattern.specs.Sets.{sendsTo, getsFrom}
 
 -- ---- what inner functions require
 
@@ -44,14 +52,42 @@ unfoldable pub sentHigh : List ℕ → List ℕ → ℕ → ℕ → ℕ
 sentHigh old new p q =
     min (cond (ltb p q && (ltb (firstTree old q) (endTree old q) && ltb (firstTree old q) (endTree old p))) (endTree old p - 1) (endTree old p)) (endTree new q)
 
--- p sends q a tree
-unfoldable pub sendsSome : List ℕ → List ℕ → ℕ → ℕ → Bool
-sendsSome old new p q = ltb (sentLow old new p q) (sentHigh old new p q)
+-- the test in sentHigh: q, above p, shares the last tree of p
+abbrev pub sharesLast : List ℕ → ℕ → ℕ → Bool
+sharesLast old p q = ltb p q && (ltb (firstTree old q) (endTree old q) && ltb (firstTree old q) (endTree old p))
 
--- ---- the two sets of a rank by one test: from the rank to the other where it is sending, else from the other to the rank
+-- ---- the two sets of a rank by one test: to the other where the rank is sending, else from the other
 
 unfoldable pub inSet : List ℕ → List ℕ → ℕ → Bool → ℕ → Bool
-inSet old new rank sending other = cond sending (sendsSome old new rank other) (sendsSome old new other rank)
+inSet old new rank sending other = cond sending (sendsTo old new rank other) (getsFrom old new rank other)
 
 unfoldable pub rankSet : List ℕ → List ℕ → ℕ → Bool → List ℕ
 rankSet old new rank sending = keptBelow (ranks old) (inSet old new rank sending)
+
+-- what writing a set takes: room in the lent list
+pub record RoomFor (old new : List ℕ) (p : ℕ) (sending : Bool) (out : List ℕ) : Type 0 where
+  pub rank : RankOf old new p
+  pub room : length (rankSet old new p sending) ≤ length out
+
+-- either call for a set
+unfoldable pub rankSetOf : List ℕ → List ℕ → ℕ → Bool → List ℕ → Ranks × List ℕ
+rankSetOf old new rank sending out = setAnswer (setRefusal old new rank (rankSet old new rank sending) out) (rankSet old new rank sending) out
+
+-- ---- answers
+
+-- the refusal alone
+abbrev pub senderRefused : ℕ → SenderAnswer
+senderRefused refusal = record { refusal = refusal; sender = pos 0 }
+
+abbrev pub ranksRefused : ℕ → Ranks
+ranksRefused refusal = record { refusal = refusal; count = 0; smallest = pos 0; largest = pos 0 }
+
+-- a sender whose number fits 32 bits with a sign
+unfoldable pub senderFits : Sender → Bool
+senderFits (Rank p) = ltb p (2 ^ 31)
+senderFits Nobody = true
+
+-- a list whose length and numbers fit 32 bits with a sign
+pub record SmallNumbers (set : List ℕ) : Type 0 where
+  pub few : length set < 2 ^ 31
+  pub small : (i : ℕ) → i < length set → getD set i 0 < 2 ^ 31

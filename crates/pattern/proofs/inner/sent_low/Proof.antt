@@ -5,43 +5,29 @@ use Rattle.pattern.proofs.Laws.{sender-row, receiver-new-row}
 use borrow.Author.Needs.{needs}
 use Rattle.pattern.proofs.inner.sent_low.Statement.{statement}
 use Rattle.pattern.proofs.inner.sent_low.Tie as tie
-use Rattle.pattern.proofs.inner.sent_low.Reads as reads
-use Rattle.pattern.proofs.inner.sent_low.Lts as lts
-use Rattle.offsets.proofs.inner.entry.Reads as entry-reads
-use Rattle.offsets.proofs.inner.first_tree.Reads as first-tree-reads
-use Rattle.offsets.proofs.inner.magnitude.Reads as magnitude-reads
-use Rattle.pattern.proofs.inner.larger.Reads as larger-reads
 
--- src/inner.rt:61:9
 first-tree-requires : tie.Need-first-tree-requires
 first-tree-requires c κs = omega (arith, receiver-new-row (c .before .before .pre))
 
--- src/inner.rt:63:23
 first-tree-requires-2 : tie.Need-first-tree-requires-2
 first-tree-requires-2 c κs = omega (arith, sender-row (c .before .before .before .before .pre))
 
--- src/inner.rt:63:9
 larger-requires : tie.Need-larger-requires
 larger-requires c κs = search needs
 
--- src/inner.rt:63:9
 returns : tie.Need-returns
 unfolding sentLow
 returns c = simp (c .larger .ensures, c .before .first-tree2 .ensures, c .before .before .before .first-tree .ensures, eq-eqb _ _ (c .before .before .if1 .taken))
 
--- src/inner.rt:65:22
 entry-requires : tie.Need-entry-requires
 entry-requires c κs = omega (arith, sender-row (c .before .before .before .before .pre))
 
--- src/inner.rt:65:12
 magnitude-requires : tie.Need-magnitude-requires
 magnitude-requires c κs = search needs
 
--- src/inner.rt:65:5
 larger-requires-2 : tie.Need-larger-requires-2
 larger-requires-2 c κs = search needs
 
--- src/inner.rt:57:1
 returns-2 : tie.Need-returns-2
 unfolding sentLow
 returns-2 c = simp (c .larger2 .ensures, c .before .magnitude .ensures, c .before .before .entry .ensures, c .before .before .before .before .first-tree .ensures, ne-eqb _ _ (c .before .before .before .if1 .left))

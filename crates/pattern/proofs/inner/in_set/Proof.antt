@@ -1,0 +1,23 @@
+use mathlib.Core.Path.{_∙_, sym}
+use Rattle.pattern.proofs.Sets.{gets-sends}
+use Rattle.pattern.specs.Mirror.{inSet}
+use borrow.Author.Needs.{needs}
+use Rattle.pattern.proofs.inner.in_set.Statement.{statement}
+use Rattle.pattern.proofs.inner.in_set.Tie as tie
+
+sends-some-requires : tie.Need-sends-some-requires
+sends-some-requires c κs = search needs
+
+returns : tie.Need-returns
+unfolding inSet
+returns c = rw (c .before .if1 .taken) (c .sends-some .ensures)
+
+sends-some-requires-2 : tie.Need-sends-some-requires-2
+sends-some-requires-2 c κs = search needs
+
+returns-2 : tie.Need-returns-2
+unfolding inSet
+returns-2 c = rw (c .before .if1 .left) (c .sends-some2 .ensures ∙ sym (gets-sends _ _ (c .before .before .before .before .pre .tables) _ _ (c .before .before .before .before .pre .receiverBelow) (c .before .before .before .before .pre .senderBelow)))
+
+pub in-set-spec : {M : Type 1} → statement M
+in-set-spec = tie.close (tie.spec sends-some-requires returns sends-some-requires-2 returns-2)

@@ -1,0 +1,77 @@
+use native.Mathlib.Omega.{arith}
+use mathlib.Core.Path.{sym, _∙_}
+use Prim.Native.Nat.{_-_}
+use Rattle.pattern.specs.Mirror.{inSet}
+use Rattle.pattern.proofs.Laws.{pair-of, Writing, write-start, write-index, write-more, write-skip, write-length, write-done, set-room, set-written, write-count}
+use borrow.Author.Needs.{needs}
+use Rattle.pattern.proofs.inner.set_write.Statement.{statement}
+use Rattle.pattern.proofs.inner.set_write.Tie as tie
+
+abbrev Inv-loop : tie.InvT-loop
+Inv-loop old new rank sending out₀ end count₀ other₀ out count other = Writing (inSet old new rank sending) end out₀ out count other
+
+abbrev μ-loop : tie.MeasureT-loop
+μ-loop old new rank sending out₀ end count₀ other₀ out count other = end - other
+
+ranks-requires : tie.Need-ranks-requires Inv-loop μ-loop
+ranks-requires c κs = c .before .before .before .pre .rank .tables .oldRanks
+
+loop-holds : tie.Need-loop-holds Inv-loop μ-loop
+loop-holds c = write-start _ _ _ (set-room (c .before .before .before .before .pre) (c .ranks .ensures .0))
+
+in-set-requires : tie.Need-in-set-requires Inv-loop μ-loop
+in-set-requires c κs = pair-of _ _ (c .before .before .before .before .before .before .pre .rank) (c .before .before .ranks .ensures .0) (c .loop-test .taken)
+
+cast-number : tie.Need-cast-number Inv-loop μ-loop
+cast-number c = search needs
+
+add-other : tie.Need-add-other Inv-loop μ-loop
+add-other c = search needs
+
+mul-out : tie.Need-mul-out Inv-loop μ-loop
+mul-out c = omega (arith, write-count _ _ _ (set-room (c .before .before .before .before .before .before .before .before .pre) (c .before .before .before .before .ranks .ensures .0)) _ _ _ (c .before .before .before .loop .inv))
+
+slice-write-out : tie.Need-slice-write-out Inv-loop μ-loop
+slice-write-out c = write-index _ _ _ (set-room (c .before .before .before .before .before .before .before .before .pre) (c .before .before .before .before .ranks .ensures .0)) _ _ _ (c .before .before .before .loop .inv) (c .before .before .loop-test .taken) (sym (c .before .in-set .ensures) ∙ c .if1 .taken)
+
+add-count : tie.Need-add-count Inv-loop μ-loop
+add-count c = omega (arith, write-count _ _ _ (set-room (c .before .before .before .before .before .before .before .before .pre) (c .before .before .before .before .ranks .ensures .0)) _ _ _ (c .before .before .before .loop .inv))
+
+loop-less : tie.Need-loop-less Inv-loop μ-loop
+loop-less c = search needs
+
+loop-again : tie.Need-loop-again Inv-loop μ-loop
+loop-again c = write-more _ _ _ (set-room (c .before .before .before .before .before .before .before .before .pre) (c .before .before .before .before .ranks .ensures .0)) _ _ _ (c .before .before .before .loop .inv) (c .before .before .loop-test .taken) (sym (c .before .in-set .ensures) ∙ c .if1 .taken)
+
+loop-less-2 : tie.Need-loop-less-2 Inv-loop μ-loop
+loop-less-2 c = search needs
+
+loop-again-2 : tie.Need-loop-again-2 Inv-loop μ-loop
+loop-again-2 c = write-skip _ _ _ (set-room (c .before .before .before .before .before .before .before .before .pre) (c .before .before .before .before .ranks .ensures .0)) _ _ _ (c .before .before .before .loop .inv) (c .before .before .loop-test .taken) (sym (c .before .in-set .ensures) ∙ c .if1 .left)
+
+same-length : tie.Need-same-length Inv-loop μ-loop
+same-length c = write-length _ _ _ (set-room (c .before .before .before .before .before .before .pre) (c .before .before .ranks .ensures .0)) _ _ _ (c .before .loop .inv)
+
+returns : tie.Need-returns Inv-loop μ-loop
+returns c = set-written _ _ _ _ _ _ _ (c .before .before .ranks .ensures .0) (write-done _ _ _ (set-room (c .before .before .before .before .before .before .pre) (c .before .before .ranks .ensures .0)) _ _ _ (c .before .loop .inv) (c .loop-test .left))
+
+pub set-write-spec : {M : Type 1} → statement M
+set-write-spec =
+    tie.close
+    (tie.spec
+    Inv-loop
+    μ-loop
+    ranks-requires
+    loop-holds
+    in-set-requires
+    cast-number
+    add-other
+    mul-out
+    slice-write-out
+    add-count
+    loop-less
+    loop-again
+    loop-less-2
+    loop-again-2
+    same-length
+    returns)

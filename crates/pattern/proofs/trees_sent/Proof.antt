@@ -1,0 +1,51 @@
+use Rattle.pattern.proofs.Laws.{pair-of}
+use mathlib.Core.Path.{_∙_}
+use Rattle.pattern.proofs.Answers.{old-ranks, rank-of, sent-fails, from-past, to-past, sent-found}
+use borrow.Author.Needs.{needs}
+use Rattle.pattern.proofs.trees_sent.Statement.{statement}
+use Rattle.pattern.proofs.trees_sent.Tie as tie
+
+tables-refusal-requires : tie.Need-tables-refusal-requires
+tables-refusal-requires c κs = search needs
+
+range-refused-requires : tie.Need-range-refused-requires
+range-refused-requires c κs = search needs
+
+returns : tie.Need-returns
+returns c = c .range-refused .ensures ∙ sent-fails _ _ _ (c .before .before .tables-refusal .ensures) _ _ (c .before .if1 .taken)
+
+ranks-requires : tie.Need-ranks-requires
+ranks-requires c κs = old-ranks _ _ _ (c .before .tables-refusal .ensures) (λ i. c .before .before .before .shared-slice-known .given i .fits) (λ i. c .before .before .shared-slice-known2 .given i .fits) (c .if1 .left)
+
+range-refused-requires-2 : tie.Need-range-refused-requires-2
+range-refused-requires-2 c κs = search needs
+
+returns-2 : tie.Need-returns-2
+returns-2 c = c .range-refused2 .ensures ∙ from-past _ _ _ (c .before .before .before .before .tables-refusal .ensures) _ _ (c .before .before .before .if1 .left) _ (c .before .before .ranks .ensures .0) (c .before .if2 .taken)
+
+range-refused-requires-3 : tie.Need-range-refused-requires-3
+range-refused-requires-3 c κs = search needs
+
+returns-3 : tie.Need-returns-3
+returns-3 c = c .range-refused3 .ensures ∙ to-past _ _ _ (c .before .before .before .before .before .tables-refusal .ensures) _ _ (c .before .before .before .before .if1 .left) _ (c .before .before .before .ranks .ensures .0) (c .before .if3 .taken)
+
+sent-requires : tie.Need-sent-requires
+sent-requires c κs = pair-of _ _ (rank-of _ _ _ (c .before .before .before .before .tables-refusal .ensures) (λ i. c .before .before .before .before .before .before .shared-slice-known .given i .fits) (λ i. c .before .before .before .before .before .shared-slice-known2 .given i .fits) (c .before .before .before .if1 .left) _ _ (c .before .before .ranks .ensures .0) (c .before .if2 .left)) (c .before .before .ranks .ensures .0) (c .if3 .left)
+
+returns-4 : tie.Need-returns-4
+returns-4 c = sent-found _ _ _ (c .before .before .before .before .before .tables-refusal .ensures) _ _ (c .before .before .before .before .if1 .left) _ (c .before .before .before .ranks .ensures .0) (c .before .before .if2 .left) (c .before .if3 .left) _ _ (c .sent .ensures .0) (c .sent .ensures .1)
+
+pub trees-sent-spec : {M : Type 1} → statement M
+trees-sent-spec =
+    tie.close
+    (tie.spec
+    tables-refusal-requires
+    range-refused-requires
+    returns
+    ranks-requires
+    range-refused-requires-2
+    returns-2
+    range-refused-requires-3
+    returns-3
+    sent-requires
+    returns-4)

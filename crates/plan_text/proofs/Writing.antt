@@ -1,29 +1,30 @@
 -- Laws of the output: what is written, how long it is, and which moves it lists.
 use Prim.Native.Nat.{ℕ, zero, suc, _+_, _-_, _*_, _/_, _%_, _^_, _≤_, _<_}
-use native.Mathlib.Nat.{add-zero, pow-suc}
+use native.Mathlib.Nat.{zero-add, add-zero, pow-suc}
 use native.Mathlib.Numerals.{add-one}
 use native.Mathlib.Omega.{arith}
 use mathlib.Core.Path.{_≡_, refl, sym, ap, _∙_}
 use mathlib.Core.Bool.{Bool, true, false, cond}
 use mathlib.Core.List.{List, [], _∷_, _++_, append-assoc}
-use lib.Dec.{ltb, eqb}
+use lib.Dec.{ltb}
 use lib.ListN.{length, getD, set, take, length-append, length-take}
 use lib.Seq.{take-suc, take-all}
-use borrow.Author.Tests.{lt-ltb, le-ltb, ne-eqb}
-use Rattle.encoding.specs.Below.{countBelow, sumBelow}
+use borrow.Author.Tests.{lt-ltb, le-ltb, lt-leb, le-leb}
+use Rattle.encoding.specs.Below.{anyBelow, countBelow, sumBelow}
 use Rattle.encoding.specs.Pieces.{splice}
-use Rattle.encoding.proofs.Below.{tests, either, sum-le, count-le}
+use Rattle.encoding.specs.Refusal.{firstFailed}
+use Rattle.encoding.specs.Answer.{lengthAnswer, written, writeAnswer}
+use Rattle.encoding.proofs.Below.{tests, either, any-none, any-false, sum-le, count-le, count-zero, count-none}
 use Rattle.encoding.proofs.Pieces.{splice-none, splice-cons, splice-then, length-splice}
-use Rattle.offsets.specs.Table.{ranks}
+use Rattle.offsets.specs.Table.{ranks, trees}
 use Rattle.offsets.proofs.Tables.{never-falls, ranks-high, trees-high}
-use Rattle.pattern.specs.Sender.{Tables, sentFirst, sentCount}
+use Rattle.pattern.specs.Sender.{Tables, sends, sentFirst, sentCount}
 use Rattle.pattern.specs.Sets.{sendsTo}
-use Rattle.pattern.specs.Mirror.{RankOf, PairOf, sentLow, sentHigh}
-use Rattle.pattern.proofs.Senders.{sent-high, sent-count, sent-first}
-use Rattle.pattern.proofs.Sets.{sends-to}
-use Rattle.plan_text.specs.Text.{digitsOf, decimal, numberLimit}
-use Rattle.plan_text.specs.Plan.{moveWord, lineText, moveText, movesFrom, movesText}
-use Rattle.plan_text.specs.Mirror.Writing.{Put, Fits, FitsNumber, Small, FitsRow, FitsPair, FitsFrom, FitsMoves, numberText, rowText, pairText}
+use Rattle.pattern.specs.Mirror.{RankOf, PairOf}
+use Rattle.pattern.proofs.Sets.{sent-below}
+use Rattle.plan_text.specs.Text.{digitsOf, decimal, numberLimit, ranksWord}
+use Rattle.plan_text.specs.Plan.{treesWord, moveWord, messagesWord, lineText, moveText, movesFrom, movesText, moveCount, movesOutput}
+use Rattle.plan_text.specs.Mirror.Writing.{Put, Fits, FitsNumber, Small, FitsRow, FitsPair, FitsFrom, FitsMoves, SmallOutput, FitsOutput, numberText, rowText, pairText, outputAnswer}
 use Rattle.plan_text.proofs.Decimals.{decimal-most}
 
 -- ---- numbers
@@ -201,36 +202,36 @@ module _ (old new : List ℕ) where
   moves-most n h r =
       omega (arith, sum-le n (λ p. countBelow (ranks old) (sendsTo old new p)) 1024 (λ p _. omega (arith, count-le (ranks old) (sendsTo old new p))))
 
--- where the trees from p to q are those from low up to, but without, high
-module _ {old new : List ℕ} {p q low high : ℕ} (P : PairOf old new p q) (a : low ≡ sentLow old new p q) (b : high ≡ sentHigh old new p q) where
-  pub pair-test : sendsTo old new p q ≡ ltb low high
-  pair-test = rw (a, b) (sends-to old new (P .tables) p q (P .senderBelow) (P .receiverBelow))
+-- the trees from p to q: the first and how many
+module _ {old new : List ℕ} {p q first count : ℕ} (P : PairOf old new p q) (a : first ≡ sentFirst old new p q) (b : count ≡ sentCount old new p q) where
+  pub pair-unsent : count ≡ 0 → sendsTo old new p q ≡ false
+  unfolding sendsTo sentCount sends
+  pair-unsent e = any-none (trees old) (sends old new p q) (count-zero (trees old) (sends old new p q) (sym b ∙ e))
 
-  pub pair-none : high ≤ low → pairText old new p q ≡ []
+  pub pair-sent : (count ≡ 0 → ⊥) → sendsTo old new p q ≡ true
+  unfolding sendsTo sentCount sends
+  pair-sent n =
+      either (anyBelow (trees old) (sends old new p q)) (λ t. t)
+      (λ f. absurd (n (b ∙ count-none (trees old) (sends old new p q) (any-false (trees old) (sends old new p q) f))))
+
+  pub pair-none : count ≡ 0 → pairText old new p q ≡ []
   unfolding pairText
-  pair-none h = rw (pair-test, le-ltb low high h)
+  pair-none e = rw (pair-unsent e)
 
-  module _ (h : low < high) where
-    pub pair-small : Small p q low (high - 1)
+  module _ (n : count ≡ 0 → ⊥) where
+    pub pair-some : pairText old new p q ≡ rowText p q first (first + count - 1)
+    unfolding pairText
+    pair-some = rw (pair-sent n, a, b) (move-row old new p q)
+
+    pub pair-small : Small p q first (first + count - 1)
     pair-small =
         let T = P .tables in
         let m = ranks-high old (T .oldBytes) (T .oldRanks) (T .oldValid) in
         let k = trees-high old (T .oldBytes) (T .oldRanks) (T .oldValid) in
-        let u = sent-high old new T p q (P .senderBelow) (P .receiverBelow) in
+        let u = sent-below old new T p q (P .senderBelow) (P .receiverBelow) in
         let l = P .senderBelow in
         let r = P .receiverBelow in
         record { sender = omega arith; receiver = omega arith; firstTree = omega arith; lastTree = omega arith }
-
-    sent : (sentFirst old new p q ≡ low) × (sentFirst old new p q + sentCount old new p q - 1 ≡ high - 1)
-    sent =
-        let c = sent-count old new (P .tables) p q (P .senderBelow) (P .receiverBelow) in
-        let f = sent-first old new (P .tables) p q (P .senderBelow) (P .receiverBelow) in
-        let g : sentFirst old new p q ≡ sentLow old new p q = rw (ne-eqb (sentCount old new p q) 0 (λ e. omega arith)) at f in
-        (omega arith, omega arith)
-
-    pub pair-some : pairText old new p q ≡ rowText p q low (high - 1)
-    unfolding pairText
-    pair-some = rw (pair-test, lt-ltb low high h, move-row old new p q, sent .1, sent .0)
 
 -- a turn of the loop over the receivers of p
 module _ {old new a b : List ℕ} {at n p : ℕ} (r : FitsFrom old new a at p) (q : ℕ) (h : q < ranks old) (w : Put a b at n (movesFrom old new p q)) where
@@ -255,3 +256,76 @@ module _ {old new a b : List ℕ} {at n : ℕ} (r : FitsMoves old new a at) (p :
 
   pub text-turn : {c : List ℕ} {m : ℕ} → Put b c n m (movesFrom old new p (ranks old)) → Put a c at m (movesText old new (p + 1))
   text-turn = put-turn (ranks old) (movesText old new) (λ i. movesFrom old new i (ranks old)) (λ i _. text-more old new i) p h (r .fits) w
+
+-- ---- the output
+
+pub line-length : (word : List ℕ) (n : ℕ) → length (lineText word n) ≡ length word + length (decimal n) + 1
+unfolding lineText
+line-length word n = simp length-append (omega arith)
+
+module _ (old new : List ℕ) where
+  pub output-length : length (movesOutput old new)
+      ≡ length (lineText ranksWord (ranks old)) + length (lineText treesWord (trees old)) + length (movesText old new (ranks old)) + length (lineText messagesWord (moveCount old new))
+  unfolding movesOutput
+  output-length = simp length-append (omega arith)
+
+  -- its numbers have at most 8 digits
+  pub output-small : {P K bytes moves : ℕ} → Tables old new → P ≡ ranks old → K ≡ trees old → bytes ≡ length (movesText old new (ranks old)) → moves ≡ moveCount old new → SmallOutput P K bytes moves
+  unfolding moveCount
+  output-small T p k l m =
+      let r = ranks-high old (T .oldBytes) (T .oldRanks) (T .oldValid) in
+      let t = trees-high old (T .oldBytes) (T .oldRanks) (T .oldValid) in
+      let c = moves-most old new (ranks old) r r in
+      record { ranksSmall = omega arith; treesSmall = omega arith; bytesSmall = omega (arith, text-most old new (ranks old)); movesSmall = omega arith }
+
+-- the length that the code computes
+module _ (old new : List ℕ) {P K bytes moves n : ℕ} (p : P ≡ ranks old) (k : K ≡ trees old) (l : bytes ≡ length (movesText old new (ranks old))) (m : moves ≡ moveCount old new)
+    (e : n ≡ length (lineText ranksWord P) + length (lineText treesWord K) + bytes + length (lineText messagesWord moves)) where
+  pub output-is : n ≡ length (movesOutput old new)
+  output-is = e ∙ rw (p, k, l, m) (sym (output-length old new))
+
+-- the output written as two lines, the moves and a line
+module _ {old new out : List ℕ} {moves P : ℕ} (r : FitsOutput old new out moves) (p : P ≡ ranks old) where
+  module _ {K : ℕ} (k : K ≡ trees old) where
+    small : SmallOutput P K (length (movesText old new (ranks old))) moves
+    small = output-small old new (r .tables) p k refl (r .counted)
+
+    joined : lineText ranksWord P ++ (lineText treesWord K ++ (movesText old new (ranks old) ++ lineText messagesWord moves)) ≡ movesOutput old new
+    unfolding movesOutput
+    joined = rw (p, k, r .counted)
+
+    rest0 : Fits out 0 (lineText ranksWord P ++ (lineText treesWord K ++ (movesText old new (ranks old) ++ lineText messagesWord moves)))
+    rest0 = fits-as (sym joined) (r .fits)
+
+  pub output-ranks : FitsNumber out 0 P (lineText ranksWord P)
+  output-ranks = record { small = small refl .ranksSmall; fits = fits-first (lineText ranksWord P) _ (rest0 refl) }
+
+  module _ {o1 : List ℕ} {n1 K : ℕ} (w : Put out o1 0 n1 (lineText ranksWord P)) (k : K ≡ trees old) where
+    rest1 : Fits o1 n1 (lineText treesWord K ++ (movesText old new (ranks old) ++ lineText messagesWord moves))
+    rest1 = fits-next w _ (rest0 k)
+
+    pub output-trees : FitsNumber o1 n1 K (lineText treesWord K)
+    output-trees = record { small = small k .treesSmall; fits = fits-first (lineText treesWord K) _ rest1 }
+
+    module _ {o2 : List ℕ} {n2 : ℕ} (x : Put o1 o2 n1 n2 (lineText treesWord K)) where
+      rest2 : Fits o2 n2 (movesText old new (ranks old) ++ lineText messagesWord moves)
+      rest2 = fits-next x _ rest1
+
+      pub output-moves : FitsMoves old new o2 n2
+      output-moves = record { tables = r .tables; fits = fits-first (movesText old new (ranks old)) _ rest2 }
+
+      module _ {o3 : List ℕ} {n3 : ℕ} (y : Put o2 o3 n2 n3 (movesText old new (ranks old))) where
+        pub output-count : FitsNumber o3 n3 moves (lineText messagesWord moves)
+        output-count = record { small = small k .movesSmall; fits = fits-next y _ rest2 }
+
+        pub output-done : {o4 : List ℕ} {n4 : ℕ} → Put o3 o4 n3 n4 (lineText messagesWord moves) → Put out o4 0 n4 (movesOutput old new)
+        output-done z = put-as (joined k) (put-then w _ (rest0 k) (put-then x _ rest1 (put-then y _ rest2 z)))
+
+-- a buffer that is too short stays as it was
+pub answer-short : (output out : List ℕ) → length out < length output → (record { refusal = 22; length = 0 }, out) ≡ outputAnswer output out
+unfolding outputAnswer writeAnswer lengthAnswer written firstFailed
+answer-short output out h = rw (lt-leb (length output) (length out) h)
+
+pub answer-done : {out last : List ℕ} {end : ℕ} (output : List ℕ) → Fits out 0 output → Put out last 0 end output → (record { refusal = 0; length = end }, last) ≡ outputAnswer output out
+unfolding outputAnswer writeAnswer lengthAnswer written firstFailed
+answer-done {out} output h p = rw (le-leb (length output) (length out) (omega (arith, h .room)), p .wrote, p .behind) (ap (λ n. (record { refusal = 0; length = n }, splice out 0 output)) (zero-add (length output)))

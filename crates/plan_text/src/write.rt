@@ -9,12 +9,13 @@ ghost use Rattle.offsets.specs.Table.{ranks as ranksOf};
 ghost use Rattle.pattern.specs.Sender.{Tables};
 ghost use Rattle.pattern.specs.Sets.{sendsTo};
 ghost use Rattle.pattern.specs.Mirror.{RankOf, PairOf};
-ghost use Rattle.plan_text.specs.Text.{decimal, numberLimit};
-ghost use Rattle.plan_text.specs.Plan.{lineText, movesFrom, movesText, moveCount};
-ghost use Rattle.plan_text.specs.Mirror.Writing.{Put, Fits, FitsNumber, Small, FitsRow, FitsPair, FitsFrom, FitsMoves, numberText, rowText, pairText};
+ghost use Rattle.plan_text.specs.Text.{decimal, numberLimit, ranksWord};
+ghost use Rattle.plan_text.specs.Plan.{treesWord, messagesWord, refusedWord, lineText, movesFrom, movesText, moveCount, movesOutput};
+ghost use Rattle.plan_text.specs.Mirror.Writing.{Put, Fits, FitsNumber, Small, FitsRow, FitsPair, FitsFrom, FitsMoves, SmallOutput, FitsOutput, numberText, rowText, pairText, outputAnswer};
+use encoding::answer::Length;
 use offsets::inner::ranks;
-use pattern::inner::sent_high;
-use pattern::inner::sent_low;
+use pattern::inner::sent;
+use pattern::inner::trees;
 
 // How many bytes the text of some moves has, and how many moves it lists.
 struct Size {
@@ -109,13 +110,14 @@ fn pair_size(old: &[u8], new: &[u8], p: usize, q: usize) -> Size
     requires { ⌜ PairOf (now old) (now new) p q ⌝ }
     ensures { λ r. ⌜ (r .bytes ≡ length (pairText (now (old .entry)) (now (new .entry)) p q)) × (r .moves ≡ cond (sendsTo (now (old .entry)) (now (new .entry)) p q) 1 0) ⌝ }
 {
-    let low = sent_low(old, new, p, q);
-    let high = sent_high(old, new, p, q);
-    if high <= low {
+    let range = sent(old, new, p, q);
+    let first = range.first as u64;
+    let count = range.count as u64;
+    if count == 0 {
         return Size { bytes: 0, moves: 0 };
     }
     Size {
-        bytes: row_length(p as u64, q as u64, low, high - 1),
+        bytes: row_length(p as u64, q as u64, first, first + count - 1),
         moves: 1,
     }
 }
@@ -125,12 +127,13 @@ fn put_pair(out: &mut [u8], at: usize, old: &[u8], new: &[u8], p: usize, q: usiz
     requires { ⌜ FitsPair (now old) (now new) (now out) at p q ⌝ }
     ensures { λ r. ⌜ Put (now (out .entry)) (now (out .exit)) at r (pairText (now (old .entry)) (now (new .entry)) p q) ⌝ }
 {
-    let low = sent_low(old, new, p, q);
-    let high = sent_high(old, new, p, q);
-    if high <= low {
+    let range = sent(old, new, p, q);
+    let first = range.first as u64;
+    let count = range.count as u64;
+    if count == 0 {
         return at;
     }
-    put_row(&mut *out, at, p as u64, q as u64, low, high - 1)
+    put_row(&mut *out, at, p as u64, q as u64, first, first + count - 1)
 }
 
 fn from_size(old: &[u8], new: &[u8], p: usize) -> Size
@@ -195,4 +198,76 @@ fn put_moves(out: &mut [u8], at: usize, old: &[u8], new: &[u8]) -> usize
         p += 1;
     }
     next
+}
+
+// How long a line of a word and a number is.
+fn line_length(word: &[u8], n: u64) -> usize
+    requires { ⌜ (length (now word) ≤ 9) × (n < numberLimit) ⌝ }
+    ensures { λ r. ⌜ (r ≡ length (lineText (now (word .entry)) n)) × (r ≤ 18) ⌝ }
+{
+    word.len() + decimal_length(n) + 1
+}
+
+// How long the output is, of which the moves have so many bytes.
+fn output_length(ranks: u64, trees: u64, bytes: usize, moves: u64) -> usize
+    requires { ⌜ SmallOutput ranks trees bytes moves ⌝ }
+    ensures { λ r. ⌜ r ≡ length (lineText ranksWord ranks) + length (lineText treesWord trees) + bytes + length (lineText messagesWord moves) ⌝ }
+{
+    line_length(b"ranks=", ranks)
+        + line_length(b"trees=", trees)
+        + bytes
+        + line_length(b"messages=", moves)
+}
+
+// The output, of which it is known how many moves it lists.
+fn put_output(out: &mut [u8], old: &[u8], new: &[u8], moves: u64) -> usize
+    requires { ⌜ FitsOutput (now old) (now new) (now out) moves ⌝ }
+    ensures { λ r. ⌜ Put (now (out .entry)) (now (out .exit)) 0 r (movesOutput (now (old .entry)) (now (new .entry))) ⌝ }
+{
+    let a = put_line(&mut *out, 0, b"ranks=", ranks(old) as u64);
+    let b = put_line(&mut *out, a, b"trees=", trees(old));
+    let c = put_moves(&mut *out, b, old, new);
+    put_line(&mut *out, c, b"messages=", moves)
+}
+
+fn too_short() -> Length
+    ensures { λ r. ⌜ r ≡ record { refusal = 22; length = 0 } ⌝ }
+{
+    Length {
+        refusal: 22,
+        length: 0,
+    }
+}
+
+// The output of two tables that agree, if it fits (22).
+pub fn write_moves(old: &[u8], new: &[u8], out: &mut [u8]) -> Length
+    requires { ⌜ Tables (now old) (now new) ⌝ }
+    ensures { λ r. ⌜ (r, now (out .exit)) ≡ outputAnswer (movesOutput (now (old .entry)) (now (new .entry))) (now (out .entry)) ⌝ }
+{
+    let size = moves_size(old, new);
+    let moves = size.moves as u64;
+    if out.len() < output_length(ranks(old) as u64, trees(old), size.bytes, moves) {
+        return too_short();
+    }
+    let end = put_output(&mut *out, old, new, moves);
+    Length {
+        refusal: 0,
+        length: end as u64,
+    }
+}
+
+// The line of a refused input, if it fits (22).
+pub fn write_refused(refusal: u32, out: &mut [u8]) -> Length
+    requires { ⌜ refusal < numberLimit ⌝ }
+    ensures { λ r. ⌜ (r, now (out .exit)) ≡ outputAnswer (lineText refusedWord refusal) (now (out .entry)) ⌝ }
+{
+    let n = refusal as u64;
+    if out.len() < line_length(b"refused=", n) {
+        return too_short();
+    }
+    let end = put_line(&mut *out, 0, b"refused=", n);
+    Length {
+        refusal: 0,
+        length: end as u64,
+    }
 }

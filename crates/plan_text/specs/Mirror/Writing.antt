@@ -1,16 +1,20 @@
 -- What the writers of the output leave behind.
-use Prim.Native.Nat.{ℕ, _+_, _≤_, _<_}
+use Prim.Native.Nat.{ℕ, _+_, _*_, _≤_, _<_}
 use mathlib.Core.Path.{_≡_}
 use mathlib.Core.Bool.{cond}
 use mathlib.Core.List.{List, [], _∷_, _++_}
+use lib.Dec.{leb}
 use lib.ListN.{length}
+use Rattle.encoding.specs.declared.answer.Length.{Length}
+use Rattle.encoding.specs.Answer.{writeAnswer}
+use Rattle.encoding.specs.Refusal.{check, firstFailed}
 use Rattle.encoding.specs.Pieces.{splice}
 use Rattle.offsets.specs.Table.{ranks}
 use Rattle.pattern.specs.Sender.{Tables}
 use Rattle.pattern.specs.Sets.{sendsTo}
 use Rattle.pattern.specs.Mirror.{RankOf, PairOf}
 use Rattle.plan_text.specs.Text.{decimal, numberLimit}
-use Rattle.plan_text.specs.Plan.{moveWord, moveText, movesFrom, movesText}
+use Rattle.plan_text.specs.Plan.{moveWord, moveText, movesFrom, movesText, moveCount, movesOutput}
 
 -- the text stands at its place, all else is as before, and `next` is the place behind it
 pub record Put (before after : List ℕ) (at next : ℕ) (text : List ℕ) : Type 0 where
@@ -67,3 +71,22 @@ pub record FitsFrom (old new out : List ℕ) (at p : ℕ) : Type 0 where
 pub record FitsMoves (old new out : List ℕ) (at : ℕ) : Type 0 where
   pub tables : Tables old new
   pub fits : Fits out at (movesText old new (ranks old))
+
+-- ---- the output
+
+-- three numbers of at most 8 digits, and at most 41 bytes for each pair of ranks
+pub record SmallOutput (ranks trees bytes moves : ℕ) : Type 0 where
+  pub ranksSmall : ranks < numberLimit
+  pub treesSmall : trees < numberLimit
+  pub bytesSmall : bytes ≤ 41 * 1048576
+  pub movesSmall : moves < numberLimit
+
+-- room for the output, and how many moves it lists
+pub record FitsOutput (old new out : List ℕ) (moves : ℕ) : Type 0 where
+  pub tables : Tables old new
+  pub counted : moves ≡ moveCount old new
+  pub fits : Fits out 0 (movesOutput old new)
+
+-- an output written into a lent buffer that has room for it, with its length
+unfoldable pub outputAnswer : List ℕ → List ℕ → Length × List ℕ
+outputAnswer output out = writeAnswer (firstFailed (check (leb (length output) (length out)) 22 ∷ [])) output out

@@ -55,6 +55,7 @@ module _ (set : List ℕ) (n : ℕ) (c : n ≡ length set) (out after : List ℕ
       let k : n ≡ 0 + length set = omega arith in
       rw (e, k) (splice-take out 0 set (omega arith))
 
+  -- as long, and as small, as the set
   pub back-length : n ≡ length (take n after)
   back-length = rw set-back c
 
@@ -74,6 +75,10 @@ set-small old new p sending ok =
     }
 
 -- ---- the checks of two tables
+
+one-check : (c : Bool) (n : ℕ) → firstFailed (check c n ∷ []) ≡ cond c 0 n
+unfolding firstFailed
+one-check c n = refl
 
 three-hold : (a b c : Bool) → cond {A = ℕ} a (cond b (cond c 0 4) 3) 2 ≡ 0 → (a ≡ true) × (b ≡ true) × (c ≡ true)
 three-hold true true true e = (refl, refl, refl)
@@ -116,6 +121,7 @@ module _ (old new : List ℕ) (r : ℕ) (e : r ≡ firstFailed (tableChecks old 
   tables-pass cs z = after-tables cs ∙ rw (eq-eqb r 0 z)
 
   module _ (b : Bytes old) (b' : Bytes new) (z : r ≡ 0) where
+    -- what inner functions require
     pub old-ranks : ranksOk old ≡ true
     old-ranks = tables-agree b b' z .oldRanks
 
@@ -125,10 +131,6 @@ module _ (old new : List ℕ) (r : ℕ) (e : r ≡ firstFailed (tableChecks old 
     pub tree-to : (K P k q : ℕ) → K ≡ trees old → k < K → P ≡ ranks old → q < P → TreeTo old new k q
     tree-to K P k q e' h d l = record { tables = tables-agree b b' z; treeBelow = omega arith; receiverBelow = omega arith }
 
-  one-check : (c : Bool) (n : ℕ) → firstFailed (check c n ∷ []) ≡ cond c 0 n
-  unfolding firstFailed
-  one-check c n = refl
-
   -- ---- the sender of a tree
 
   module _ (k q : ℕ) where
@@ -136,6 +138,7 @@ module _ (old new : List ℕ) (r : ℕ) (e : r ≡ firstFailed (tableChecks old 
     unfolding senderOf
     sender-is n e' = rw e'
 
+    -- the answer at each return of the call
     pub sender-fails : (r ≡ 0 → ⊥) → senderRefused r ≡ senderOf old new k q
     unfolding senderRefusal
     sender-fails n = sym (sender-is r (tables-fail _ n) ∙ rw (ne-eqb r 0 n))
@@ -162,6 +165,7 @@ module _ (old new : List ℕ) (r : ℕ) (e : r ≡ firstFailed (tableChecks old 
     unfolding treesSent
     sent-is n e' = rw e'
 
+    -- the answer at each return of the call
     pub sent-fails : (r ≡ 0 → ⊥) → rangeRefused r ≡ treesSent old new p q
     unfolding sentRefusal rangeAnswer
     sent-fails n = sym (sent-is r (tables-fail _ n) ∙ rw (ne-eqb r 0 n))
@@ -195,6 +199,7 @@ module _ (old new : List ℕ) (r : ℕ) (e : r ≡ firstFailed (tableChecks old 
     unfolding setAnswer ranksAnswer written
     set-refused n h e' = sym (set-is n e' ∙ rw (ne-eqb n 0 h))
 
+    -- the answer at each return of the call
     pub set-fails : (r ≡ 0 → ⊥) → (ranksRefused r, out) ≡ rankSetOf old new p sending out
     unfolding setRefusal
     set-fails n = set-refused r n (tables-fail _ n)
@@ -218,10 +223,19 @@ module _ (old new : List ℕ) (r : ℕ) (e : r ≡ firstFailed (tableChecks old 
             rw (e₂, t, e₁) (sym (set-is 0 (set-checked ∙ rw (lt-ltb p P h, ← c, le-leb n (length out) l))))
 
 -- with the rank sending it is the send set, else the receive set
-pub send-is : (old new : List ℕ) (p : ℕ) (out : List ℕ) → rankSetOf old new p true out ≡ sendSetOf old new p out
-unfolding rankSetOf sendSetOf rankSet sendSet inSet
-send-is old new p out = refl
+module _ (old new : List ℕ) (p : ℕ) where
+  pub set-sends : rankSet old new p true ≡ sendSet old new p
+  unfolding rankSet sendSet inSet
+  set-sends = refl
 
-pub receive-is : (old new : List ℕ) (p : ℕ) (out : List ℕ) → rankSetOf old new p false out ≡ receiveSetOf old new p out
-unfolding rankSetOf receiveSetOf rankSet receiveSet inSet
-receive-is old new p out = refl
+  pub set-receives : rankSet old new p false ≡ receiveSet old new p
+  unfolding rankSet receiveSet inSet
+  set-receives = refl
+
+  pub send-is : (out : List ℕ) → rankSetOf old new p true out ≡ sendSetOf old new p out
+  unfolding rankSetOf sendSetOf
+  send-is out = rw set-sends
+
+  pub receive-is : (out : List ℕ) → rankSetOf old new p false out ≡ receiveSetOf old new p out
+  unfolding rankSetOf receiveSetOf
+  receive-is out = rw set-receives

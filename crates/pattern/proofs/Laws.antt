@@ -1,4 +1,4 @@
--- Laws that the proofs of this crate's functions cite.
+-- Laws that the proofs of the inner functions cite.
 use Prim.Native.Nat.{ℕ, suc, _+_, _-_, _≤_, _<_}
 use native.Mathlib.Omega.{arith}
 use mathlib.Core.Path.{_≡_, refl, sym, _∙_}
@@ -27,9 +27,11 @@ use Rattle.pattern.specs.Sets.{sendsTo}
 pub row-fits : (t : List ℕ) (p : ℕ) → ranksOk t ≡ true → p < ranks t → tableLength (p + 1) ≤ length t
 row-fits t p ok h = omega (arith, ranks-known t ok .size)
 
+-- also in the new table
 pub receiver-in-new : (old new : List ℕ) → Tables old new → (q : ℕ) → q < ranks old → tableLength (q + 1) ≤ length new
 receiver-in-new old new T q h = row-fits new q (T .newRanks) (rw (T .sameRanks) h)
 
+-- of a pair's sender and receiver
 module _ {old new : List ℕ} {p q : ℕ} (f : PairOf old new p q) where
   pub sender-row : tableLength (p + 1) ≤ length old
   sender-row = row-fits old p (f .tables .oldRanks) (f .senderBelow)
@@ -43,6 +45,7 @@ module _ {old new : List ℕ} {p q : ℕ} (f : PairOf old new p q) where
 -- ---- the trees from p to q
 
 module _ (old new : List ℕ) (p q : ℕ) (f : PairOf old new p q) (low high : ℕ) (a : low ≡ sentLow old new p q) (b : high ≡ sentHigh old new p q) where
+  -- p sends q a tree where low is below high
   pub sends-tested : ltb low high ≡ sendsTo old new p q
   sends-tested = rw (a, b) (sym (sends-to old new (f .tables) p q (f .senderBelow) (f .receiverBelow)))
 
@@ -55,11 +58,13 @@ module _ (old new : List ℕ) (p q : ℕ) (f : PairOf old new p q) (low high : �
   counted : sentCount old new p q ≡ high - low
   counted = rw (a, b) (sent-count old new (f .tables) p q (f .senderBelow) (f .receiverBelow))
 
+  -- the first and how many, where there are none
   pub sent-none : high ≤ low → (0 ≡ sentFirst old new p q) × (0 ≡ sentCount old new p q)
   sent-none h =
       let n : sentCount old new p q ≡ 0 = omega (arith, counted) in
       (sym (sent-first old new (f .tables) p q (f .senderBelow) (f .receiverBelow) ∙ rw (eq-eqb (sentCount old new p q) 0 n)), sym n)
 
+  -- and where there are some
   pub sent-some : low < high → (low ≡ sentFirst old new p q) × (high - low ≡ sentCount old new p q)
   sent-some h =
       let n : sentCount old new p q ≡ 0 → ⊥ = λ z. omega (arith, counted) in
@@ -82,9 +87,11 @@ pub record Search (t : List ℕ) (k low high : ℕ) : Type 0 where
   pub passed : (p : ℕ) → p < low → endTree t p ≤ k
 
 module _ (t : List ℕ) (k : ℕ) (b : Bytes t) (f : TreeOf t k) where
+  -- a rank's end is no less than the ends before it
   ends-rise : (p q : ℕ) → p ≤ q → q < ranks t → endTree t p ≤ endTree t q
   ends-rise p q h l = rw (end-next t p, end-next t q) (rises t b (f .ranksFit) (f .isValid) (suc p) (suc q) (omega arith) (omega arith))
 
+  -- the last rank ends behind every tree
   pub search-start : (P : ℕ) → P ≡ ranks t → Search t k 0 (P - 1)
   search-start P e =
       let low = ranks-low t b (f .ranksFit) (f .isValid) in
@@ -96,9 +103,11 @@ module _ (t : List ℕ) (k : ℕ) (b : Bytes t) (f : TreeOf t k) where
         passed = λ p h. absurd (omega arith);
       }
 
+  -- mid ends behind k
   pub search-down : (low high mid end : ℕ) → Search t k low high → low ≤ mid → mid < high → end ≡ endTree t mid → k < end → Search t k low mid
   search-down low high mid end s h l e m = record { order = h; inside = omega arith; reached = omega arith; passed = s .passed }
 
+  -- mid ends at or before k
   pub search-up : (low high mid end : ℕ) → Search t k low high → mid < high → end ≡ endTree t mid → end ≤ k → Search t k (mid + 1) high
   search-up low high mid end s l e m =
       record {
@@ -108,6 +117,7 @@ module _ (t : List ℕ) (k : ℕ) (b : Bytes t) (f : TreeOf t k) where
         passed = λ p h. omega (arith, ends-rise p mid (omega arith) (omega arith));
       }
 
+  -- one rank is left
   pub search-done : (low high : ℕ) → Search t k low high → high ≤ low → low ≡ leastHolder t k
   search-done low high s h =
       let e : low ≡ high = omega arith in
@@ -135,22 +145,28 @@ pub record Writing (f : ℕ → Bool) (P : ℕ) (start out : List ℕ) (n i : �
   pub kept : out ≡ splice start 0 (keptBelow i f)
 
 module _ (f : ℕ → Bool) (P : ℕ) (start : List ℕ) (room : length (keptBelow P f) ≤ length start) where
+  -- what is kept so far has room
   part-fits : (i : ℕ) → i ≤ P → length (keptBelow i f) ≤ length start
   part-fits i h = omega (arith, count-mono i P f h, kept-length i f, kept-length P f)
 
+  -- nothing is written yet
   pub write-start : Writing f P start start 0 0
   unfolding countBelow keptBelow
   write-start = record { within = omega arith; counted = refl; kept = sym (splice-none start 0) }
 
+  -- writing keeps the list's length
   pub write-length : (out : List ℕ) (n i : ℕ) → Writing f P start out n i → length out ≡ length start
   write-length out n i w = rw (w .kept) (length-splice start 0 (keptBelow i f) (omega (arith, part-fits i (w .within))))
 
+  -- no more are written than there are ranks
   pub write-count : (out : List ℕ) (n i : ℕ) → Writing f P start out n i → n ≤ P
   write-count out n i w = omega (arith, w .within, w .counted, count-le i f)
 
+  -- there is room for one that passes
   pub write-index : (out : List ℕ) (n i : ℕ) → Writing f P start out n i → i < P → f i ≡ true → n < length out
   write-index out n i w h e = omega (arith, write-length out n i w, w .counted, count-lt i P f h e, kept-length P f)
 
+  -- one that passes is written
   pub write-more : (out : List ℕ) (n i : ℕ) → Writing f P start out n i → i < P → f i ≡ true → Writing f P start (set out n i) (n + 1) (i + 1)
   write-more out n i w h e =
       let l : n ≡ 0 + length (keptBelow i f) = omega (arith, w .counted, kept-length i f) in
@@ -161,10 +177,12 @@ module _ (f : ℕ → Bool) (P : ℕ) (start : List ℕ) (room : length (keptBel
         kept = s ∙ rw (kept-more i f, e, w .kept, l) (splice-next start 0 (keptBelow i f) (i ∷ []) (omega (arith, part-fits i (w .within))));
       }
 
+  -- one that fails is not
   pub write-skip : (out : List ℕ) (n i : ℕ) → Writing f P start out n i → i < P → f i ≡ false → Writing f P start out n (i + 1)
   write-skip out n i w h e =
       record { within = omega arith; counted = count-skip i n f (w .counted) e; kept = w .kept ∙ rw (kept-more i f, e, append-nil) }
 
+  -- the loop has come to its bound
   pub write-done : (out : List ℕ) (n i : ℕ) → Writing f P start out n i → P ≤ i → out ≡ splice start 0 (keptBelow P f)
   write-done out n i w h = let e : P ≡ i = omega (arith, w .within) in rw e (w .kept)
 
@@ -185,6 +203,7 @@ pub set-room : {old new out : List ℕ} {p P : ℕ} {sending : Bool} → RoomFor
 unfolding rankSet
 set-room f e = rw e (f .room)
 
+-- and what the loop wrote is the set
 pub set-written : (old new start out : List ℕ) (p P : ℕ) (sending : Bool) → P ≡ ranks old → out ≡ splice start 0 (keptBelow P (inSet old new p sending)) → out ≡ splice start 0 (rankSet old new p sending)
 unfolding rankSet
 set-written old new start out p P sending e w = rw e at w

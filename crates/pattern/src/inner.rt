@@ -21,7 +21,7 @@ use offsets::inner::ranks;
 use offsets::inner::ranks_ok;
 use offsets::inner::valid;
 
-// K.
+// The number of trees, K.
 pub fn trees(t: &[u8]) -> u64
     requires { ⌜ ranksOk (now t) ≡ true ⌝ }
     ensures { λ r. ⌜ r ≡ treesOf (now (t .entry)) ⌝ }

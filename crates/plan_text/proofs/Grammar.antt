@@ -17,6 +17,7 @@ use Rattle.offsets.specs.Table.{negative, magnitude}
 use Rattle.offsets.proofs.Tables.{plain-magnitude}
 use Rattle.plan_text.specs.Text.{decimal, numberLimit, entryText, entryOk, listText, ranksWord, oldWord, newWord, render, Input}
 use Rattle.plan_text.specs.Read.{inputLimit, byteAt, isDigit, digitCount, valueOf, Number, digitsOk, readNumber, negated, readEntry, Entries, before, readList, wordAt, readRanks, readOld, readNew, formOk, parse}
+use Rattle.plan_text.specs.Mirror.Reading.{countOk}
 use Rattle.plan_text.proofs.Decimals.{Digits, digit-range, decimal-digit, decimal-least, decimal-most, decimal-plain, decimal-value, decimal-limit, decimal-of}
 
 -- ---- places
@@ -34,7 +35,7 @@ pub place-behind : (text : List ℕ) (at : ℕ) (a rest : List ℕ) → drop at 
 place-behind text at a rest e = sym (drop-drop (length a) at text) ∙ (ap (drop (length a)) e ∙ drop-at a rest (length a) refl)
 
 -- how many bytes stand from a place on
-from-length : (text : List ℕ) (at : ℕ) (a rest : List ℕ) → drop at text ≡ a ++ rest → length text - at ≡ length a + length rest
+pub from-length : (text : List ℕ) (at : ℕ) (a rest : List ℕ) → drop at text ≡ a ++ rest → length text - at ≡ length a + length rest
 from-length text at a rest e = sym (length-drop at text) ∙ (ap length e ∙ length-append a rest)
 
 -- a place with a byte that isn't 0 is within the text
@@ -84,14 +85,19 @@ count-read text at ds b post h n e =
     (rw (bytes-from text at (ds ++ (b ∷ post)) e (length ds), getD-at ds b post 0 (length ds) refl, n))
     (λ j l. rw (bytes-from text at (ds ++ (b ∷ post)) e j, List·getD-append ds (b ∷ post) 0 j l, h j l))
 
+-- what is counted are digits
+pub count-digits : (text : List ℕ) (at i : ℕ) → i < digitCount text at → isDigit (byteAt text (at + i)) ≡ true
+unfolding digitCount
+count-digits text at i h = not-false _ (least-below (length text - at) (λ i. not (isDigit (byteAt text (at + i)))) i h)
+
 -- a count of digits that may stand for a number, where b is the first of them
 module _ (n b : ℕ) where
-  counted : 1 ≤ n → n ≤ 8 → (2 ≤ n → eqb b 48 ≡ false) → (leb 1 n && leb n 8 && (eqb n 1 || not (eqb b 48))) ≡ true
+  counted : 1 ≤ n → n ≤ 8 → (2 ≤ n → eqb b 48 ≡ false) → countOk n b ≡ true
   counted l m p =
       and-intro _ _ (and-intro _ _ (le-leb 1 n l) (le-leb n 8 m))
       (either (eqb n 1) (λ e. rw e) (λ e. rw (e, p (either (leb 2 n) (leb-true 2 n) (λ f. clash (eq-eqb n 1 (omega tests)) e)))))
 
-  uncounted : (leb 1 n && leb n 8 && (eqb n 1 || not (eqb b 48))) ≡ true → (1 ≤ n) × (n ≤ 8) × (2 ≤ n → eqb b 48 ≡ false)
+  pub uncounted : countOk n b ≡ true → (1 ≤ n) × (n ≤ 8) × (2 ≤ n → eqb b 48 ≡ false)
   uncounted e =
       let t : (leb 1 n && leb n 8) ≡ true = and-fst _ (eqb n 1 || not (eqb b 48)) e in (
         leb-true 1 n (and-fst _ (leb n 8) t),
@@ -117,7 +123,7 @@ number-sound text at e =
     let u : (1 ≤ n) × (n ≤ 8) × (2 ≤ n → eqb (byteAt text at) 48 ≡ false) = uncounted n (byteAt text at) e in
     let m : n ≤ length text - at = least-le (length text - at) (λ i. not (isDigit (byteAt text (at + i)))) in
     let l : length ds ≡ n = piece-length text at n (omega arith) in
-    let h : Digits ds = λ i k. rw (piece-at text at n i (omega arith)) (not-false _ (least-below (length text - at) (λ i. not (isDigit (byteAt text (at + i)))) i (omega arith))) in
+    let h : Digits ds = λ i k. rw (piece-at text at n i (omega arith)) (count-digits text at i (omega arith)) in
     let f : getD ds 0 0 ≡ byteAt text at = rw add-zero at (piece-at text at n 0 (u .0)) in
     let v : decimal (valueOf 0 ds) ≡ ds = decimal-of ds h (omega arith) (omega arith) (λ k. rw f (u .2 (omega arith))) in
     rw e (
@@ -285,7 +291,7 @@ list-before text at n es e b o l =
           (join (entryText (n .value)) (e .1) (join (44 ∷ []) (byte-sound text (n .next) 44 (omega arith) b) (l .stands)));
     }
 
-before-ok : (v : ℕ) (es : Entries) → before v es .ok ≡ es .ok
+pub before-ok : (v : ℕ) (es : Entries) → before v es .ok ≡ es .ok
 unfolding before
 before-ok v es = either (es .ok) (λ p. rw p) (λ p. rw p)
 

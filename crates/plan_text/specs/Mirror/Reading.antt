@@ -1,1 +1,34 @@
--- Reading
+-- What the reader's functions hand on.
+use Prim.Native.Nat.{ℕ, _*_, _/_, _≤_}
+use mathlib.Core.Path.{_≡_}
+use mathlib.Core.Bool.{Bool, true, cond, not, _&&_, _||_}
+use mathlib.Core.List.{List}
+use lib.Dec.{leb, ltb, eqb}
+use lib.ListN.{length}
+use Rattle.encoding.specs.Pieces.{splice}
+use Rattle.encoding.specs.Numbers.{putU64}
+use Rattle.offsets.specs.Table.{tableBytes}
+use Rattle.plan_text.specs.declared.read.Numeral.{Numeral}
+use Rattle.plan_text.specs.declared.read.Counted.{Counted}
+use Rattle.plan_text.specs.Read.{Number, Entries}
+
+-- a number that was read
+abbrev pub numberOf : Numeral → Number
+numberOf n = record { ok = n .ok; value = n .value; next = n .next }
+
+-- a count of digits that a number may have, where b is the first
+abbrev pub countOk : ℕ → ℕ → Bool
+countOk n b = leb 1 n && leb n 8 && (eqb n 1 || not (eqb b 48))
+
+-- the table t with entry i, where there is room for it
+unfoldable pub stored : List ℕ → ℕ → ℕ → List ℕ
+stored t i v = cond (ltb i (length t / 8)) (putU64 t (8 * i) v) t
+
+-- the list es of a text, as it is counted, and the table that it leaves where there is room for all its entries
+pub record ListRead (text : List ℕ) (es : Entries) (entry exit : List ℕ) (r : Counted) : Type 0 where
+  pub ok : r .ok ≡ es .ok
+  pub count : r .count ≡ length (es .values)
+  pub next : r .next ≡ es .next
+  pub within : r .next ≤ length text
+  pub size : length exit ≡ length entry
+  pub filled : es .ok ≡ true → 8 * length (es .values) ≤ length entry → exit ≡ splice entry 0 (tableBytes (es .values))

@@ -5,8 +5,8 @@ use mathlib.Core.List.{List, [], _∷_}
 use Rattle.encoding.specs.Below.{anyBelow, countBelow, leastBelow, keptBelow}
 use Rattle.encoding.specs.Pieces.{piece}
 use Rattle.encoding.specs.Numbers.{leValue, leBytes, leAt}
-use Rattle.offsets.specs.Table.{ranks, entry, negative, magnitude, firstOf, trees, firstTree, endTree, holds}
-use Rattle.offsets.proofs.Examples.{tableBytes, minus}
+use Rattle.offsets.specs.Table.{ranks, entry, negative, magnitude, firstOf, trees, firstTree, endTree, holds, tableBytes}
+use Rattle.offsets.proofs.Examples.{minus}
 use Rattle.pattern.specs.Sender.{leastHolder, sender, sends, sentCount, sentFirst}
 use Rattle.pattern.specs.Sets.{sendsTo, sendSet}
 

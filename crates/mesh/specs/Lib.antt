@@ -1,0 +1,3 @@
+-- Document 01, "Records, whole mesh and part": the whole mesh.
+pub mod Link
+pub mod Mesh

@@ -1,0 +1,1 @@
+// Records: shapes, links and form.

@@ -11,7 +11,7 @@ sent-high-requires : tie.Need-sent-high-requires
 sent-high-requires c κs = search needs
 
 returns : tie.Need-returns
-returns c = sent-none _ _ _ _ (c .before .before .before .before .before .pre) _ _ (c .before .before .sent-low .ensures) (c .before .sent-high .ensures) (omega arith)
+returns c = sent-none _ _ _ _ (c .before .before .before .before .before .pre) _ _ (c .before .before .sent-low .ensures) (c .before .sent-high .ensures) (c .if1 .taken)
 
 cast-t8 : tie.Need-cast-t8
 cast-t8 c = omega (arith, sent-fits _ _ _ _ (c .before .before .before .before .before .pre) _ _ (c .before .before .sent-low .ensures) (c .before .sent-high .ensures))

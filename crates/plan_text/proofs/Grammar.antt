@@ -1,8 +1,8 @@
 -- What is read is exactly what `render` writes. `drop at text` is what stands from a place on.
-use Prim.Native.Nat.{ℕ, zero, suc, _+_, _-_, _^_, _≤_, _<_}
+use Prim.Native.Nat.{ℕ, zero, suc, _+_, _-_, _*_, _^_, _≤_, _<_}
 use mathlib.Core.Path.{_≡_, refl, sym, ap, _∙_}
-use mathlib.Core.Bool.{true, false, not, _&&_, _||_}
-use mathlib.Core.List.{List, [], _∷_, _++_, append-assoc}
+use mathlib.Core.Bool.{Bool, true, false, not, _&&_, _||_}
+use mathlib.Core.List.{List, [], _∷_, _++_, append-assoc, append-nil}
 use native.Mathlib.Nat.{add-zero}
 use native.Mathlib.Numerals.{add-one}
 use native.Mathlib.Omega.{arith}
@@ -13,10 +13,15 @@ use borrow.Author.Tests.{ltb-true, leb-true, eqb-true, not-true, not-false, le-l
 use Rattle.encoding.specs.Pieces.{piece}
 use Rattle.encoding.proofs.Below.{tests, either, clash, and-fst, and-snd, and-intro, all-at, all-intro, least-is, least-le, least-below}
 use Rattle.encoding.proofs.Pieces.{piece-length, piece-at}
-use Rattle.offsets.specs.Table.{negative, magnitude}
+use Rattle.encoding.specs.Numbers.{leBytes}
+use Rattle.encoding.proofs.Numbers.{bytes-length}
+use Rattle.encoding.specs.Refusal.{Check, check, firstFailed}
+use Rattle.pattern.specs.Calls.{tableChecks}
+use Rattle.offsets.specs.Table.{negative, magnitude, tableBytes}
 use Rattle.offsets.proofs.Tables.{plain-magnitude}
 use Rattle.plan_text.specs.Text.{decimal, numberLimit, entryText, entryOk, listText, ranksWord, oldWord, newWord, render, Input}
 use Rattle.plan_text.specs.Read.{inputLimit, byteAt, isDigit, digitCount, valueOf, Number, digitsOk, readNumber, negated, readEntry, Entries, before, readList, wordAt, readRanks, readOld, readNew, formOk, parse}
+use Rattle.plan_text.specs.Plan.{planRefusal}
 use Rattle.plan_text.specs.Mirror.Reading.{countOk}
 use Rattle.plan_text.proofs.Decimals.{Digits, digit-range, decimal-digit, decimal-least, decimal-most, decimal-plain, decimal-value, decimal-limit, decimal-of}
 
@@ -312,6 +317,20 @@ list-sound (suc most) text at e =
     (λ r. clash (rw (p, q, r) at e) refl)))
     (λ p. clash (rw p at e) refl)
 
+-- ---- tables
+
+-- 8 bytes for each entry
+pub table-length : (vs : List ℕ) → length (tableBytes vs) ≡ 8 * length vs
+unfolding tableBytes
+table-length [] = refl
+table-length (v ∷ vs) = rw (length-append, bytes-length, table-length vs) (omega arith)
+
+-- one more entry
+pub table-snoc : (vs : List ℕ) (v : ℕ) → tableBytes (vs ++ (v ∷ [])) ≡ tableBytes vs ++ leBytes 8 v
+unfolding tableBytes
+table-snoc [] v = append-nil (leBytes 8 v)
+table-snoc (w ∷ vs) v = rw (table-snoc vs v, append-assoc)
+
 -- ---- the input
 
 -- a text that `render` writes is read back
@@ -403,20 +422,20 @@ pub parse-render : (P : ℕ) (old new : List ℕ) → Input P old new → length
 parse-render P old new i l = parse-read (render P old new) P old new i refl l
 
 -- the tests of the form, one by one
-record Formed (text : List ℕ) : Type 0 where
-  size : length text ≤ inputLimit
-  ranksName : wordAt text 0 ranksWord ≡ true
-  ranksRead : readRanks text .ok ≡ true
-  ranksEnd : byteAt text (readRanks text .next) ≡ 10
-  oldName : wordAt text (readRanks text .next + 1) oldWord ≡ true
-  oldRead : readOld text .ok ≡ true
-  newName : wordAt text (readOld text .next) newWord ≡ true
-  newRead : readNew text .ok ≡ true
-  end : readNew text .next ≡ length text
-  oldMany : length (readOld text .values) ≡ readRanks text .value + 1
-  newMany : length (readNew text .values) ≡ readRanks text .value + 1
+pub record Formed (text : List ℕ) : Type 0 where
+  pub size : length text ≤ inputLimit
+  pub ranksName : wordAt text 0 ranksWord ≡ true
+  pub ranksRead : readRanks text .ok ≡ true
+  pub ranksEnd : byteAt text (readRanks text .next) ≡ 10
+  pub oldName : wordAt text (readRanks text .next + 1) oldWord ≡ true
+  pub oldRead : readOld text .ok ≡ true
+  pub newName : wordAt text (readOld text .next) newWord ≡ true
+  pub newRead : readNew text .ok ≡ true
+  pub end : readNew text .next ≡ length text
+  pub oldMany : length (readOld text .values) ≡ readRanks text .value + 1
+  pub newMany : length (readNew text .values) ≡ readRanks text .value + 1
 
-formed : (text : List ℕ) → formOk text ≡ true → Formed text
+pub formed : (text : List ℕ) → formOk text ≡ true → Formed text
 unfolding formOk
 formed text ok =
     record {
@@ -480,9 +499,39 @@ module _ (text : List ℕ) (ok : formOk text ≡ true) where
 abbrev pub Rendered : List ℕ → Type 0
 Rendered text = (length text ≤ inputLimit) × (P : ℕ) × (old : List ℕ) × (new : List ℕ) × Input P old new × (text ≡ render P old new)
 
--- refusal 1 comes exactly where a text has over 32,768 bytes or is no render
-pub refused-form : (text : List ℕ) → (formOk text ≡ true → Rendered text) × (formOk text ≡ false → Rendered text → ⊥)
-refused-form text = (
+-- a text is in form exactly where it is one
+pub form-exact : (text : List ℕ) → (formOk text ≡ true → Rendered text) × (Rendered text → formOk text ≡ true)
+form-exact text = (
   λ ok. (formed text ok .size, parse text .ranks, parse text .old, parse text .new, render-parse text ok .0, render-parse text ok .1),
-  λ bad r. clash (form-read text (r .1) (r .2) (r .3) (r .4) (r .5) (r .0)) bad,
+  λ r. form-read text (r .1) (r .2) (r .3) (r .4) (r .5) (r .0),
+)
+
+-- a check with another number than 1, before such checks
+not-one : (n : ℕ) (b : Bool) (cs : List Check) → 1 < n → (firstFailed cs ≡ 1 → ⊥) → firstFailed (check b n ∷ cs) ≡ 1 → ⊥
+unfolding firstFailed
+not-one n true cs h f e = f e
+not-one n false cs h f e = omega arith
+
+none-one : firstFailed [] ≡ 1 → ⊥
+unfolding firstFailed
+none-one e = omega arith
+
+-- the first check that fails gives its number
+first-fails : (b : Bool) (n : ℕ) (cs : List Check) → b ≡ false → firstFailed (check b n ∷ cs) ≡ n
+unfolding firstFailed
+first-fails b n cs e = rw e
+
+-- where it holds, the others decide
+first-one : (b : Bool) (cs : List Check) → (firstFailed cs ≡ 1 → ⊥) → firstFailed (check b 1 ∷ cs) ≡ 1 → b ≡ false
+unfolding firstFailed
+first-one true cs f e = absurd (f e)
+first-one false cs f e = refl
+
+-- refusal 1 comes exactly where a text has over 32,768 bytes or is no render
+pub refused-form : (text : List ℕ) → (planRefusal text ≡ 1 → Rendered text → ⊥) × ((Rendered text → ⊥) → planRefusal text ≡ 1)
+unfolding planRefusal tableChecks parse
+refused-form text = (
+  λ e r. clash (form-exact text .1 r)
+      (first-one _ _ (not-one 2 _ _ (omega arith) (not-one 2 _ _ (omega arith) (not-one 3 _ _ (omega arith) (not-one 4 _ _ (omega arith) none-one)))) e),
+  λ n. either (formOk text) (λ ok. absurd (n (form-exact text .0 ok))) (λ bad. first-fails _ 1 _ bad),
 )

@@ -1,11 +1,10 @@
 // Reading the input.
 ghost use mathlib.Core.Path.{_≡_};
-ghost use mathlib.Core.Bool.{true};
 ghost use Prim.Native.Nat.{_+_, _-_, _≤_, _<_, _^_};
 ghost use lib.ListN.{length};
 ghost use Rattle.encoding.specs.Pieces.{piece};
 ghost use Rattle.plan_text.specs.Read.{byteAt, isDigit, digitCount, valueOf, readNumber, negated, readEntry, readList, wordAt};
-ghost use Rattle.plan_text.specs.Mirror.Reading.{numberOf, countOk, stored, ListRead};
+ghost use Rattle.plan_text.specs.Mirror.Reading.{numberOf, countOk, stored, formTests, ListRead, InputRead};
 
 // A number that was read, and the place behind it.
 struct Numeral {
@@ -19,6 +18,12 @@ struct Counted {
     ok: bool,
     count: usize,
     next: usize,
+}
+
+// What the input says of P.
+pub struct Heading {
+    pub ok: bool,
+    pub ranks: u64,
 }
 
 fn wide(x: u8) -> u64
@@ -178,5 +183,37 @@ fn read_list(text: &[u8], at: usize, table: &mut [u8]) -> Counted
             };
         }
         place = n.next + 1;
+    }
+}
+
+// The three lines, each with its word and LF, nothing behind them, and as many entries as ranks + 1.
+fn form_ok(text: &[u8], ranks: Numeral, old: Counted, new: Counted) -> bool
+    requires { ⌜ (ranks .next < 2 ^ 32) × (ranks .value < 2 ^ 32) × (old .next < 2 ^ 32) ⌝ }
+    ensures { λ r. ⌜ r ≡ formTests (now (text .entry)) ranks old new ⌝ }
+{
+    let count = (ranks.value + 1) as usize;
+    (word_at(text, 0, b"ranks=") & ranks.ok & (byte_at(text, ranks.next) == 10))
+        & (word_at(text, ranks.next + 1, b"old=") & old.ok)
+        & (word_at(text, old.next, b"new=") & new.ok)
+        & (new.next == text.len())
+        & ((old.count == count) & (new.count == count))
+}
+
+// The whole input. Where it is in form and a table has room for all entries of its list, the table begins with them.
+pub fn read_input(text: &[u8], old: &mut [u8], new: &mut [u8]) -> Heading
+    ensures { λ r. ⌜ InputRead (now (text .entry)) (now (old .entry)) (now (old .exit)) (now (new .entry)) (now (new .exit)) r ⌝ }
+{
+    if 32768 < text.len() {
+        return Heading {
+            ok: false,
+            ranks: 0,
+        };
+    }
+    let p = read_number(text, 6);
+    let o = read_list(text, p.next + 5, &mut *old);
+    let n = read_list(text, o.next + 4, &mut *new);
+    Heading {
+        ok: form_ok(text, p, o, n),
+        ranks: p.value,
     }
 }

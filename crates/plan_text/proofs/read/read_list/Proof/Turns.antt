@@ -2,7 +2,7 @@
 use Prim.Native.Nat.{ℕ, zero, suc, _+_, _-_, _*_, _/_, _≤_, _<_}
 use mathlib.Core.Path.{_≡_, refl, sym, ap, _∙_}
 use mathlib.Core.Bool.{true, false, cond, not}
-use mathlib.Core.List.{List, [], _∷_, _++_, append-assoc, append-nil}
+use mathlib.Core.List.{List, [], _∷_, _++_, append-assoc}
 use native.Mathlib.Nat.{zero-add, sub-zero}
 use native.Mathlib.Omega.{arith}
 use lib.Dec.{ltb, eqb}
@@ -12,12 +12,12 @@ use Rattle.encoding.specs.Pieces.{splice}
 use Rattle.encoding.specs.Numbers.{lePut, leBytes}
 use Rattle.encoding.proofs.Below.{tests, either, clash}
 use Rattle.encoding.proofs.Pieces.{splice-none, splice-then}
-use Rattle.encoding.proofs.Numbers.{length-put, bytes-length}
+use Rattle.encoding.proofs.Numbers.{length-put}
 use Rattle.offsets.specs.Table.{tableBytes}
 use Rattle.plan_text.specs.Text.{entryText}
 use Rattle.plan_text.specs.Read.{byteAt, Number, readEntry, Entries, noEntries, before, readList}
 use Rattle.plan_text.specs.Mirror.Reading.{stored, ListRead}
-use Rattle.plan_text.proofs.Grammar.{byte-within, entry-least, entry-sound, from-length, before-ok}
+use Rattle.plan_text.proofs.Grammar.{byte-within, entry-least, entry-sound, from-length, before-ok, table-length, table-snoc}
 
 -- ---- one entry
 
@@ -85,16 +85,6 @@ prefixed-before vs v es = either (es .ok) (λ p. rw (p, append-assoc)) (λ p. rw
 
 -- ---- tables
 
-table-length : (vs : List ℕ) → length (tableBytes vs) ≡ 8 * length vs
-unfolding tableBytes
-table-length [] = refl
-table-length (v ∷ vs) = rw (length-append, bytes-length, table-length vs) (omega arith)
-
-table-snoc : (vs : List ℕ) (v : ℕ) → tableBytes (vs ++ (v ∷ [])) ≡ tableBytes vs ++ leBytes 8 v
-unfolding tableBytes
-table-snoc [] v = append-nil (leBytes 8 v)
-table-snoc (w ∷ vs) v = rw (table-snoc vs v, append-assoc)
-
 -- a store keeps the length
 stored-length : (t : List ℕ) (i v : ℕ) → length (stored t i v) ≡ length t
 unfolding stored
@@ -130,15 +120,15 @@ reading-none text at entry =
 
 module _ {text : List ℕ} {at : ℕ} {entry : List ℕ} {count place : ℕ} {table : List ℕ} (s : Reading text at entry count place table) {n : Number} (en : n ≡ readEntry text place) where
   -- nothing is read
-  failed : {exit : List ℕ} → length exit ≡ length entry → readList (length text - count) text place ≡ noEntries
+  failed : {exit : List ℕ} → readList (length text - count) text place ≡ noEntries
       → ListRead text (readList (length text) text at) entry exit (record { ok = false; count = 0; next = 0 })
   unfolding prefixed
-  failed l e =
+  failed e =
       let z : readList (length text) text at ≡ noEntries = s .left ∙ rw e in
-      rw z record { ok = refl; count = refl; next = refl; within = omega arith; size = l; filled = λ p h. clash p refl }
+      rw z record { ok = refl; count = refl; next = refl; within = omega arith; filled = λ p h. clash p refl }
 
   pub reading-refused : not (n .ok) ≡ true → ListRead text (readList (length text) text at) entry table (record { ok = false; count = 0; next = 0 })
-  reading-refused p = failed (s .size) (no-entry text place (length text - count) (rw (← en) (not-true (n .ok) p)))
+  reading-refused p = failed (no-entry text place (length text - count) (rw (← en) (not-true (n .ok) p)))
 
   module _ (ok : not (n .ok) ≡ false) where
     read : readEntry text place .ok ≡ true
@@ -183,11 +173,11 @@ module _ {text : List ℕ} {at : ℕ} {entry : List ℕ} {count place : ℕ} {ta
           s .left ∙ rw (fewer, line-feed text place (length text - (count + 1)) read (behind 10 p), ← en) in
           let w : n .next < length text = reading-within (omega arith) in
           rw z
-          record { ok = refl; count = sym one-more; next = refl; within = omega arith; size = exit-size; filled = λ q h. exit-filled (rw one-more at h) }
+          record { ok = refl; count = sym one-more; next = refl; within = omega arith; filled = λ q h. exit-filled (rw one-more at h) }
 
       -- any other byte but a comma
       pub reading-broken : (b ≡ 10 → ⊥) → (b ≡ 44 → ⊥) → ListRead text (readList (length text) text at) entry exit (record { ok = false; count = 0; next = 0 })
-      reading-broken p q = failed exit-size (rw fewer (neither text place (length text - (count + 1)) read (not-behind 44 q) (not-behind 10 p)))
+      reading-broken p q = failed (rw fewer (neither text place (length text - (count + 1)) read (not-behind 44 q) (not-behind 10 p)))
 
       -- a comma
       pub reading-more : b ≡ 44 → Reading text at entry (count + 1) (n .next + 1) exit

@@ -9,16 +9,18 @@ use mathlib.Core.List.{List, [], _∷_, _++_, append-assoc, append-nil}
 use lib.Dec.{leb, ltb, eqb}
 use lib.ListN.{length, getD, set, take, length-append, List·getD-append}
 use lib.Seq.{take-suc, getD-append-add}
-use borrow.Author.Tests.{lt-ltb, le-ltb, lt-leb, le-leb, eq-eqb, ltb-true, eqb-true, eqb-false}
+use borrow.Author.Tests.{lt-ltb, le-ltb, lt-leb, le-leb, eq-eqb, ne-eqb, ltb-true, eqb-true, eqb-false}
 use Rattle.encoding.specs.Below.{anyBelow, countBelow, sumBelow, keptBelow, member}
 use Rattle.encoding.specs.Pieces.{Bytes, splice}
 use Rattle.encoding.specs.Numbers.{leBytes}
+use Rattle.encoding.specs.declared.answer.Length.{Length}
 use Rattle.encoding.specs.Refusal.{firstFailed}
 use Rattle.encoding.specs.Answer.{lengthAnswer, written, writeAnswer}
 use Rattle.encoding.proofs.Below.{tests, either, iff-eq, any-at, any-none, any-false, sum-le, count-le, count-zero, count-none, count-lt}
-use Rattle.encoding.proofs.Pieces.{splice-none, splice-cons, splice-then, length-splice}
-use Rattle.offsets.specs.Table.{ranks, trees, tableBytes}
-use Rattle.offsets.proofs.Tables.{never-falls, ranks-high, trees-high}
+use Rattle.encoding.proofs.Pieces.{splice-none, splice-cons, splice-then, splice-take, length-splice}
+use Rattle.offsets.specs.Limits.{rankCountOk}
+use Rattle.offsets.specs.Table.{ranks, ranksOk, trees, valid, tableBytes}
+use Rattle.offsets.proofs.Tables.{never-falls, ranks-within, ranks-high, trees-high}
 use Rattle.pattern.specs.Sender.{Tables, sends, sentFirst, sentCount}
 use Rattle.pattern.specs.Sets.{sendsTo, sendSet}
 use Rattle.pattern.specs.Mirror.{RankOf, PairOf}
@@ -26,10 +28,13 @@ use Rattle.pattern.specs.Calls.{tableChecks}
 use Rattle.pattern.proofs.Sets.{send-member, send-length, send-ascends, one-range, sent-in, sent-below, move-bound}
 use Rattle.pattern.proofs.Answers.{tables-agree}
 use Rattle.plan_text.specs.Text.{digitsOf, decimal, numberLimit, ranksWord}
-use Rattle.plan_text.specs.Read.{parse}
-use Rattle.plan_text.specs.Plan.{planRanks, treesWord, moveWord, messagesWord, refusedWord, lineText, moveText, movesFrom, movesText, moveCount, movesOutput, planRefusal, planOutput}
-use Rattle.plan_text.specs.Mirror.Writing.{Put, Fits, FitsNumber, Small, FitsRow, FitsPair, FitsFrom, FitsMoves, SmallOutput, FitsOutput, numberText, rowText, pairText, outputAnswer}
+use Rattle.plan_text.specs.Read.{formOk, parse}
+use Rattle.plan_text.specs.Plan.{planRanks, treesWord, moveWord, messagesWord, refusedWord, lineText, moveText, movesFrom, movesText, moveCount, movesOutput, planRefusal, planOutput, planAnswer}
+use Rattle.plan_text.specs.Mirror.Writing.{Put, Fits, FitsNumber, Small, FitsRow, FitsPair, FitsFrom, FitsMoves, SmallOutput, FitsOutput, numberText, rowText, pairText, outputAnswer, tablesOutput}
+use Rattle.plan_text.specs.declared.read.Heading.{Heading}
+use Rattle.plan_text.specs.Mirror.Reading.{Fills, InputRead}
 use Rattle.plan_text.proofs.Decimals.{decimal-most}
+use Rattle.plan_text.proofs.Grammar.{table-length, formed}
 
 -- ---- numbers
 
@@ -546,3 +551,71 @@ module _ (old new : List ℕ) (T : Tables old new) (p q : ℕ) (l : p < ranks ol
 
   pub move-last : sends old new p q (sentFirst old new p q + sentCount old new p q - 1) ≡ true
   move-last = sent-in old new T p q l r (sentFirst old new p q + sentCount old new p q - 1) (omega (arith, some-sent)) (omega (arith, some-sent))
+
+-- ---- the call: its checks in order
+
+module _ (old new : List ℕ) {r : ℕ} (e : r ≡ firstFailed (tableChecks old new)) where
+  -- a table's refusal is a small number
+  pub tables-small : r < numberLimit
+  unfolding tableChecks firstFailed
+  tables-small =
+      rw e
+      (either (ranksOk old && ranksOk new)
+      (λ a. either (valid old && valid new)
+      (λ b. either (eqb (ranks old) (ranks new) && eqb (trees old) (trees new)) (λ c. rw (a, b, c) (omega arith)) (λ c. rw (a, b, c) (omega arith)))
+      (λ b. rw (a, b) (omega arith)))
+      (λ a. rw a (omega arith)))
+
+  pub tables-refused : (r ≡ 0 → ⊥) → lineText refusedWord r ≡ tablesOutput old new
+  unfolding tablesOutput
+  tables-refused n = rw (← e, ne-eqb r 0 n)
+
+  pub tables-moved : r ≡ 0 → movesOutput old new ≡ tablesOutput old new
+  unfolding tablesOutput
+  tables-moved z = rw (← e, eq-eqb r 0 z)
+
+module _ (text : List ℕ) where
+  pub plan-unformed : formOk text ≡ false → lineText refusedWord 1 ≡ planOutput text
+  unfolding planOutput planRefusal firstFailed parse
+  plan-unformed e = rw e
+
+  module _ (e : formOk text ≡ true) where
+    pub plan-unranked : rankCountOk (parse text .ranks) ≡ false → lineText refusedWord 2 ≡ planOutput text
+    unfolding planOutput planRefusal firstFailed parse rankCountOk
+    plan-unranked f = rw (e, f)
+
+    module _ (t : rankCountOk (parse text .ranks) ≡ true) where
+      pub plan-tabled : tablesOutput (tableBytes (parse text .old)) (tableBytes (parse text .new)) ≡ planOutput text
+      unfolding planOutput planRefusal firstFailed parse rankCountOk tablesOutput
+      plan-tabled = rw (e, t)
+
+-- what the input says, read into two tables with room for 1,024 ranks
+module _ {text oldEntry oldExit newEntry newExit : List ℕ} {h : Heading} (R : InputRead text oldEntry oldExit newEntry newExit h) where
+  pub read-unformed : h .ok ≡ false → lineText refusedWord 1 ≡ planOutput text
+  read-unformed f = plan-unformed text (sym (R .ok) ∙ f)
+
+  module _ (e : h .ok ≡ true) where
+    pub read-unranked : rankCountOk (h .ranks) ≡ false → lineText refusedWord 2 ≡ planOutput text
+    read-unranked f = plan-unranked text (sym (R .ok) ∙ e) (ap rankCountOk (sym (R .ranks e)) ∙ f)
+
+    module _ (t : rankCountOk (h .ranks) ≡ true) where
+      pub read-most : 8 * (h .ranks + 1) ≤ 8200
+      read-most = omega (arith, ranks-within (h .ranks) t)
+
+      -- the entries of a list that was read are the table of P ranks
+      part : (vs bs out : List ℕ) → length vs ≡ h .ranks + 1 → 8200 ≤ length bs → Fills (parse text .ranks) vs bs out → take (8 * (h .ranks + 1)) out ≡ tableBytes vs
+      part vs bs out l b f =
+          let m : 0 + length (tableBytes vs) ≡ 8 * (h .ranks + 1) = omega (arith, table-length vs) in
+          rw (f (rw (← R .ranks e) (omega (arith, read-most))), ← m) (splice-take bs 0 (tableBytes vs) (omega (arith, read-most)))
+
+      pub read-tables : 8200 ≤ length oldEntry → 8200 ≤ length newEntry → tablesOutput (take (8 * (h .ranks + 1)) oldExit) (take (8 * (h .ranks + 1)) newExit) ≡ planOutput text
+      unfolding parse
+      read-tables o n =
+          let form = formed text (sym (R .ok) ∙ e) in
+          rw (part (parse text .old) oldEntry oldExit (form .oldMany ∙ rw (R .ranks e)) o (R .old e), part (parse text .new) newEntry newExit (form .newMany ∙ rw (R .ranks e)) n (R .new e))
+          (plan-tabled text (sym (R .ok) ∙ e) (ap rankCountOk (sym (R .ranks e)) ∙ t))
+
+-- the answer for an output that is the plan's
+pub answered : {answer : Length × List ℕ} {output : List ℕ} (text out : List ℕ) → output ≡ planOutput text → answer ≡ outputAnswer output out → answer ≡ planAnswer text out
+unfolding planAnswer outputAnswer
+answered text out e h = rw e at h

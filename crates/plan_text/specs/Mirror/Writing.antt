@@ -3,7 +3,7 @@ use Prim.Native.Nat.{ℕ, _+_, _*_, _≤_, _<_}
 use mathlib.Core.Path.{_≡_}
 use mathlib.Core.Bool.{cond}
 use mathlib.Core.List.{List, [], _∷_, _++_}
-use lib.Dec.{leb}
+use lib.Dec.{leb, eqb}
 use lib.ListN.{length}
 use Rattle.encoding.specs.declared.answer.Length.{Length}
 use Rattle.encoding.specs.Answer.{writeAnswer}
@@ -12,9 +12,10 @@ use Rattle.encoding.specs.Pieces.{splice}
 use Rattle.offsets.specs.Table.{ranks}
 use Rattle.pattern.specs.Sender.{Tables}
 use Rattle.pattern.specs.Sets.{sendsTo}
+use Rattle.pattern.specs.Calls.{tableChecks}
 use Rattle.pattern.specs.Mirror.{RankOf, PairOf}
 use Rattle.plan_text.specs.Text.{decimal, numberLimit}
-use Rattle.plan_text.specs.Plan.{moveWord, moveText, movesFrom, movesText, moveCount, movesOutput}
+use Rattle.plan_text.specs.Plan.{moveWord, refusedWord, lineText, moveText, movesFrom, movesText, moveCount, movesOutput}
 
 -- the text stands at its place, all else is as before, and `next` is the place behind it
 pub record Put (before after : List ℕ) (at next : ℕ) (text : List ℕ) : Type 0 where
@@ -90,3 +91,8 @@ pub record FitsOutput (old new out : List ℕ) (moves : ℕ) : Type 0 where
 -- an output written into a lent buffer that has room for it, with its length
 unfoldable pub outputAnswer : List ℕ → List ℕ → Length × List ℕ
 outputAnswer output out = writeAnswer (firstFailed (check (leb (length output) (length out)) 22 ∷ [])) output out
+
+-- the output for two tables
+unfoldable pub tablesOutput : List ℕ → List ℕ → List ℕ
+tablesOutput old new =
+    cond (eqb (firstFailed (tableChecks old new)) 0) (movesOutput old new) (lineText refusedWord (firstFailed (tableChecks old new)))

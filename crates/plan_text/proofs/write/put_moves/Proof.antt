@@ -1,0 +1,57 @@
+use Rattle.plan_text.proofs.Writing.{put-none, text-fits, text-turn}
+use Rattle.plan_text.specs.Mirror.Writing.{Put}
+use Rattle.plan_text.specs.Plan.{movesText}
+use Rattle.offsets.specs.Table.{ranks}
+use native.Mathlib.Omega.{arith}
+use lib.ListN.{length}
+use mathlib.Core.Path.{_≡_, refl}
+use Prim.Native.Nat.{_-_, _≤_}
+use borrow.Author.Needs.{needs}
+use Rattle.plan_text.proofs.write.put_moves.Statement.{statement}
+use Rattle.plan_text.proofs.write.put_moves.Tie as tie
+
+abbrev Inv-loop : tie.InvT-loop
+Inv-loop out₀ at old new n next₀ p₀ out next p = (p ≤ ranks old) × (Put out₀ out at next (movesText old new p) × (length out ≡ length out₀))
+
+abbrev μ-loop : tie.MeasureT-loop
+μ-loop out₀ at old new n next₀ p₀ out next p = n - p
+
+ranks-requires : tie.Need-ranks-requires Inv-loop μ-loop
+ranks-requires c κs = c .before .before .before .pre .tables .oldRanks
+
+loop-holds : tie.Need-loop-holds Inv-loop μ-loop
+unfolding movesText
+loop-holds c = (omega arith, (put-none _ _, refl))
+
+put-from-requires : tie.Need-put-from-requires Inv-loop μ-loop
+put-from-requires c κs = text-fits (c .before .before .before .before .before .before .before .pre) (c .before .before .loop .p) (omega arith) (c .before .before .loop .inv .1 .0)
+
+add-p : tie.Need-add-p Inv-loop μ-loop
+add-p c = search needs
+
+loop-less : tie.Need-loop-less Inv-loop μ-loop
+loop-less c = search needs
+
+loop-again : tie.Need-loop-again Inv-loop μ-loop
+loop-again c = (omega arith, (text-turn (c .before .before .before .before .before .before .before .before .before .before .pre) (c .before .before .before .before .before .loop .p) (omega arith) (c .before .before .before .before .before .loop .inv .1 .0) (c .before .before .put-from .ensures), search needs))
+
+same-length : tie.Need-same-length Inv-loop μ-loop
+same-length c = search needs
+
+returns : tie.Need-returns Inv-loop μ-loop
+returns c = let e : c .before .loop .p ≡ ranks (c .before .before .before .before .before .before .args .old .now) = omega arith in rw (← e) (c .before .loop .inv .1 .0)
+
+pub put-moves-spec : {M : Type 1} → statement M
+put-moves-spec =
+    tie.close
+    (tie.spec
+    Inv-loop
+    μ-loop
+    ranks-requires
+    loop-holds
+    put-from-requires
+    add-p
+    loop-less
+    loop-again
+    same-length
+    returns)

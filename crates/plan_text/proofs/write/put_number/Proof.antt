@@ -1,0 +1,23 @@
+use Rattle.plan_text.proofs.Writing.{fits-first, fits-next, put-then}
+use Rattle.plan_text.specs.Mirror.Writing.{numberText}
+use borrow.Author.Needs.{needs}
+use Rattle.plan_text.proofs.write.put_number.Statement.{statement}
+use Rattle.plan_text.proofs.write.put_number.Tie as tie
+
+put-decimal-requires : tie.Need-put-decimal-requires
+unfolding numberText
+put-decimal-requires c κs = record { small = c .before .before .pre .small; fits = fits-first _ _ (c .before .before .pre .fits) }
+
+put-byte-requires : tie.Need-put-byte-requires
+unfolding numberText
+put-byte-requires c κs = fits-next (c .before .before .before .put-decimal .ensures) _ (c .before .before .before .before .before .before .pre .fits)
+
+same-length : tie.Need-same-length
+same-length c = search needs
+
+returns : tie.Need-returns
+unfolding numberText
+returns c = put-then (c .before .before .before .before .before .before .put-decimal .ensures) _ (c .before .before .before .before .before .before .before .before .before .pre .fits) (c .before .before .put-byte .ensures)
+
+pub put-number-spec : {M : Type 1} → statement M
+put-number-spec = tie.close (tie.spec put-decimal-requires put-byte-requires same-length returns)

@@ -1,0 +1,42 @@
+use Rattle.plan_text.proofs.Writing.{row-word, row-sender, row-receiver, row-first, row-last, row-done}
+use mathlib.Core.Path.{refl}
+use borrow.Author.Needs.{needs}
+use Rattle.plan_text.proofs.write.put_row.Statement.{statement}
+use Rattle.plan_text.proofs.write.put_row.Tie as tie
+
+slice-aggregate-put-word : tie.Need-slice-aggregate-put-word
+slice-aggregate-put-word c = refl
+
+put-word-requires : tie.Need-put-word-requires
+put-word-requires c κs = row-word (c .before .before .before .pre)
+
+put-number-requires : tie.Need-put-number-requires
+put-number-requires c κs = row-sender (c .before .before .before .before .before .before .before .pre) (c .before .before .before .put-word .ensures)
+
+put-number-requires-2 : tie.Need-put-number-requires-2
+put-number-requires-2 c κs = row-receiver (c .before .before .before .before .before .before .before .before .before .before .before .pre) (c .before .before .before .before .before .before .before .put-word .ensures) (c .before .before .before .put-number .ensures)
+
+put-number-requires-3 : tie.Need-put-number-requires-3
+put-number-requires-3 c κs = row-first (c .before .before .before .before .before .before .before .before .before .before .before .before .before .before .before .pre) (c .before .before .before .before .before .before .before .before .before .before .before .put-word .ensures) (c .before .before .before .before .before .before .before .put-number .ensures) (c .before .before .before .put-number2 .ensures)
+
+put-number-requires-4 : tie.Need-put-number-requires-4
+put-number-requires-4 c κs = row-last (c .before .before .before .before .before .before .before .before .before .before .before .before .before .before .before .before .before .before .before .pre) (c .before .before .before .before .before .before .before .before .before .before .before .before .before .before .before .put-word .ensures) (c .before .before .before .before .before .before .before .before .before .before .before .put-number .ensures) (c .before .before .before .before .before .before .before .put-number2 .ensures) (c .before .before .before .put-number3 .ensures)
+
+same-length : tie.Need-same-length
+same-length c = search needs
+
+returns : tie.Need-returns
+returns c = row-done (c .before .before .before .before .before .before .before .before .before .before .before .before .before .before .before .before .before .before .before .before .before .before .pre) (c .before .before .before .before .before .before .before .before .before .before .before .before .before .before .before .before .before .before .put-word .ensures) (c .before .before .before .before .before .before .before .before .before .before .before .before .before .before .put-number .ensures) (c .before .before .before .before .before .before .before .before .before .before .put-number2 .ensures) (c .before .before .before .before .before .before .put-number3 .ensures) (c .before .before .put-number4 .ensures)
+
+pub put-row-spec : {M : Type 1} → statement M
+put-row-spec =
+    tie.close
+    (tie.spec
+    slice-aggregate-put-word
+    put-word-requires
+    put-number-requires
+    put-number-requires-2
+    put-number-requires-3
+    put-number-requires-4
+    same-length
+    returns)

@@ -23,7 +23,7 @@ use Rattle.offsets.specs.Table.{ranks, ranksOk, trees, valid, tableBytes}
 use Rattle.offsets.proofs.Tables.{never-falls, ranks-within, ranks-high, trees-high}
 use Rattle.pattern.specs.Sender.{Tables, sends, sentFirst, sentCount}
 use Rattle.pattern.specs.Sets.{sendsTo, sendSet}
-use Rattle.pattern.specs.Mirror.{RankOf, PairOf}
+use Rattle.pattern.specs.Mirror.{PairOf}
 use Rattle.pattern.specs.Calls.{tableChecks}
 use Rattle.pattern.proofs.Sets.{send-member, send-length, send-ascends, one-range, sent-in, sent-below, move-bound}
 use Rattle.pattern.proofs.Answers.{tables-agree}
@@ -58,12 +58,15 @@ decimal-more n h l = rw (le-ltb n 10 h, ← digits-more 6 (n / 10) (omega arith)
 
 -- ---- texts written one behind the other
 
+-- nothing is written
 pub put-none : (out : List ℕ) (at : ℕ) → Put out out at at []
 put-none out at = record { wrote = sym (splice-none out at); behind = sym (add-zero at) }
 
+-- one byte is stored
 pub put-byte : (out : List ℕ) (at b : ℕ) → Fits out at (b ∷ []) → Put out (set out at b) at (at + 1) (b ∷ [])
 put-byte out at b h = record { wrote = sym (splice-cons out at b [] (omega (arith, h .room)) ∙ splice-none (set out at b) (suc at)); behind = refl }
 
+-- equal texts
 pub put-as : {a b : List ℕ} {at n : ℕ} {s t : List ℕ} → s ≡ t → Put a b at n s → Put a b at n t
 put-as e p = rw e at p
 
@@ -101,6 +104,7 @@ fits-tenth {out} {at} {n} h r = fits-as (decimal-more n h (r .small)) (r .fits)
 -- ---- a text that grows by a piece at each turn of a loop
 
 module _ (N : ℕ) (f g : ℕ → List ℕ) (more : (i : ℕ) → i < N → f (i + 1) ≡ f i ++ g i) where
+  -- no turn makes it shorter
   shorter : (i n : ℕ) → i ≤ n → n ≤ N → length (f i) ≤ length (f n)
   shorter = never-falls N (λ i. length (f i)) (λ i h. omega (arith, rw add-one at (ap length (more i h) ∙ length-append (f i) (g i))))
 
@@ -108,6 +112,7 @@ module _ (N : ℕ) (f g : ℕ → List ℕ) (more : (i : ℕ) → i < N → f (i
     fits-more : Fits a at (f i ++ g i)
     fits-more = fits-as (more i h) (record { room = omega (arith, shorter (i + 1) N (omega arith) (omega arith), r .room) })
 
+    -- a turn has room for its piece, and grows the text by it
     pub fits-turn : Fits b n (g i)
     fits-turn = fits-next p _ fits-more
 
@@ -176,6 +181,7 @@ module _ (old new : List ℕ) where
       let b = sentFirst old new p q + sentCount old new p q - 1 in
       omega (arith, ap length (move-row p q), row-length p q a b, decimal-most p, decimal-most q, decimal-most a, decimal-most b)
 
+  -- a pair without a tree has none
   pub pair-most : (p q : ℕ) → length (pairText old new p q) ≤ 41 * cond (sendsTo old new p q) 1 0
   unfolding pairText
   pair-most p q = either (sendsTo old new p q) (λ t. rw t (move-most p q)) (λ f. rw f (omega arith))
@@ -189,6 +195,7 @@ module _ (old new : List ℕ) where
   unfolding movesText
   text-more p = rw add-one
 
+  -- and so do the lengths
   pub from-length : (p q : ℕ) → length (movesFrom old new p (q + 1)) ≡ length (movesFrom old new p q) + length (pairText old new p q)
   from-length p q = rw (from-more p q) (length-append (movesFrom old new p q) (pairText old new p q))
 
@@ -213,6 +220,7 @@ module _ (old new : List ℕ) where
 
 -- the trees from p to q: the first and how many
 module _ {old new : List ℕ} {p q first count : ℕ} (P : PairOf old new p q) (a : first ≡ sentFirst old new p q) (b : count ≡ sentCount old new p q) where
+  -- with no tree there is no move
   pub pair-unsent : count ≡ 0 → sendsTo old new p q ≡ false
   unfolding sendsTo sentCount sends
   pair-unsent e = any-none (trees old) (sends old new p q) (count-zero (trees old) (sends old new p q) (sym b ∙ e))
@@ -228,6 +236,7 @@ module _ {old new : List ℕ} {p q first count : ℕ} (P : PairOf old new p q) (
   pair-none e = rw (pair-unsent e)
 
   module _ (n : count ≡ 0 → ⊥) where
+    -- else the move is the row of the two ranks, the first and the last tree
     pub pair-some : pairText old new p q ≡ rowText p q first (first + count - 1)
     unfolding pairText
     pair-some = rw (pair-sent n, a, b) (move-row old new p q)
@@ -268,11 +277,13 @@ module _ {old new a b : List ℕ} {at n : ℕ} (r : FitsMoves old new a at) (p :
 
 -- ---- the output
 
+-- the length of a line
 pub line-length : (word : List ℕ) (n : ℕ) → length (lineText word n) ≡ length word + length (decimal n) + 1
 unfolding lineText
 line-length word n = simp length-append (omega arith)
 
 module _ (old new : List ℕ) where
+  -- the length of the output
   pub output-length : length (movesOutput old new)
       ≡ length (lineText ranksWord (ranks old)) + length (lineText treesWord (trees old)) + length (movesText old new (ranks old)) + length (lineText messagesWord (moveCount old new))
   unfolding movesOutput
@@ -335,6 +346,7 @@ pub answer-short : (output out : List ℕ) → length out < length output → (r
 unfolding outputAnswer writeAnswer lengthAnswer written firstFailed
 answer-short output out h = rw (lt-leb (length output) (length out) h)
 
+-- one that is long enough begins with the output
 pub answer-done : {out last : List ℕ} {end : ℕ} (output : List ℕ) → Fits out 0 output → Put out last 0 end output → (record { refusal = 0; length = end }, last) ≡ outputAnswer output out
 unfolding outputAnswer writeAnswer lengthAnswer written firstFailed
 answer-done {out} output h p = rw (le-leb (length output) (length out) (omega (arith, h .room)), p .wrote, p .behind) (ap (λ n. (record { refusal = 0; length = n }, splice out 0 output)) (zero-add (length output)))
@@ -367,6 +379,7 @@ plan-tables text e =
     tables-agree old new (firstFailed (tableChecks old new)) refl (table-bytes (parse text .old)) (table-bytes (parse text .new))
     (two-pass (parse text .ok) (leb 1 (parse text .ranks) && leb (parse text .ranks) planRanks) (firstFailed (tableChecks old new)) e)
 
+-- a number takes at most 8 bytes of a line
 line-most : (word : List ℕ) (n : ℕ) → length (lineText word n) ≤ length word + 9
 line-most word n = omega (arith, line-length word n, decimal-most n)
 
@@ -384,12 +397,18 @@ moves-fit old new T =
       ranks-high old (T .oldBytes) (T .oldRanks) (T .oldValid),
     )
 
+-- no output is longer
 pub output-fits : (text : List ℕ) → length (planOutput text) ≤ 131072
 unfolding planOutput
 output-fits text =
     either (eqb (planRefusal text) 0)
     (λ t. rw t (moves-fit _ _ (plan-tables text (eqb-true (planRefusal text) 0 t))))
     (λ f. rw f (omega (arith, line-most refusedWord (planRefusal text))))
+
+-- so a buffer of that size is never too short
+pub plan-written : (text out : List ℕ) → 131072 ≤ length out → planAnswer text out ≡ (record { refusal = 0; length = length (planOutput text) }, splice out 0 (planOutput text))
+unfolding planAnswer writeAnswer lengthAnswer written firstFailed
+plan-written text out h = rw (le-leb (length (planOutput text)) (length out) (omega (arith, output-fits text)))
 
 -- ---- the moves: exactly the pairs of a sender and a receiver with a tree to move, each once, by sender and then receiver
 
@@ -475,6 +494,13 @@ module _ (old new : List ℕ) where
   unfolding moveCount
   moves-counted = sym (pairs-count (ranks old))
 
+  -- the whole output
+  pub output-listed : movesOutput old new
+      ≡ lineText ranksWord (ranks old)
+      ++ (lineText treesWord (trees old) ++ (moveLines (movePairs (ranks old)) ++ lineText messagesWord (length (movePairs (ranks old)))))
+  unfolding movesOutput
+  output-listed = rw (← moves-listed (ranks old), ← moves-counted)
+
   -- a pair is listed exactly where both are ranks and the first sends the second a tree
   pub pairs-exact : (n p q : ℕ) → listed p q (movePairs n) ≡ (ltb p n && (ltb q (ranks old) && sendsTo old new p q))
   unfolding movePairs listed
@@ -537,6 +563,7 @@ module _ (old new : List ℕ) (T : Tables old new) (p q : ℕ) (l : p < ranks ol
       let a = any-at (trees old) (sends old new p q) s in
       omega (arith, count-lt (a .0) (trees old) (sends old new p q) (a .1) (a .2))
 
+  -- p sends q a tree exactly where it stands between the two
   pub move-trees : (k : ℕ) → k < trees old → sends old new p q k ≡ (leb (sentFirst old new p q) k && leb k (sentFirst old new p q + sentCount old new p q - 1))
   move-trees k h =
       let n = some-sent in
@@ -566,25 +593,30 @@ module _ (old new : List ℕ) {r : ℕ} (e : r ≡ firstFailed (tableChecks old 
       (λ b. rw (a, b) (omega arith)))
       (λ a. rw a (omega arith)))
 
+  -- tables that fail a check
   pub tables-refused : (r ≡ 0 → ⊥) → lineText refusedWord r ≡ tablesOutput old new
   unfolding tablesOutput
   tables-refused n = rw (← e, ne-eqb r 0 n)
 
+  -- tables that pass
   pub tables-moved : r ≡ 0 → movesOutput old new ≡ tablesOutput old new
   unfolding tablesOutput
   tables-moved z = rw (← e, eq-eqb r 0 z)
 
 module _ (text : List ℕ) where
+  -- an input of another form
   pub plan-unformed : formOk text ≡ false → lineText refusedWord 1 ≡ planOutput text
   unfolding planOutput planRefusal firstFailed parse
   plan-unformed e = rw e
 
   module _ (e : formOk text ≡ true) where
+    -- too few or too many ranks
     pub plan-unranked : rankCountOk (parse text .ranks) ≡ false → lineText refusedWord 2 ≡ planOutput text
     unfolding planOutput planRefusal firstFailed parse rankCountOk
     plan-unranked f = rw (e, f)
 
     module _ (t : rankCountOk (parse text .ranks) ≡ true) where
+      -- else the tables decide
       pub plan-tabled : tablesOutput (tableBytes (parse text .old)) (tableBytes (parse text .new)) ≡ planOutput text
       unfolding planOutput planRefusal firstFailed parse rankCountOk tablesOutput
       plan-tabled = rw (e, t)

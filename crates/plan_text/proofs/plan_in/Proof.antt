@@ -1,11 +1,8 @@
 use lib.Seq.{length-take-le}
 use Rattle.plan_text.proofs.Writing.{read-unformed, read-unranked, read-most, read-tables, answered}
 use borrow.Author.Tests.{not-true, not-false}
-use lib.ListN.{length}
 use native.Mathlib.Omega.{arith}
-use mathlib.Core.Bool.{true, false}
 use mathlib.Core.Path.{sym, _∙_}
-use Prim.Native.Nat.{_≤_}
 use borrow.Author.Needs.{needs}
 use Rattle.plan_text.proofs.plan_in.Statement.{statement}
 use Rattle.plan_text.proofs.plan_in.Tie as tie

@@ -1,8 +1,5 @@
 use Rattle.plan_text.proofs.Writing.{output-small, output-is, answer-short, answer-done}
-use Rattle.plan_text.specs.Plan.{movesOutput}
-use lib.ListN.{length}
 use native.Mathlib.Omega.{arith}
-use Prim.Native.Nat.{_<_, _≤_}
 use borrow.Author.Needs.{needs}
 use Rattle.plan_text.proofs.write.write_moves.Statement.{statement}
 use Rattle.plan_text.proofs.write.write_moves.Tie as tie

@@ -1,11 +1,11 @@
 -- Laws of records: reading them in place, their codes, their form, and which bytes they read.
-use Prim.Native.Nat.{ℕ, zero, suc, _+_, _-_, _*_, _/_, _%_, _^_, _≤_, _<_}
+use Prim.Native.Nat.{ℕ, zero, suc, _+_, _-_, _*_, _≤_, _<_}
 use native.Mathlib.Nat.{zero-add, suc-add, add-zero, mod-lt, div-add-mod'}
 use native.Mathlib.Omega.{arith}
 use mathlib.Core.Path.{_≡_, refl, sym, ap, ap₂, _∙_}
-use mathlib.Core.Bool.{Bool, true, false, cond, _&&_}
+use mathlib.Core.Bool.{true, _&&_}
 use mathlib.Core.List.{List, [], _∷_}
-use lib.Dec.{eqb, ltb, leb}
+use lib.Dec.{eqb, ltb}
 use lib.ListN.{length, getD, take, drop, List·getD-eq-default}
 use lib.Seq.{take-nil, take-take, drop-drop}
 use borrow.Author.Tests.{eqb-true, eq-eqb, lt-ltb, le-ltb}
@@ -16,14 +16,14 @@ use Rattle.encoding.specs.Words.{zeroAt}
 use Rattle.encoding.proofs.Below.{tests, either, and-fst, and-snd, and-intro, all-at, all-intro, all-same}
 use Rattle.encoding.proofs.Pieces.{piece-at, piece-past}
 use Rattle.encoding.proofs.Numbers.{at-step, at-none, at-bound}
-use Rattle.records.specs.Shape.{shapeOk, dimensionOf, faceCount, facesIn}
+use Rattle.records.specs.Shape.{shapeOk, dimensionOf, faceCount}
 use Rattle.records.specs.Record.{coreSize, unused, numberOf, shapeOf, neighbourOf, codeOf, facesOf, faceOf, orientationOf, tailOk, zerosOk, unusedOk, toItself, boundaryOk, inForm}
 use Rattle.records.specs.Mirror.{faceForm}
 use Rattle.records.proofs.Shapes.{count-six, count-faces, faces-positive, faces-six}
 
 -- ---- records in a buffer
 
-drop-take : (j m : ℕ) (l : List ℕ) → drop j (take (j + m) l) ≡ take m (drop j l)
+pub drop-take : (j m : ℕ) (l : List ℕ) → drop j (take (j + m) l) ≡ take m (drop j l)
 drop-take zero m l = rw zero-add
 drop-take (suc j) m [] = rw (suc-add, take-nil)
 drop-take (suc j) m (x ∷ l) = rw suc-add (drop-take j m l)

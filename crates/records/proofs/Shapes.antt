@@ -3,9 +3,9 @@ use Prim.Native.Nat.{ℕ, zero, suc, _≤_, _<_}
 use native.Mathlib.Omega.{arith}
 use mathlib.Core.Path.{_≡_, refl}
 use mathlib.Core.Bool.{Bool, true, false, cond, _||_}
-use lib.Dec.{eqb, leb, ltb, lit<, lit≤}
+use lib.Dec.{eqb, leb, ltb, lit≤}
 use borrow.Author.Tests.{ne-eqb, lt-leb, le-ltb}
-use Rattle.encoding.proofs.Below.{tests, either}
+use Rattle.encoding.proofs.Below.{either}
 use Rattle.records.specs.Shape.{shapeOk, dimensionOf, faceCount, facesIn, cornersOf, corners}
 
 -- what holds of each of the six shapes and of every other number holds of all

@@ -1,4 +1,6 @@
 // Records: shapes, links and form. A record's 40 core bytes are read in place, from byte `at` of the lent bytes.
+pub mod links;
+
 ghost use mathlib.Core.Path.{_≡_};
 ghost use Prim.Native.Nat.{_+_, _≤_, _<_};
 ghost use lib.ListN.{length};

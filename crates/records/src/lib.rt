@@ -1,4 +1,5 @@
 // Records: shapes, links and form. A record's 40 core bytes are read in place, from byte `at` of the lent bytes.
+pub mod index;
 pub mod links;
 
 ghost use mathlib.Core.Path.{_≡_};

@@ -1,1 +1,237 @@
--- Forms
+-- Laws of records: reading them in place, their codes, their form, and which bytes they read.
+use Prim.Native.Nat.{ℕ, zero, suc, _+_, _-_, _*_, _/_, _%_, _^_, _≤_, _<_}
+use native.Mathlib.Nat.{zero-add, suc-add, add-zero, mod-lt, div-add-mod'}
+use native.Mathlib.Omega.{arith}
+use mathlib.Core.Path.{_≡_, refl, sym, ap, ap₂, _∙_}
+use mathlib.Core.Bool.{Bool, true, false, cond, _&&_}
+use mathlib.Core.List.{List, [], _∷_}
+use lib.Dec.{eqb, ltb, leb}
+use lib.ListN.{length, getD, take, drop, List·getD-eq-default}
+use lib.Seq.{take-nil, take-take, drop-drop}
+use borrow.Author.Tests.{eqb-true, eq-eqb, lt-ltb, le-ltb}
+use Rattle.encoding.specs.Below.{allBelow}
+use Rattle.encoding.specs.Pieces.{piece, Bytes}
+use Rattle.encoding.specs.Numbers.{leValue, leAt, u32At}
+use Rattle.encoding.specs.Words.{zeroAt}
+use Rattle.encoding.proofs.Below.{tests, either, and-fst, and-snd, and-intro, all-at, all-intro, all-same}
+use Rattle.encoding.proofs.Pieces.{piece-at, piece-past}
+use Rattle.encoding.proofs.Numbers.{at-step, at-none, at-bound}
+use Rattle.records.specs.Shape.{shapeOk, dimensionOf, faceCount, facesIn}
+use Rattle.records.specs.Record.{coreSize, unused, numberOf, shapeOf, neighbourOf, codeOf, facesOf, faceOf, orientationOf, tailOk, zerosOk, unusedOk, toItself, boundaryOk, inForm}
+use Rattle.records.specs.Mirror.{faceForm}
+use Rattle.records.proofs.Shapes.{count-six, count-faces, faces-positive, faces-six}
+
+-- ---- records in a buffer
+
+drop-take : (j m : ℕ) (l : List ℕ) → drop j (take (j + m) l) ≡ take m (drop j l)
+drop-take zero m l = rw zero-add
+drop-take (suc j) m [] = rw (suc-add, take-nil)
+drop-take (suc j) m (x ∷ l) = rw suc-add (drop-take j m l)
+
+-- a piece of a piece is a piece of the buffer
+pub piece-piece : (bs : List ℕ) (off n j w : ℕ) → j + w ≤ n → piece (piece bs off n) j w ≡ piece bs (off + j) w
+unfolding piece
+piece-piece bs off n j w h =
+    let e : n ≡ j + (n - j) = omega arith in
+    let d : drop j (take n (drop off bs)) ≡ take (n - j) (drop j (drop off bs)) = ap (λ (m : ℕ). drop j (take m (drop off bs))) e ∙ drop-take j (n - j) (drop off bs) in
+    rw (d, take-take w (n - j) (drop j (drop off bs)) (omega arith), drop-drop)
+
+-- a number in a piece is the number in the buffer
+pub at-piece : (w : ℕ) (bs : List ℕ) (off n j : ℕ) → j + w ≤ n → leAt w (piece bs off n) j ≡ leAt w bs (off + j)
+unfolding leAt
+at-piece w bs off n j h = ap leValue (piece-piece bs off n j w h)
+
+-- what the record at byte `at` has, as it stands in the buffer
+module _ (bs : List ℕ) (at : ℕ) where
+  pub number-at : numberOf (piece bs at coreSize) ≡ u32At bs at
+  unfolding numberOf
+  number-at = at-piece 4 bs at 40 0 (omega arith) ∙ ap (u32At bs) (add-zero at)
+
+  pub shape-at : shapeOf (piece bs at coreSize) ≡ getD bs (at + 4) 0
+  unfolding shapeOf
+  shape-at = piece-at bs at 40 4 (omega arith)
+
+  pub neighbour-at : (f : ℕ) → f < 6 → neighbourOf (piece bs at coreSize) f ≡ u32At bs (at + (8 + 4 * f))
+  unfolding neighbourOf
+  neighbour-at f h = at-piece 4 bs at 40 (8 + 4 * f) (omega arith)
+
+  pub code-at : (f : ℕ) → f < 6 → codeOf (piece bs at coreSize) f ≡ getD bs (at + (32 + f)) 0
+  unfolding codeOf
+  code-at f h = piece-at bs at 40 (32 + f) (omega arith)
+
+  pub zeros-at : zerosOk (piece bs at coreSize) ≡ (zeroAt bs (at + 5) && zeroAt bs (at + 6) && zeroAt bs (at + 7) && (zeroAt bs (at + 38) && zeroAt bs (at + 39)))
+  unfolding zerosOk tailOk
+  zeros-at = rw (piece-at bs at 40 5 (omega arith), piece-at bs at 40 6 (omega arith), piece-at bs at 40 7 (omega arith), piece-at bs at 40 38 (omega arith), piece-at bs at 40 39 (omega arith))
+
+-- ---- numbers and codes of one record
+
+module _ (r : List ℕ) where
+  -- numbers and neighbours have 32 bits, codes 8
+  pub number-word : Bytes r → numberOf r < 4294967296
+  unfolding numberOf
+  number-word b = at-bound 4 r 0 b
+
+  pub neighbour-word : (f : ℕ) → Bytes r → neighbourOf r f < 4294967296
+  unfolding neighbourOf
+  neighbour-word f b = at-bound 4 r (8 + 4 * f) b
+
+  pub code-byte : (f : ℕ) → Bytes r → codeOf r f < 256
+  unfolding codeOf
+  code-byte f b = b (32 + f)
+
+  -- F is positive, at most 6, and no less than the shape's faces
+  pub faces-of-positive : 0 < facesOf r
+  unfolding facesOf
+  faces-of-positive = faces-positive (dimensionOf (shapeOf r))
+
+  pub faces-of-six : facesOf r ≤ 6
+  unfolding facesOf
+  faces-of-six = faces-six (dimensionOf (shapeOf r))
+
+  pub count-faces-of : faceCount (shapeOf r) ≤ facesOf r
+  unfolding facesOf
+  count-faces-of = count-faces (shapeOf r)
+
+  -- the neighbour's face is below F, and the code is orientation × F + that face
+  pub face-below : (f : ℕ) → faceOf r f < facesOf r
+  unfolding faceOf
+  face-below f = mod-lt (codeOf r f) faces-of-positive
+
+  pub face-six : (f : ℕ) → faceOf r f < 6
+  face-six f = omega (arith, face-below f, faces-of-six)
+
+  pub code-parts : (f : ℕ) → codeOf r f ≡ orientationOf r f * facesOf r + faceOf r f
+  unfolding faceOf orientationOf
+  code-parts f = sym (div-add-mod' (codeOf r f) (facesOf r))
+
+-- ---- the parts of the form
+
+module _ (own : ℕ) (r : List ℕ) where
+  -- the form is the shape, the zero bytes and the six faces
+  form-is : inForm own r ≡ (shapeOk (shapeOf r) && zerosOk r && allBelow 6 (faceForm own r))
+  unfolding inForm faceForm
+  form-is = refl
+
+  form-face : inForm own r ≡ true → (f : ℕ) → f < 6 → faceForm own r f ≡ true
+  form-face e = all-at 6 (faceForm own r) (and-snd (shapeOk (shapeOf r) && zerosOk r) (allBelow 6 (faceForm own r)) (sym form-is ∙ e))
+
+  form-first : inForm own r ≡ true → (shapeOk (shapeOf r) && zerosOk r) ≡ true
+  form-first e = and-fst (shapeOk (shapeOf r) && zerosOk r) (allBelow 6 (faceForm own r)) (sym form-is ∙ e)
+
+  pub form-shape : inForm own r ≡ true → shapeOk (shapeOf r) ≡ true
+  form-shape e = and-fst (shapeOk (shapeOf r)) (zerosOk r) (form-first e)
+
+  pub form-zeros : inForm own r ≡ true → zerosOk r ≡ true
+  form-zeros e = and-snd (shapeOk (shapeOf r)) (zerosOk r) (form-first e)
+
+  -- a face that the shape has
+  pub form-used : inForm own r ≡ true → (f : ℕ) → f < faceCount (shapeOf r) → boundaryOk own r f ≡ true
+  unfolding faceForm
+  form-used e f h = rw (lt-ltb f (faceCount (shapeOf r)) h) at (form-face e f (omega (arith, count-six (shapeOf r))))
+
+  -- and one that it doesn't have
+  pub form-unused : inForm own r ≡ true → (f : ℕ) → faceCount (shapeOf r) ≤ f → f < 6 → unusedOk r f ≡ true
+  unfolding faceForm
+  form-unused e f h k = rw (le-ltb f (faceCount (shapeOf r)) h) at (form-face e f k)
+
+  -- the parts make the form
+  pub form-intro : shapeOk (shapeOf r) ≡ true → zerosOk r ≡ true → ((f : ℕ) → f < faceCount (shapeOf r) → boundaryOk own r f ≡ true)
+      → ((f : ℕ) → faceCount (shapeOf r) ≤ f → f < 6 → unusedOk r f ≡ true) → inForm own r ≡ true
+  unfolding faceForm
+  form-intro s z u n =
+      let face : (f : ℕ) → f < 6 → faceForm own r f ≡ true =
+      λ f h. either (ltb f (faceCount (shapeOf r))) (λ p. rw p (u f (omega tests))) (λ p. rw p (n f (omega tests) h)) in
+      form-is ∙ and-intro (shapeOk (shapeOf r) && zerosOk r) (allBelow 6 (faceForm own r)) (and-intro (shapeOk (shapeOf r)) (zerosOk r) s z) (all-intro 6 (faceForm own r) face)
+
+  -- a link to the own number and the own face has orientation 0
+  pub boundary-test : (f : ℕ) → neighbourOf r f ≡ own → faceOf r f ≡ f → boundaryOk own r f ≡ eqb (orientationOf r f) 0
+  unfolding boundaryOk toItself
+  boundary-test f n e = rw (eq-eqb (neighbourOf r f) own n, eq-eqb (faceOf r f) f e)
+
+  pub boundary-zero : (f : ℕ) → boundaryOk own r f ≡ true → neighbourOf r f ≡ own → faceOf r f ≡ f → orientationOf r f ≡ 0
+  boundary-zero f b n e = eqb-true (orientationOf r f) 0 (sym (boundary-test f n e) ∙ b)
+
+-- a face without use has the unused neighbour and code 0
+pub unused-neighbour : (r : List ℕ) (f : ℕ) → unusedOk r f ≡ true → neighbourOf r f ≡ unused
+unfolding unusedOk
+unused-neighbour r f e = eqb-true (neighbourOf r f) unused (and-fst (eqb (neighbourOf r f) unused) (eqb (codeOf r f) 0) e)
+
+pub unused-code : (r : List ℕ) (f : ℕ) → unusedOk r f ≡ true → codeOf r f ≡ 0
+unfolding unusedOk
+unused-code r f e = eqb-true (codeOf r f) 0 (and-snd (eqb (neighbourOf r f) unused) (eqb (codeOf r f) 0) e)
+
+-- ---- which bytes are read
+
+-- a number past the end is 0
+at-past : (w : ℕ) (bs : List ℕ) (off : ℕ) → length bs ≤ off → leAt w bs off ≡ 0
+unfolding leAt leValue
+at-past w bs off h = rw (piece-past bs off w h)
+
+-- the first byte and the rest, also past the end
+at-any : (w : ℕ) (bs : List ℕ) (off : ℕ) → leAt (suc w) bs off ≡ getD bs off 0 + 256 * leAt w bs (suc off)
+at-any w bs off =
+    either (ltb off (length bs))
+    (λ p. at-step w bs off (omega tests))
+    (λ p. let l : length bs ≤ off = omega tests in rw (at-past (suc w) bs off l, List·getD-eq-default bs 0 l, at-past w bs (suc off) (omega arith)))
+
+-- a number reads its own bytes alone
+pub at-agree : (w : ℕ) (r s : List ℕ) (off : ℕ) → ((i : ℕ) → i < w → getD r (off + i) 0 ≡ getD s (off + i) 0) → leAt w r off ≡ leAt w s off
+at-agree zero r s off h = at-none r off ∙ sym (at-none s off)
+at-agree (suc w) r s off h =
+    let first : getD r off 0 ≡ getD s off 0 = rw add-zero at (h 0 (omega arith)) in
+    let rest : leAt w r (suc off) ≡ leAt w s (suc off) =
+    at-agree w r s (suc off) (λ i l. let e : suc off + i ≡ off + suc i = omega arith in rw e (h (suc i) (omega arith))) in
+    rw (at-any w r off, at-any w s off, first, rest)
+
+-- two records with the same bytes 0 to 4 and 8 to 37
+pub record SameLinks (r s : List ℕ) : Type 0 where
+  pub low : (i : ℕ) → i < 5 → getD r i 0 ≡ getD s i 0
+  pub high : (i : ℕ) → 8 ≤ i → i < 38 → getD r i 0 ≡ getD s i 0
+
+-- have the same number, shape and links: bytes 5 to 7, 38 and 39 are not read
+module _ (r s : List ℕ) (h : SameLinks r s) where
+  pub same-number : numberOf r ≡ numberOf s
+  unfolding numberOf
+  same-number = at-agree 4 r s 0 (λ i l. rw zero-add (h .low i (omega arith)))
+
+  pub same-shape : shapeOf r ≡ shapeOf s
+  unfolding shapeOf
+  same-shape = h .low 4 (omega arith)
+
+  pub same-faces : facesOf r ≡ facesOf s
+  unfolding facesOf
+  same-faces = rw same-shape
+
+  pub same-neighbour : (f : ℕ) → f < 6 → neighbourOf r f ≡ neighbourOf s f
+  unfolding neighbourOf
+  same-neighbour f k = at-agree 4 r s (8 + 4 * f) (λ i l. h .high (8 + 4 * f + i) (omega arith) (omega arith))
+
+  pub same-code : (f : ℕ) → f < 6 → codeOf r f ≡ codeOf s f
+  unfolding codeOf
+  same-code f k = h .high (32 + f) (omega arith) (omega arith)
+
+  pub same-face : (f : ℕ) → f < 6 → faceOf r f ≡ faceOf s f
+  unfolding faceOf
+  same-face f k = rw (same-code f k, same-faces)
+
+  pub same-orientation : (f : ℕ) → f < 6 → orientationOf r f ≡ orientationOf s f
+  unfolding orientationOf
+  same-orientation f k = rw (same-code f k, same-faces)
+
+  same-face-form : (own f : ℕ) → f < 6 → faceForm own r f ≡ faceForm own s f
+  unfolding faceForm boundaryOk toItself unusedOk
+  same-face-form own f k = rw (same-shape, same-neighbour f k, same-face f k, same-orientation f k, same-code f k)
+
+  -- their forms differ in the zero bytes alone
+  pub same-form : zerosOk r ≡ zerosOk s → (own : ℕ) → inForm own r ≡ inForm own s
+  same-form z own =
+      form-is own r
+      ∙ (ap₂ _&&_ (ap₂ _&&_ (ap shapeOk same-shape) z) (all-same 6 (faceForm own r) (faceForm own s) (same-face-form own))
+      ∙ sym (form-is own s))
+
+-- bytes 38 and 39 are read through `tailOk` alone
+pub tail-alone : (r s : List ℕ) → ((i : ℕ) → i < 38 → getD r i 0 ≡ getD s i 0) → tailOk r ≡ tailOk s → (own : ℕ) → inForm own r ≡ inForm own s
+unfolding zerosOk
+tail-alone r s h t =
+    same-form r s (record { low = λ i l. h i (omega arith); high = λ i k l. h i l })
+    (rw (h 5 (omega arith), h 6 (omega arith), h 7 (omega arith), t))

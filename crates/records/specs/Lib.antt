@@ -2,3 +2,4 @@
 pub mod Shape
 pub mod Record
 pub mod Links
+pub mod Mirror

@@ -1,10 +1,10 @@
 -- What the check's functions find is what the definitions say.
 use Prim.Native.Nat.{ℕ, _+_, _*_, _≤_, _<_}
 use native.Mathlib.Omega.{arith}
-use mathlib.Core.Path.{_≡_, refl, sym, ap, _∙_}
+use mathlib.Core.Path.{_≡_}
 use mathlib.Core.Bool.{Bool, true, false, _&&_, and-false}
 use mathlib.Core.List.{List}
-use lib.Dec.{ltb, eqb}
+use lib.Dec.{eqb}
 use lib.ListN.{length}
 use borrow.Author.Tests.{lt-ltb, le-ltb, ne-eqb}
 use Rattle.encoding.specs.Below.{allBelow}
@@ -13,7 +13,7 @@ use Rattle.offsets.specs.Limits.{treeCountOk}
 use Rattle.records.specs.Shape.{dimensionOf, faceCount}
 use Rattle.records.specs.Record.{coreSize, treeSize, numberOf, shapeOf, neighbourOf, inForm}
 use Rattle.mesh.specs.Link.{orientationOk, sameCorners, answered, linkOk}
-use Rattle.mesh.specs.Mesh.{meshHeader, meshDimension, meshTrees, dimensionOk, meshCore, faceSound, treeSound, headerSound}
+use Rattle.mesh.specs.Mesh.{meshHeader, meshDimension, meshTrees, dimensionOk, meshCore, faceSound, treeSound, headerSound, meshSound}
 
 module _ (m : List ℕ) where
   -- no header fits
@@ -21,9 +21,13 @@ module _ (m : List ℕ) where
   unfolding headerSound
   header-short h = rw (ne-eqb (length m) (meshHeader + treeSize * meshTrees m) (λ e. omega arith), and-false)
 
-  pub header-read : {K : ℕ} {a b c : Bool} → K ≡ meshTrees m → a ≡ dimensionOk (meshDimension m) → b ≡ treeCountOk K → c ≡ eqb (length m) (meshHeader + treeSize * K) → (a && b && c) ≡ headerSound m
+  pub header-read : {d K at : ℕ} {a b : Bool} → d ≡ meshDimension m → K ≡ meshTrees m → a ≡ dimensionOk d → b ≡ treeCountOk K → at ≡ meshHeader + treeSize * K → (a && b && eqb (length m) at) ≡ headerSound m
   unfolding headerSound
-  header-read e p q r = rw (p, q, r, e)
+  header-read e t p q r = rw (p, q, r, e, t)
+
+  pub sound-read : {d K : ℕ} {r : Bool} → headerSound m ≡ true → d ≡ meshDimension m → K ≡ meshTrees m → r ≡ allBelow K (treeSound (meshCore m) d K) → r ≡ meshSound m
+  unfolding meshSound
+  sound-read h e t p = rw (p, h, e, t)
 
   module _ (K k : ℕ) {at : ℕ} (here : at ≡ meshHeader + treeSize * k) where
     -- the neighbour isn't below K

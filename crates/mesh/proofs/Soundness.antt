@@ -1,23 +1,24 @@
 -- Laws of links and of sound meshes.
-use Prim.Native.Nat.{ℕ, zero, suc, _+_, _*_, _≤_, _<_}
+use Prim.Native.Nat.{ℕ, _+_, _*_, _≤_, _<_}
 use native.Mathlib.Omega.{arith}
-use mathlib.Core.Path.{_≡_, refl, sym, ap, _∙_}
+use mathlib.Core.Path.{_≡_, sym, ap, _∙_}
 use mathlib.Core.Bool.{Bool, true, _&&_, _||_}
-use mathlib.Core.List.{List, [], _∷_}
+use mathlib.Core.List.{List}
 use mathlib.Core.Logic.{_⊎_, inl, inr}
 use lib.Dec.{ltb, eqb}
-use lib.ListN.{length, take, drop}
-use lib.Seq.{take-take}
+use lib.ListN.{length}
 use borrow.Author.Tests.{ltb-true, eqb-true, eq-eqb}
 use Rattle.encoding.specs.Below.{allBelow}
-use Rattle.encoding.specs.Numbers.{u32At, leAt, leValue}
+use Rattle.encoding.specs.Numbers.{u32At}
 use Rattle.encoding.specs.Pieces.{piece}
-use Rattle.encoding.proofs.Below.{either, and-fst, and-snd, iff-eq, all-at, all-same, any-at, any-intro}
+use Rattle.encoding.proofs.Below.{tests, either, and-fst, and-snd, iff-eq, all-at, all-same, any-at, any-intro}
 use Rattle.encoding.proofs.Pieces.{piece-length}
 use Rattle.offsets.specs.Limits.{maxTrees, treeCountOk}
 use Rattle.offsets.proofs.Tables.{trees-within}
 use Rattle.records.specs.Shape.{dimensionOf, faceCount, corners}
 use Rattle.records.specs.Record.{coreSize, treeSize, numberOf, shapeOf, neighbourOf, faceOf, orientationOf, inForm}
+use Rattle.records.proofs.Shapes.{corners-none}
+use Rattle.records.proofs.Forms.{at-piece}
 use Rattle.mesh.specs.Link.{orientationOk, sameCorners, answered, linkOk}
 use Rattle.mesh.specs.Mesh.{meshHeader, meshDimension, meshTrees, dimensionOk, meshCore, faceSound, treeSound, headerSound, meshSound, faceNeighbour}
 
@@ -29,8 +30,7 @@ and-three a b c e = (and-fst a b (and-fst (a && b) c e), and-snd a b (and-fst (a
 
 -- a face with corners is one that the shape has
 corners-there : (s f : ℕ) → 0 < corners s f → f < faceCount s
-unfolding corners
-corners-there s f h = either (ltb f (faceCount s)) (ltb-true f (faceCount s)) (λ e. absurd (omega (arith, rw e at h)))
+corners-there s f h = either (ltb f (faceCount s)) (ltb-true f (faceCount s)) (λ e. absurd (omega (tests, corners-none s f (omega tests))))
 
 -- the neighbour's link leads back to k and f, with the same orientation
 pub answered-back : (k : ℕ) (r : List ℕ) (f : ℕ) (s : List ℕ) → answered k r f s ≡ true
@@ -66,23 +66,29 @@ module _ (core : ℕ → List ℕ) (k f : ℕ) (ok : linkOk core k f ≡ true) w
 
 -- ---- sound meshes
 
+pub header-parts : (m : List ℕ) → headerSound m ≡ true → (dimensionOk (meshDimension m) ≡ true) × (treeCountOk (meshTrees m) ≡ true) × (length m ≡ meshHeader + treeSize * meshTrees m)
+unfolding headerSound
+header-parts m e =
+    let t = and-three (dimensionOk (meshDimension m)) (treeCountOk (meshTrees m)) (eqb (length m) (meshHeader + treeSize * meshTrees m)) e in
+    (t .0, t .1, eqb-true _ _ (t .2))
+
 module _ (m : List ℕ) (sound : meshSound m ≡ true) where
-  sound-header : (dimensionOk (meshDimension m) ≡ true) × (treeCountOk (meshTrees m) ≡ true) × (eqb (length m) (meshHeader + treeSize * meshTrees m) ≡ true)
-  unfolding meshSound headerSound
-  sound-header = and-three (dimensionOk (meshDimension m)) (treeCountOk (meshTrees m)) (eqb (length m) (meshHeader + treeSize * meshTrees m)) (and-fst (headerSound m) _ sound)
+  pub sound-header : headerSound m ≡ true
+  unfolding meshSound
+  sound-header = and-fst (headerSound m) _ sound
 
   pub sound-dimension : (meshDimension m ≡ 2) ⊎ (meshDimension m ≡ 3)
   unfolding dimensionOk
   sound-dimension =
       let d = meshDimension m in
-      let e : (eqb d 2 || eqb d 3) ≡ true = sound-header .0 in
+      let e : (eqb d 2 || eqb d 3) ≡ true = header-parts m sound-header .0 in
       either (eqb d 2) (λ p. inl (eqb-true d 2 p)) (λ p. inr (eqb-true d 3 (rw p at e)))
 
   pub sound-count : (1 ≤ meshTrees m) × (meshTrees m ≤ maxTrees)
-  sound-count = trees-within (meshTrees m) (sound-header .1)
+  sound-count = trees-within (meshTrees m) (header-parts m sound-header .1)
 
   pub sound-length : length m ≡ meshHeader + treeSize * meshTrees m
-  sound-length = eqb-true _ _ (sound-header .2)
+  sound-length = header-parts m sound-header .2
 
   module _ (k : ℕ) (tree : k < meshTrees m) where
     pub sound-tree : treeSound (meshCore m) (meshDimension m) (meshTrees m) k ≡ true
@@ -159,22 +165,13 @@ module _ (a b : ℕ → List ℕ) (K : ℕ) (same : (k : ℕ) → k < K → a k 
   unfolding treeSound
   tree-cores d = rw (same k tree, all-same (faceCount (shapeOf (b k))) (faceSound a K k) (faceSound b K k) (λ f p. face-cores f))
 
-inside : (off w n : ℕ) (l : List ℕ) → off + w ≤ n → take w (drop off (take n l)) ≡ take w (drop off l)
-inside zero w n l h = take-take w n l (omega arith)
-inside (suc off) w zero l h = absurd (omega arith)
-inside (suc off) w (suc n) [] h = refl
-inside (suc off) w (suc n) (x ∷ l) h = inside off w n l (omega arith)
-
--- a number among the first n bytes
-alike : (w off n : ℕ) (a b : List ℕ) → off + w ≤ n → take n a ≡ take n b → leAt w a off ≡ leAt w b off
-unfolding leAt piece
-alike w off n a b h e = ap leValue (sym (inside off w n a h) ∙ ap (λ l. take w (drop off l)) e ∙ inside off w n b h)
-
-pub sound-cores : (a b : List ℕ) → length a ≡ length b → take meshHeader a ≡ take meshHeader b → ((k : ℕ) → k < meshTrees a → meshCore a k ≡ meshCore b k) → meshSound a ≡ meshSound b
+pub sound-cores : (a b : List ℕ) → length a ≡ length b → piece a 0 meshHeader ≡ piece b 0 meshHeader → ((k : ℕ) → k < meshTrees a → meshCore a k ≡ meshCore b k) → meshSound a ≡ meshSound b
 unfolding meshSound headerSound meshDimension meshTrees
 sound-cores a b l e same =
-    let d : u32At a 0 ≡ u32At b 0 = alike 4 0 meshHeader a b (omega arith) e in
-    let t : u32At a 4 ≡ u32At b 4 = alike 4 4 meshHeader a b (omega arith) e in
+    let number : (off : ℕ) → off + 4 ≤ meshHeader → u32At a (0 + off) ≡ u32At b (0 + off) =
+    λ off h. sym (at-piece 4 a 0 meshHeader off h) ∙ ap (λ p. u32At p off) e ∙ at-piece 4 b 0 meshHeader off h in
+    let d : u32At a 0 ≡ u32At b 0 = number 0 (omega arith) in
+    let t : u32At a 4 ≡ u32At b 4 = number 4 (omega arith) in
     let K : ℕ = u32At b 4 in
     let s : (k : ℕ) → k < K → meshCore a k ≡ meshCore b k = rw t at same in
     rw (l, d, t, all-same K (treeSound (meshCore a) (u32At b 0) K) (treeSound (meshCore b) (u32At b 0) K) (λ k p. tree-cores (meshCore a) (meshCore b) K s k p (u32At b 0)))

@@ -77,7 +77,9 @@ fn face_sound(mesh: &[u8], trees: u32, k: u32, face: u32) -> bool
         return false;
     }
     let to = tree_at(n);
-    orientation_ok(mesh, at, face) & same_corners(mesh, at, face, to) & answered(mesh, k, at, face, to)
+    orientation_ok(mesh, at, face)
+        & same_corners(mesh, at, face, to)
+        & answered(mesh, k, at, face, to)
 }
 
 fn faces_sound(mesh: &[u8], trees: u32, k: u32, faces: u32) -> bool

@@ -45,7 +45,11 @@ fn face_code(dimension: u32, face: u32, orientation: u32) -> u8 {
 fn half(m: &mut [u8; 272], dimension: u32, k: u32, f: u32, n: u32, g: u32, orientation: u32) {
     let at = mesh::inner::tree_at(k % 4);
     put_u32(m, at + 8 + 4 * (f % 6) as usize, n);
-    put(m, at + 32 + (f % 6) as usize, face_code(dimension, g, orientation));
+    put(
+        m,
+        at + 32 + (f % 6) as usize,
+        face_code(dimension, g, orientation),
+    );
 }
 
 // A link and its answer.

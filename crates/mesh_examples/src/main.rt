@@ -10,13 +10,17 @@ fn blank() -> [u8; 272]
     [0; 272]
 }
 
-// The check of the first n bytes.
+// The check of the first n bytes of a buffer.
+fn show_part(m: &[u8], n: usize) {
+    if n <= m.len() {
+        io::print_decimal(STDOUT_FILENO, mesh::check_mesh(&m[..n]) as u64);
+    }
+}
+
 fn show(label: &[u8], m: &[u8; 272], n: usize) {
     io::write_all(STDOUT_FILENO, label);
     io::write_all(STDOUT_FILENO, b": ");
-    if n <= 272 {
-        io::print_decimal(STDOUT_FILENO, mesh::check_mesh(&m[..n]) as u64);
-    }
+    show_part(m, n);
     io::write_all(STDOUT_FILENO, b"\n");
 }
 
@@ -38,7 +42,10 @@ fn header(m: &mut [u8; 272], dimension: u32, trees: u32) {
 }
 
 fn face_code(dimension: u32, face: u32, orientation: u32) -> u8 {
-    ((orientation % 8 * records::faces_in(dimension) + face % 8) % 256) as u8
+    if dimension == 2 {
+        return (orientation % 8 * 4 + face % 8) as u8;
+    }
+    (orientation % 8 * 6 + face % 8) as u8
 }
 
 // One end of a link: face f of tree k leads to face g of tree n.

@@ -1,6 +1,7 @@
 // The C interface: include/vejgodat.h says what each function takes, checks and answers. A slice is a pointer and a count.
 ghost use mathlib.Core.Path.{_≡_};
 ghost use Rattle.offsets.specs.Calls.{tableRefusal, tableRange, tableLengthAnswer, writeTable, tableFromLeaves};
+ghost use Rattle.mesh.specs.Mesh.{meshRefusal};
 ghost use Rattle.pattern.specs.Calls.{senderOf, treesSent, sendSetOf, receiveSetOf};
 use encoding::answer::Length;
 use offsets::Range;
@@ -78,4 +79,11 @@ pub extern "C" fn vejgodat_receive_set(old: &[u8], new: &[u8], rank: u32, out: &
     ensures { λ r. ⌜ (r, now (out .exit)) ≡ receiveSetOf (now (old .entry)) (now (new .entry)) rank (now (out .entry)) ⌝ }
 {
     pattern::receive_set(old, new, rank, out)
+}
+
+#[no_mangle]
+pub extern "C" fn vejgodat_check_mesh(mesh: &[u8]) -> u32
+    ensures { λ r. ⌜ r ≡ meshRefusal (now (mesh .entry)) ⌝ }
+{
+    mesh::check_mesh(mesh)
 }

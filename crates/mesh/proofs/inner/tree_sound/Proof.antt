@@ -1,0 +1,41 @@
+use Rattle.mesh.proofs.Checking.{tree-read}
+use borrow.Author.Needs.{needs}
+use Rattle.mesh.proofs.inner.tree_sound.Statement.{statement}
+use Rattle.mesh.proofs.inner.tree_sound.Tie as tie
+
+tree-at-requires : tie.Need-tree-at-requires
+tree-at-requires c κs = search needs
+
+shape-of-requires : tie.Need-shape-of-requires
+shape-of-requires c κs = search needs
+
+in-form-requires : tie.Need-in-form-requires
+in-form-requires c κs = search needs
+
+number-of-requires : tie.Need-number-of-requires
+number-of-requires c κs = search needs
+
+dimension-of-requires : tie.Need-dimension-of-requires
+dimension-of-requires c κs = search needs
+
+face-count-requires : tie.Need-face-count-requires
+face-count-requires c κs = search needs
+
+faces-sound-requires : tie.Need-faces-sound-requires
+faces-sound-requires c κs = search needs
+
+returns : tie.Need-returns
+returns c = tree-read _ _ _ (c .before .before .before .before .before .before .tree-at .ensures) _ (c .before .before .before .before .before .shape-of .ensures) (c .before .before .before .before .in-form .ensures) (c .before .before .before .number-of .ensures) (c .before .before .dimension-of .ensures) (c .before .face-count .ensures .0) (c .faces-sound .ensures)
+
+pub tree-sound-spec : {M : Type 1} → statement M
+tree-sound-spec =
+    tie.close
+    (tie.spec
+    tree-at-requires
+    shape-of-requires
+    in-form-requires
+    number-of-requires
+    dimension-of-requires
+    face-count-requires
+    faces-sound-requires
+    returns)

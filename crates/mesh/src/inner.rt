@@ -1,0 +1,144 @@
+// For the crates above: reading a whole mesh, and the rule of a link between two records in a buffer. No calls for users.
+ghost use mathlib.Core.Path.{_≡_};
+ghost use mathlib.Core.Bool.{true};
+ghost use Prim.Native.Nat.{_+_, _*_, _≤_, _<_};
+ghost use lib.ListN.{length};
+ghost use Rattle.encoding.specs.Below.{allBelow};
+ghost use Rattle.encoding.specs.Pieces.{piece};
+ghost use Rattle.records.specs.Record.{coreSize, treeSize};
+ghost use Rattle.mesh.specs.Link.{orientationOk, sameCorners, answered as answeredBy};
+ghost use Rattle.mesh.specs.Mesh.{meshHeader, meshDimension, meshTrees, dimensionOk, meshCore, faceSound, treeSound, headerSound, meshSound};
+
+pub fn dimension(mesh: &[u8]) -> u32
+    requires { ⌜ meshHeader ≤ length (now mesh) ⌝ }
+    ensures { λ r. ⌜ r ≡ meshDimension (now (mesh .entry)) ⌝ }
+{
+    encoding::read_u32(mesh, 0)
+}
+
+// K.
+pub fn trees(mesh: &[u8]) -> u32
+    requires { ⌜ meshHeader ≤ length (now mesh) ⌝ }
+    ensures { λ r. ⌜ r ≡ meshTrees (now (mesh .entry)) ⌝ }
+{
+    encoding::read_u32(mesh, 4)
+}
+
+// Where the record of tree k begins.
+pub fn tree_at(k: u32) -> usize
+    ensures { λ r. ⌜ r ≡ meshHeader + treeSize * k ⌝ }
+{
+    8 + 64 * (k as usize)
+}
+
+pub fn dimension_ok(dimension: u32) -> bool
+    ensures { λ r. ⌜ r ≡ dimensionOk dimension ⌝ }
+{
+    (dimension == 2) | (dimension == 3)
+}
+
+// The orientation of a link of the record at `at` is below the corners of the face.
+pub fn orientation_ok(bs: &[u8], at: usize, face: u32) -> bool
+    requires { ⌜ (at + coreSize ≤ length (now bs)) × (face < 6) ⌝ }
+    ensures { λ r. ⌜ r ≡ orientationOk (piece (now (bs .entry)) at coreSize) face ⌝ }
+{
+    records::orientation_of(bs, at, face) < records::corners(records::shape_of(bs, at), face)
+}
+
+// Both faces have as many corners; the neighbour's record is at `to`.
+pub fn same_corners(bs: &[u8], at: usize, face: u32, to: usize) -> bool
+    requires { ⌜ (at + coreSize ≤ length (now bs)) × (face < 6) × (to + coreSize ≤ length (now bs)) ⌝ }
+    ensures { λ r. ⌜ r ≡ sameCorners (piece (now (bs .entry)) at coreSize) face (piece (now (bs .entry)) to coreSize) ⌝ }
+{
+    let own = records::corners(records::shape_of(bs, at), face);
+    own == records::corners(records::shape_of(bs, to), records::face_of(bs, at, face))
+}
+
+// The neighbour's face leads back to k and the face, with the same orientation.
+pub fn answered(bs: &[u8], k: u32, at: usize, face: u32, to: usize) -> bool
+    requires { ⌜ (at + coreSize ≤ length (now bs)) × (face < 6) × (to + coreSize ≤ length (now bs)) ⌝ }
+    ensures { λ r. ⌜ r ≡ answeredBy k (piece (now (bs .entry)) at coreSize) face (piece (now (bs .entry)) to coreSize) ⌝ }
+{
+    let there = records::face_of(bs, at, face);
+    let orientation = records::orientation_of(bs, at, face);
+    (records::neighbour_of(bs, to, there) == k)
+        & (records::face_of(bs, to, there) == face)
+        & (records::orientation_of(bs, to, there) == orientation)
+}
+
+// The neighbour's record is read only once its number is known to be below K.
+fn face_sound(mesh: &[u8], trees: u32, k: u32, face: u32) -> bool
+    requires { ⌜ (length (now mesh) ≡ meshHeader + treeSize * trees) × (k < trees) × (face < 6) ⌝ }
+    ensures { λ r. ⌜ r ≡ faceSound (meshCore (now (mesh .entry))) trees k face ⌝ }
+{
+    let at = tree_at(k);
+    let n = records::neighbour_of(mesh, at, face);
+    if trees <= n {
+        return false;
+    }
+    let to = tree_at(n);
+    orientation_ok(mesh, at, face)
+        & same_corners(mesh, at, face, to)
+        & answered(mesh, k, at, face, to)
+}
+
+fn faces_sound(mesh: &[u8], trees: u32, k: u32, faces: u32) -> bool
+    requires { ⌜ (length (now mesh) ≡ meshHeader + treeSize * trees) × (k < trees) × (faces ≤ 6) ⌝ }
+    ensures { λ r. ⌜ r ≡ allBelow faces (faceSound (meshCore (now (mesh .entry))) trees k) ⌝ }
+{
+    let mut face = 0;
+    while face < faces {
+        if !face_sound(mesh, trees, k, face) {
+            return false;
+        }
+        face += 1;
+    }
+    true
+}
+
+fn tree_sound(mesh: &[u8], dimension: u32, trees: u32, k: u32) -> bool
+    requires { ⌜ (length (now mesh) ≡ meshHeader + treeSize * trees) × (k < trees) ⌝ }
+    ensures { λ r. ⌜ r ≡ treeSound (meshCore (now (mesh .entry))) dimension trees k ⌝ }
+{
+    let at = tree_at(k);
+    let shape = records::shape_of(mesh, at);
+    records::in_form(mesh, at, k)
+        & (records::number_of(mesh, at) == k)
+        & (records::dimension_of(shape) == dimension)
+        & faces_sound(mesh, trees, k, records::face_count(shape))
+}
+
+fn trees_sound(mesh: &[u8], dimension: u32, trees: u32) -> bool
+    requires { ⌜ length (now mesh) ≡ meshHeader + treeSize * trees ⌝ }
+    ensures { λ r. ⌜ r ≡ allBelow trees (treeSound (meshCore (now (mesh .entry))) dimension trees) ⌝ }
+{
+    let mut k = 0;
+    while k < trees {
+        if !tree_sound(mesh, dimension, trees, k) {
+            return false;
+        }
+        k += 1;
+    }
+    true
+}
+
+pub fn header_sound(mesh: &[u8]) -> bool
+    ensures { λ r. ⌜ r ≡ headerSound (now (mesh .entry)) ⌝ }
+{
+    if mesh.len() < 8 {
+        return false;
+    }
+    let trees = trees(mesh);
+    dimension_ok(dimension(mesh))
+        & offsets::inner::tree_count_ok(trees as u64)
+        & (mesh.len() == tree_at(trees))
+}
+
+pub fn sound(mesh: &[u8]) -> bool
+    ensures { λ r. ⌜ r ≡ meshSound (now (mesh .entry)) ⌝ }
+{
+    if !header_sound(mesh) {
+        return false;
+    }
+    trees_sound(mesh, dimension(mesh), trees(mesh))
+}

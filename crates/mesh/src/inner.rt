@@ -51,7 +51,8 @@ pub fn same_corners(bs: &[u8], at: usize, face: u32, to: usize) -> bool
     ensures { λ r. ⌜ r ≡ sameCorners (piece (now (bs .entry)) at coreSize) face (piece (now (bs .entry)) to coreSize) ⌝ }
 {
     let own = records::corners(records::shape_of(bs, at), face);
-    own == records::corners(records::shape_of(bs, to), records::face_of(bs, at, face))
+    let there = records::corners(records::shape_of(bs, to), records::face_of(bs, at, face));
+    own == there
 }
 
 // The neighbour's face leads back to k and the face, with the same orientation.

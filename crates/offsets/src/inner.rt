@@ -5,8 +5,10 @@ ghost use Prim.Native.Nat.{_+_, _*_, _≤_, _<_};
 ghost use lib.ListN.{length};
 ghost use Rattle.encoding.specs.Below.{allBelow};
 ghost use Rattle.offsets.specs.Limits.{maxRanks, rankCountOk, treeCountOk};
-ghost use Rattle.offsets.specs.Table.{tableLength, ranksOk, ranks as ranksOf, entry as entryOf, negative as isNegative, magnitude as magnitudeOf, firstOf, valid as isValid, firstTree, endTree};
+ghost use Rattle.offsets.specs.Table.{tableLength, ranksOk, ranks as ranksOf, entry as entryOf, negative as isNegative, magnitude as magnitudeOf, firstOf, valid as isValid, firstTree, endTree, trees as treesOf, holds as isHeld};
+ghost use Rattle.offsets.specs.Calls.{rangeRefused};
 ghost use Rattle.offsets.specs.Mirror.Table.{entryOk, entryOkAt};
+use crate::Range;
 
 pub const MAX_RANKS: usize = 1024;
 
@@ -132,4 +134,30 @@ pub fn end_tree(t: &[u8], p: usize) -> u64
     ensures { λ r. ⌜ r ≡ endTree (now (t .entry)) p ⌝ }
 {
     magnitude(entry(t, p + 1))
+}
+
+// K.
+pub fn trees(t: &[u8]) -> u64
+    requires { ⌜ ranksOk (now t) ≡ true ⌝ }
+    ensures { λ r. ⌜ r ≡ treesOf (now (t .entry)) ⌝ }
+{
+    entry(t, ranks(t))
+}
+
+// Whether tree k is in f(p).
+pub fn holds(t: &[u8], p: usize, k: u64) -> bool
+    requires { ⌜ tableLength (p + 1) ≤ length (now t) ⌝ }
+    ensures { λ r. ⌜ r ≡ isHeld (now (t .entry)) p k ⌝ }
+{
+    (first_tree(t, p) <= k) & (k < end_tree(t, p))
+}
+
+pub fn range_refused(refusal: u32) -> Range
+    ensures { λ r. ⌜ r ≡ rangeRefused refusal ⌝ }
+{
+    Range {
+        refusal,
+        first: 0,
+        count: 0,
+    }
 }

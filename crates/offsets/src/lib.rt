@@ -1,8 +1,8 @@
 // Offset tables: which ranks hold which trees.
 ghost use mathlib.Core.Path.{_≡_};
-ghost use Rattle.encoding.specs.Answer.{lengthRefused};
-ghost use Rattle.offsets.specs.Calls.{rangeRefused, tableRefusal, tableRange, tableLengthAnswer, writeTable, tableFromLeaves};
+ghost use Rattle.offsets.specs.Calls.{tableRefusal, tableRange, tableLengthAnswer, writeTable, tableFromLeaves};
 use encoding::answer::Length;
+use encoding::answer::refused;
 
 pub mod inner;
 mod leaves;
@@ -14,22 +14,6 @@ pub struct Range {
     pub refusal: u32,
     pub first: u32,
     pub count: u32,
-}
-
-fn refused(refusal: u32) -> Range
-    ensures { λ r. ⌜ r ≡ rangeRefused refusal ⌝ }
-{
-    Range {
-        refusal,
-        first: 0,
-        count: 0,
-    }
-}
-
-fn length_refused(refusal: u32) -> Length
-    ensures { λ r. ⌜ r ≡ lengthRefused refusal ⌝ }
-{
-    Length { refusal, length: 0 }
 }
 
 // Check a table (2, 3): 0 or the refusal.
@@ -50,14 +34,14 @@ pub fn table_range(table: &[u8], rank: u32) -> Range
     ensures { λ r. ⌜ r ≡ tableRange (now (table .entry)) rank ⌝ }
 {
     if !inner::ranks_ok(table) {
-        return refused(2);
+        return inner::range_refused(2);
     }
     if !inner::valid(table) {
-        return refused(3);
+        return inner::range_refused(3);
     }
     let p = rank as usize;
     if inner::ranks(table) <= p {
-        return refused(5);
+        return inner::range_refused(5);
     }
     let first = inner::first_tree(table, p);
     let end = inner::end_tree(table, p);
@@ -73,7 +57,7 @@ pub fn table_length(ranks: u32) -> Length
     ensures { λ r. ⌜ r ≡ tableLengthAnswer ranks ⌝ }
 {
     if !inner::rank_count_ok(ranks as usize) {
-        return length_refused(2);
+        return refused(2);
     }
     Length {
         refusal: 0,
@@ -87,14 +71,14 @@ pub fn write_table(ranks: u32, first: &[u32], count: &[u32], out: &mut [u8]) -> 
 {
     let p = ranks as usize;
     if !inner::rank_count_ok(p) {
-        return length_refused(2);
+        return refused(2);
     }
     if !ranges::partition_ok(p, first, count) {
-        return length_refused(6);
+        return refused(6);
     }
     let n = 8 * (p + 1);
     if out.len() < n {
-        return length_refused(22);
+        return refused(22);
     }
     ranges::write(p, first, count, out);
     Length {
@@ -109,14 +93,14 @@ pub fn table_from_leaves(ranks: u32, leaves: &[u32], out: &mut [u8]) -> Length
 {
     let p = ranks as usize;
     if !inner::rank_count_ok(p) {
-        return length_refused(2);
+        return refused(2);
     }
     if !leaves::leaves_ok(leaves) {
-        return length_refused(6);
+        return refused(6);
     }
     let n = 8 * (p + 1);
     if out.len() < n {
-        return length_refused(22);
+        return refused(22);
     }
     leaves::write(p, leaves, out);
     Length {

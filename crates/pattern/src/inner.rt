@@ -16,18 +16,12 @@ use crate::Sender;
 use offsets::inner::end_tree;
 use offsets::inner::entry;
 use offsets::inner::first_tree;
+use offsets::inner::holds;
 use offsets::inner::magnitude;
 use offsets::inner::ranks;
 use offsets::inner::ranks_ok;
+use offsets::inner::trees;
 use offsets::inner::valid;
-
-// The number of trees, K.
-pub fn trees(t: &[u8]) -> u64
-    requires { ⌜ ranksOk (now t) ≡ true ⌝ }
-    ensures { λ r. ⌜ r ≡ treesOf (now (t .entry)) ⌝ }
-{
-    entry(t, ranks(t))
-}
 
 fn both_ranks_ok(old: &[u8], new: &[u8]) -> bool
     ensures { λ r. ⌜ r ≡ (ranksOk (now (old .entry)) && ranksOk (now (new .entry))) ⌝ }
@@ -145,14 +139,6 @@ pub fn sends_some(old: &[u8], new: &[u8], p: usize, q: usize) -> bool
     ensures { λ r. ⌜ r ≡ sendsTo (now (old .entry)) (now (new .entry)) p q ⌝ }
 {
     sent_low(old, new, p, q) < sent_high(old, new, p, q)
-}
-
-// Whether tree k is in f(p).
-fn holds(t: &[u8], p: usize, k: u64) -> bool
-    requires { ⌜ tableLength (p + 1) ≤ length (now t) ⌝ }
-    ensures { λ r. ⌜ r ≡ isHeld (now (t .entry)) p k ⌝ }
-{
-    (first_tree(t, p) <= k) & (k < end_tree(t, p))
 }
 
 // The smallest rank p with k in f(p): the first whose end is above k.

@@ -1,7 +1,6 @@
 // Who sends: the communication pattern between an old and a new partition.
 ghost use mathlib.Core.Path.{_≡_};
 ghost use mathlib.Core.Bool.{true};
-ghost use Rattle.offsets.specs.Calls.{rangeRefused};
 ghost use Rattle.pattern.specs.Calls.{senderOf, treesSent, sendSetOf, receiveSetOf, ranksAnswer};
 ghost use Rattle.pattern.specs.Mirror.{SmallNumbers, senderFits, senderRefused, ranksRefused, rankSetOf};
 ghost use Rattle.pattern.specs.Sender.{senderNumber};
@@ -57,7 +56,7 @@ pub fn sender_of(old: &[u8], new: &[u8], tree: u32, receiver: u32) -> SenderAnsw
         return sender_refused(refusal);
     }
     let k = tree as u64;
-    if inner::trees(old) <= k {
+    if offsets::inner::trees(old) <= k {
         return sender_refused(5);
     }
     let q = receiver as usize;
@@ -70,32 +69,22 @@ pub fn sender_of(old: &[u8], new: &[u8], tree: u32, receiver: u32) -> SenderAnsw
     }
 }
 
-fn range_refused(refusal: u32) -> Range
-    ensures { λ r. ⌜ r ≡ rangeRefused refusal ⌝ }
-{
-    Range {
-        refusal,
-        first: 0,
-        count: 0,
-    }
-}
-
 // The trees from one rank to another (2, 3, 4, 5).
 pub fn trees_sent(old: &[u8], new: &[u8], sender: u32, receiver: u32) -> Range
     ensures { λ r. ⌜ r ≡ treesSent (now (old .entry)) (now (new .entry)) sender receiver ⌝ }
 {
     let refusal = inner::tables_refusal(old, new);
     if refusal != 0 {
-        return range_refused(refusal);
+        return offsets::inner::range_refused(refusal);
     }
     let ranks = offsets::inner::ranks(old);
     let p = sender as usize;
     if ranks <= p {
-        return range_refused(5);
+        return offsets::inner::range_refused(5);
     }
     let q = receiver as usize;
     if ranks <= q {
-        return range_refused(5);
+        return offsets::inner::range_refused(5);
     }
     let sent = inner::sent(old, new, p, q);
     Range {

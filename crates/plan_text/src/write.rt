@@ -14,8 +14,8 @@ ghost use Rattle.plan_text.specs.Plan.{treesWord, messagesWord, refusedW
 ghost use Rattle.plan_text.specs.Mirror.Writing.{Put, Fits, FitsNumber, Small, FitsRow, FitsPair, FitsFrom, FitsMoves, SmallOutput, FitsOutput, numberText, rowText, pairText, outputAnswer};
 use encoding::answer::Length;
 use offsets::inner::ranks;
+use offsets::inner::trees;
 use pattern::inner::sent;
-use pattern::inner::trees;
 
 // How many bytes the text of some moves has, and how many moves it lists.
 struct Size {

@@ -15,22 +15,22 @@ use Rattle.offsets.proofs.table_from_leaves.Tie as tie
 rank-count-ok-requires : tie.Need-rank-count-ok-requires
 rank-count-ok-requires c κs = search needs
 
-length-refused-requires : tie.Need-length-refused-requires
-length-refused-requires c κs = search needs
+refused-requires : tie.Need-refused-requires
+refused-requires c κs = search needs
 
 returns : tie.Need-returns
 unfolding tableFromLeaves leavesRefusal firstFailed writeAnswer lengthAnswer written
-returns c = simp (c .length-refused .ensures, ← c .before .before .rank-count-ok .ensures, not-true (c .before .before .rank-count-ok .result) (c .before .if1 .taken))
+returns c = simp (c .refused .ensures, ← c .before .before .rank-count-ok .ensures, not-true (c .before .before .rank-count-ok .result) (c .before .if1 .taken))
 
 leaves-ok-requires : tie.Need-leaves-ok-requires
 leaves-ok-requires c κs = search needs
 
-length-refused-requires-2 : tie.Need-length-refused-requires-2
-length-refused-requires-2 c κs = search needs
+refused-requires-2 : tie.Need-refused-requires-2
+refused-requires-2 c κs = search needs
 
 returns-2 : tie.Need-returns-2
 unfolding tableFromLeaves leavesRefusal firstFailed writeAnswer lengthAnswer written
-returns-2 c = simp (c .length-refused2 .ensures, ← c .before .before .before .before .rank-count-ok .ensures, not-false (c .before .before .before .before .rank-count-ok .result) (c .before .before .before .if1 .left), ← c .before .before .leaves-ok .ensures, not-true (c .before .before .leaves-ok .result) (c .before .if2 .taken))
+returns-2 c = simp (c .refused2 .ensures, ← c .before .before .before .before .rank-count-ok .ensures, not-false (c .before .before .before .before .rank-count-ok .result) (c .before .before .before .if1 .left), ← c .before .before .leaves-ok .ensures, not-true (c .before .before .leaves-ok .result) (c .before .if2 .taken))
 
 add-n : tie.Need-add-n
 add-n c = search needs
@@ -38,12 +38,12 @@ add-n c = search needs
 mul-n : tie.Need-mul-n
 mul-n c = search needs
 
-length-refused-requires-3 : tie.Need-length-refused-requires-3
-length-refused-requires-3 c κs = search needs
+refused-requires-3 : tie.Need-refused-requires-3
+refused-requires-3 c κs = search needs
 
 returns-3 : tie.Need-returns-3
 unfolding tableFromLeaves leavesRefusal firstFailed writeAnswer lengthAnswer written
-returns-3 c = simp (c .length-refused3 .ensures, ← c .before .before .before .before .before .rank-count-ok .ensures, not-false (c .before .before .before .before .before .rank-count-ok .result) (c .before .before .before .before .if1 .left), ← c .before .before .before .leaves-ok .ensures, not-false (c .before .before .before .leaves-ok .result) (c .before .before .if2 .left), lt-leb (tableLength (c .before .before .before .before .before .before .before .before .args .ranks)) (length (c .before .before .before .before .before .before .before .before .args .out .now)) (c .before .if3 .taken))
+returns-3 c = simp (c .refused3 .ensures, ← c .before .before .before .before .before .rank-count-ok .ensures, not-false (c .before .before .before .before .before .rank-count-ok .result) (c .before .before .before .before .if1 .left), ← c .before .before .before .leaves-ok .ensures, not-false (c .before .before .before .leaves-ok .result) (c .before .before .if2 .left), lt-leb (tableLength (c .before .before .before .before .before .before .before .before .args .ranks)) (length (c .before .before .before .before .before .before .before .before .args .out .now)) (c .before .if3 .taken))
 
 write-requires : tie.Need-write-requires
 write-requires c κs = (sym (c .before .before .before .before .before .rank-count-ok .ensures) ∙ not-false _ (c .before .before .before .before .if1 .left), (sym (c .before .before .before .leaves-ok .ensures) ∙ not-false _ (c .before .before .if2 .left), c .before .if3 .left))
@@ -60,14 +60,14 @@ table-from-leaves-spec =
     tie.close
     (tie.spec
     rank-count-ok-requires
-    length-refused-requires
+    refused-requires
     returns
     leaves-ok-requires
-    length-refused-requires-2
+    refused-requires-2
     returns-2
     add-n
     mul-n
-    length-refused-requires-3
+    refused-requires-3
     returns-3
     write-requires
     same-length

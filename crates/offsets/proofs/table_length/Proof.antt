@@ -9,12 +9,12 @@ use Rattle.offsets.proofs.table_length.Tie as tie
 rank-count-ok-requires : tie.Need-rank-count-ok-requires
 rank-count-ok-requires c κs = search needs
 
-length-refused-requires : tie.Need-length-refused-requires
-length-refused-requires c κs = search needs
+refused-requires : tie.Need-refused-requires
+refused-requires c κs = search needs
 
 returns : tie.Need-returns
 unfolding tableLengthAnswer firstFailed lengthAnswer
-returns c = simp (c .length-refused .ensures, ← c .before .before .rank-count-ok .ensures, not-true (c .before .before .rank-count-ok .result) (c .before .if1 .taken))
+returns c = simp (c .refused .ensures, ← c .before .before .rank-count-ok .ensures, not-true (c .before .before .rank-count-ok .result) (c .before .if1 .taken))
 
 add-t6 : tie.Need-add-t6
 add-t6 c = search needs
@@ -29,4 +29,4 @@ returns-2 c = simp (← c .before .rank-count-ok .ensures, not-false (c .before 
 pub table-length-spec : {M : Type 1} → statement M
 table-length-spec =
     tie.close
-    (tie.spec rank-count-ok-requires length-refused-requires returns add-t6 mul-t7 returns-2)
+    (tie.spec rank-count-ok-requires refused-requires returns add-t6 mul-t7 returns-2)

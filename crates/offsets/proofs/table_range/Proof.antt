@@ -14,32 +14,32 @@ use Rattle.offsets.proofs.table_range.Tie as tie
 ranks-ok-requires : tie.Need-ranks-ok-requires
 ranks-ok-requires c κs = search needs
 
-refused-requires : tie.Need-refused-requires
-refused-requires c κs = search needs
+range-refused-requires : tie.Need-range-refused-requires
+range-refused-requires c κs = search needs
 
 returns : tie.Need-returns
 unfolding tableRange rangeRefusal rangeAnswer firstFailed
-returns c = simp (c .refused .ensures, ← c .before .before .ranks-ok .ensures, not-true (c .before .before .ranks-ok .result) (c .before .if1 .taken))
+returns c = simp (c .range-refused .ensures, ← c .before .before .ranks-ok .ensures, not-true (c .before .before .ranks-ok .result) (c .before .if1 .taken))
 
 valid-requires : tie.Need-valid-requires
 valid-requires c κs = sym (c .before .ranks-ok .ensures) ∙ not-false _ (c .if1 .left)
 
-refused-requires-2 : tie.Need-refused-requires-2
-refused-requires-2 c κs = search needs
+range-refused-requires-2 : tie.Need-range-refused-requires-2
+range-refused-requires-2 c κs = search needs
 
 returns-2 : tie.Need-returns-2
 unfolding tableRange rangeRefusal rangeAnswer firstFailed
-returns-2 c = simp (c .refused2 .ensures, ← c .before .before .before .before .ranks-ok .ensures, not-false (c .before .before .before .before .ranks-ok .result) (c .before .before .before .if1 .left), ← c .before .before .valid .ensures, not-true (c .before .before .valid .result) (c .before .if2 .taken))
+returns-2 c = simp (c .range-refused2 .ensures, ← c .before .before .before .before .ranks-ok .ensures, not-false (c .before .before .before .before .ranks-ok .result) (c .before .before .before .if1 .left), ← c .before .before .valid .ensures, not-true (c .before .before .valid .result) (c .before .if2 .taken))
 
 ranks-requires : tie.Need-ranks-requires
 ranks-requires c κs = sym (c .before .before .before .ranks-ok .ensures) ∙ not-false _ (c .before .before .if1 .left)
 
-refused-requires-3 : tie.Need-refused-requires-3
-refused-requires-3 c κs = search needs
+range-refused-requires-3 : tie.Need-range-refused-requires-3
+range-refused-requires-3 c κs = search needs
 
 returns-3 : tie.Need-returns-3
 unfolding tableRange rangeRefusal rangeAnswer firstFailed
-returns-3 c = simp (c .refused3 .ensures, ← c .before .before .before .before .before .before .ranks-ok .ensures, not-false (c .before .before .before .before .before .before .ranks-ok .result) (c .before .before .before .before .before .if1 .left), ← c .before .before .before .before .valid .ensures, not-false (c .before .before .before .before .valid .result) (c .before .before .before .if2 .left), ← (c .before .before .ranks .ensures .0), le-ltb (c .before .before .before .before .before .before .before .before .args .rank) (c .before .before .ranks .result) (c .before .if3 .taken))
+returns-3 c = simp (c .range-refused3 .ensures, ← c .before .before .before .before .before .before .ranks-ok .ensures, not-false (c .before .before .before .before .before .before .ranks-ok .result) (c .before .before .before .before .before .if1 .left), ← c .before .before .before .before .valid .ensures, not-false (c .before .before .before .before .valid .result) (c .before .before .before .if2 .left), ← (c .before .before .ranks .ensures .0), le-ltb (c .before .before .before .before .before .before .before .before .args .rank) (c .before .before .ranks .result) (c .before .if3 .taken))
 
 first-tree-requires : tie.Need-first-tree-requires
 first-tree-requires c κs = search needs
@@ -73,13 +73,13 @@ table-range-spec =
     tie.close
     (tie.spec
     ranks-ok-requires
-    refused-requires
+    range-refused-requires
     returns
     valid-requires
-    refused-requires-2
+    range-refused-requires-2
     returns-2
     ranks-requires
-    refused-requires-3
+    range-refused-requires-3
     returns-3
     first-tree-requires
     end-tree-requires

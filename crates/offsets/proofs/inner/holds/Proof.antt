@@ -1,7 +1,7 @@
 use Rattle.offsets.specs.Table.{holds}
 use borrow.Author.Needs.{needs}
-use Rattle.pattern.proofs.inner.holds.Statement.{statement}
-use Rattle.pattern.proofs.inner.holds.Tie as tie
+use Rattle.offsets.proofs.inner.holds.Statement.{statement}
+use Rattle.offsets.proofs.inner.holds.Tie as tie
 
 first-tree-requires : tie.Need-first-tree-requires
 first-tree-requires c κs = search needs

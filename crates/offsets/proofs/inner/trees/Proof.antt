@@ -1,7 +1,7 @@
 use Rattle.offsets.proofs.OnePass.{trees-read}
 use borrow.Author.Needs.{needs}
-use Rattle.pattern.proofs.inner.trees.Statement.{statement}
-use Rattle.pattern.proofs.inner.trees.Tie as tie
+use Rattle.offsets.proofs.inner.trees.Statement.{statement}
+use Rattle.offsets.proofs.inner.trees.Tie as tie
 
 ranks-requires : tie.Need-ranks-requires
 ranks-requires c κs = search needs

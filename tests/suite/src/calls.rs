@@ -141,7 +141,7 @@ impl Calls {
     }
 
     pub fn table_length(&mut self, ranks: u32) -> Length {
-        let expected = length(&model::table_length(ranks));
+        let expected = length(model::table_length(ranks));
         let got = unsafe { library::vejgodat_table_length(ranks) };
         assert_eq!(got, expected, "table_length {ranks}");
         self.note("table_length", got.refusal);
@@ -169,8 +169,9 @@ impl Calls {
         let got = unsafe {
             library::vejgodat_write_table(ranks, first_at, first.len(), count_at, count.len(), out_at, before.len())
         };
-        let said = || cut(format!("write_table {ranks}, {} first {first:?}, {} count {count:?}", first.len(), count.len()));
-        assert_eq!(got, length(&answer.as_ref().map(|bytes| bytes.len() as u64).map_err(|e| *e)), "{}", said());
+        let said =
+            || cut(format!("write_table {ranks}, {} first {first:?}, {} count {count:?}", first.len(), count.len()));
+        assert_eq!(got, length(bytes_written(&answer)), "{}", said());
         let after = written(before, &answer);
         assert!(self.out.bytes() == after, "{}: wrote {}, not {}", said(), show(self.out.bytes()), show(&after));
         assert!(self.list.numbers() == first && self.other_list.numbers() == count, "{}: input changed", said());
@@ -183,13 +184,12 @@ impl Calls {
         let (a, b) = (self.place(), self.place());
         let leaves_at = self.list.put_numbers(leaves, a);
         let out_at = self.out.put(before, b);
-        let got =
-            unsafe { library::vejgodat_table_from_leaves(ranks, leaves_at, leaves.len(), out_at, before.len()) };
+        let got = unsafe { library::vejgodat_table_from_leaves(ranks, leaves_at, leaves.len(), out_at, before.len()) };
         let said = || {
             let some = &leaves[..leaves.len().min(40)];
             format!("table_from_leaves {ranks}, {} counts {some:?}, buffer of {}", leaves.len(), before.len())
         };
-        assert_eq!(got, length(&answer.as_ref().map(|bytes| bytes.len() as u64).map_err(|e| *e)), "{}", said());
+        assert_eq!(got, length(bytes_written(&answer)), "{}", said());
         let after = written(before, &answer);
         assert!(self.out.bytes() == after, "{}: wrote {}, not {}", said(), show(self.out.bytes()), show(&after));
         assert!(self.list.numbers() == leaves, "{}: input changed", said());
@@ -278,8 +278,16 @@ fn shown(tables: &Tables) -> String {
     format!("old {} new {}", show(&tables.old), show(&tables.new))
 }
 
-fn length(answer: &Answer<u64>) -> Length {
-    match *answer {
+/// How many bytes an accepted call writes.
+fn bytes_written(answer: &Answer<Vec<u8>>) -> Answer<u64> {
+    match answer {
+        Ok(bytes) => Ok(bytes.len() as u64),
+        Err(refusal) => Err(*refusal),
+    }
+}
+
+fn length(answer: Answer<u64>) -> Length {
+    match answer {
         Ok(length) => Length { refusal: 0, length },
         Err(refusal) => Length { refusal, length: 0 },
     }

@@ -46,7 +46,9 @@ fn every_small(run: &mut Run) {
 
 fn counts(random: &mut Random, trees: usize, high: u32) -> Vec<u32> {
     let rare = random.pick(&[0, 16, 128]);
-    (0..trees).map(|_| if random.chance(rare) { random.number(1, high) } else { random.number(1, high.min(3)) }).collect()
+    (0..trees)
+        .map(|_| if random.chance(rare) { random.number(1, high) } else { random.number(1, high.min(3)) })
+        .collect()
 }
 
 fn small_totals(run: &mut Run) {

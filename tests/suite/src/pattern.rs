@@ -82,7 +82,9 @@ fn documents_triangles(run: &mut Run) {
 
 fn every_pair(run: &mut Run) {
     let mut pairs = 0;
-    for (ranks, trees) in [(1, 1), (1, 3), (2, 1), (2, 2), (2, 4), (3, 1), (3, 2), (3, 3), (3, 4), (4, 1), (4, 2), (4, 3), (5, 1), (5, 2)] {
+    for (ranks, trees) in
+        [(1, 1), (1, 3), (2, 1), (2, 2), (2, 4), (3, 1), (3, 2), (3, 3), (3, 4), (4, 1), (4, 2), (4, 3), (5, 1), (5, 2)]
+    {
         let all = cases::every_table(ranks, trees);
         for old in &all {
             for new in &all {
@@ -122,7 +124,15 @@ fn many_ranks(run: &mut Run) {
         }
     });
     // one tree on all 1,024 ranks, before, after or both
-    let one = |first: i64| -> Vec<i64> { (0..=1_024).map(|p| if p == 0 { 0 } else if p == 1_024 { 1 } else { first }).collect() };
+    let one = |first: i64| -> Vec<i64> {
+        (0..=1_024)
+            .map(|p| match p {
+                0 => 0,
+                1_024 => 1,
+                _ => first,
+            })
+            .collect()
+    };
     for (old, new) in [(-1, -1), (-1, 0), (0, -1), (-1, 1), (1, -1), (0, 1), (1, 0)] {
         let mut tables = Tables::of(&one(old), &one(new));
         for q in (0..1_024).step_by(73).chain([1, 1_022, 1_023]) {
@@ -192,8 +202,11 @@ fn both_sides(run: &mut Run) {
         let room = vec![u32::MAX; ranks as usize];
         let mut sets = |calls: &mut Calls, send: bool| -> Vec<Vec<u32>> {
             let one = |rank| {
-                let (got, list) =
-                    if send { calls.send_set(&mut tables, rank, &room) } else { calls.receive_set(&mut tables, rank, &room) };
+                let (got, list) = if send {
+                    calls.send_set(&mut tables, rank, &room)
+                } else {
+                    calls.receive_set(&mut tables, rank, &room)
+                };
                 let list = list[..got.count as usize].to_vec();
                 assert!(list.windows(2).all(|two| two[0] < two[1]), "ascending");
                 assert_eq!(got.smallest, list.first().map_or(-1, |&rank| rank as i32));

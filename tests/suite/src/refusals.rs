@@ -42,7 +42,10 @@ fn two_tables(run: &mut Run) {
             let so_far = first_of(&[*old_fails, *new_fails, if differ { 4 } else { 0 }]);
             let said = |refusal: u32, failing: &[u32]| {
                 let expected = if so_far > 0 { so_far } else { first_of(failing) };
-                assert_eq!(refusal, expected, "old fails {old_fails}, new {new_fails}, differ {differ}, then {failing:?}");
+                assert_eq!(
+                    refusal, expected,
+                    "old fails {old_fails}, new {new_fails}, differ {differ}, then {failing:?}"
+                );
             };
             for rank in [0, 1_024, u32::MAX] {
                 let bad_rank = if rank > 0 { 5 } else { 0 };
@@ -92,7 +95,11 @@ fn writing(run: &mut Run) {
         ] {
             for (room, bad_room) in [(32, 0), (40, 0), (31, 22), (8, 22), (0, 22)] {
                 let (got, _) = run.calls.write_table(ranks, &first, &count, &vec![5; room]);
-                assert_eq!(got.refusal, first_of(&[bad_ranks, bad_lists, bad_room]), "{ranks} {first:?} {count:?} {room}");
+                assert_eq!(
+                    got.refusal,
+                    first_of(&[bad_ranks, bad_lists, bad_room]),
+                    "{ranks} {first:?} {count:?} {room}"
+                );
             }
         }
     }

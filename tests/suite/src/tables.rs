@@ -104,7 +104,8 @@ fn tree_limits(run: &mut Run) {
     let limit = MAX_TREES as i64;
     let wide = 1i64 << 32;
     let accepted = [1, 2, limit - 1, limit];
-    let refused = [0, -1, -limit, limit + 1, limit + 2, 1 << 31, wide - 1, wide, wide + 1, i64::MAX, i64::MIN, i64::MIN + 1];
+    let refused =
+        [0, -1, -limit, limit + 1, limit + 2, 1 << 31, wide - 1, wide, wide + 1, i64::MAX, i64::MIN, i64::MIN + 1];
     for (trees, expected) in accepted.map(|k| (k, 0)).into_iter().chain(refused.map(|k| (k, 3))) {
         for table in [vec![0, trees], vec![0, 0, trees], vec![0, trees, trees], vec![0, -1, 1, trees]] {
             assert_eq!(all_of(&mut run.calls, &bytes_of(&table)), expected, "{table:?}");

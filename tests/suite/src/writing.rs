@@ -187,7 +187,10 @@ fn limits(run: &mut Run) {
         let cases: [(Vec<u32>, Vec<u32>); 4] = [
             ((0..ranks).collect(), vec![1; ranks as usize]),
             (vec![0; ranks as usize], vec![1; ranks as usize]),
-            ((0..ranks).map(|p| p << 20).collect(), (0..ranks).map(|p| if p + 1 == ranks { limit } else { 0 }).collect()),
+            (
+                (0..ranks).map(|p| p << 20).collect(),
+                (0..ranks).map(|p| if p + 1 == ranks { limit } else { 0 }).collect(),
+            ),
             ((0..ranks).map(|p| p * share).collect(), vec![share; ranks as usize]),
         ];
         for (at, (mut first, count)) in cases.into_iter().enumerate() {
@@ -221,8 +224,7 @@ fn other_lengths(run: &mut Run) {
         let before = random.bytes(96);
         for first_length in 0..=ranks + 3 {
             for count_length in 0..=ranks + 3 {
-                let (got, _) =
-                    calls.write_table(ranks as u32, &first[..first_length], &count[..count_length], &before);
+                let (got, _) = calls.write_table(ranks as u32, &first[..first_length], &count[..count_length], &before);
                 let expected = if first_length == ranks && count_length == ranks { 0 } else { 6 };
                 assert_eq!(got.refusal, expected, "{ranks} ranks, lists of {first_length} and {count_length}");
             }

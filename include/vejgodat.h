@@ -1,0 +1,351 @@
+/** \file vejgodat.h
+ *
+ * Repartitioning of coarse meshes for tree-based adaptive mesh refinement:
+ * offset tables and the communication pattern between two of them.
+ *
+ * Link with libvejgodat.a, which `rt staticlib vejgodat` writes to
+ * target/staticlib/. The library is proved to do what its definitions say for
+ * every input; it allocates nothing, keeps no state between calls, never
+ * aborts and always returns. Calls may run on any number of threads at once as
+ * long as none writes a buffer that another one uses.
+ *
+ * ## Terms
+ *
+ * There are P ranks, 0 to P - 1, with P from 1 to \ref VEJGODAT_MAX_RANKS, and
+ * K trees, 0 to K - 1, with K from 1 to \ref VEJGODAT_MAX_TREES. A tree is on
+ * every rank that holds a leaf of it, so neighbouring ranks may share a tree.
+ *
+ * An offset table O is P + 1 signed 64-bit entries, little-endian, 8 (P + 1)
+ * bytes in all, at any address. P is read from its length, and K is O[P].
+ *
+ *  - First tree of rank p: O[p] if O[p] >= 0, else -O[p] - 1. A negative entry
+ *    says that this tree is shared with the nearest lower rank that has trees.
+ *  - End, one past the last tree of p: |O[p + 1]|.
+ *  - Count: end minus first; 0 for an empty rank. The range of p is f(p).
+ *
+ * A table is valid if O[0] = 0, O[P] is a K within its limits, no entry is
+ * above K or below -K, and each count is at least 0, and at least 1 where O[p]
+ * is negative. {0,3,-3,5} is valid: rank 0 has trees 0 to 2, rank 1 has none,
+ * rank 2 has 2 to 4.
+ *
+ * ## Refusals
+ *
+ * Each call checks its input itself and returns a refusal: 0, or the number of
+ * the first check that fails. The checks come in ascending order of their
+ * numbers, and each is made of all arguments before the next one is made of
+ * any: of two tables, a bad length (2) decides before bad entries (3),
+ * whichever of the two has them. The numbers of this header's calls are those
+ * of \ref VEJGODAT_OK and the names that follow it.
+ *
+ * Where a call refuses, every other field of its result is 0 and every buffer
+ * has the bytes that it had before. Where it accepts, it writes the beginning
+ * of its buffer, as far as the result says, and leaves what lies behind.
+ *
+ * ## What a caller must keep
+ *
+ * No call can check the following, and each relies on it.
+ *
+ *  - A pointer and the count behind it name memory that may be read (that may
+ *    be written, for `out`). A null pointer goes with a count of 0 only.
+ *  - A count of uint8_t is a number of bytes, one of uint32_t a number of
+ *    entries and not of bytes. Lists of uint32_t are aligned as uint32_t;
+ *    tables, and buffers for tables, may be at any address.
+ *  - The buffers of one call don't overlap, and nobody else writes one of them
+ *    while the call runs.
+ */
+#ifndef VEJGODAT_H
+#define VEJGODAT_H
+
+#include <stddef.h>
+#include <stdint.h>
+
+#ifdef __cplusplus
+extern "C" {
+#endif
+
+/** The largest number of ranks P. */
+#define VEJGODAT_MAX_RANKS 1024
+
+/** The largest number of trees K. */
+#define VEJGODAT_MAX_TREES 1048576
+
+/** The largest number of leaves of one tree. */
+#define VEJGODAT_MAX_LEAVES 16777216
+
+/** The bytes of an offset table of P ranks. */
+#define VEJGODAT_TABLE_BYTES(P) (8 * ((size_t) (P) + 1))
+
+/** What the number `refusal` of a result means. */
+enum
+{
+  VEJGODAT_OK = 0,              /**< Accepted. */
+  VEJGODAT_RANKS = 2,           /**< A table, or a rank count for making one,
+                                     is outside P's limits. A table is so if
+                                     its length isn't 8 (P + 1) bytes for a P
+                                     from 1 to 1,024. */
+  VEJGODAT_TABLE = 3,           /**< A table isn't valid. */
+  VEJGODAT_DIFFER = 4,          /**< Old and new table differ in P or K. */
+  VEJGODAT_INDEX = 5,           /**< A rank is >= P, or a tree >= K. */
+  VEJGODAT_PARTITION = 6,       /**< Ranges or leaf counts fit no table, or a
+                                     limit isn't kept. */
+  VEJGODAT_BUFFER = 22          /**< A buffer is too short. */
+};
+
+/** A range of trees. */
+typedef struct
+{
+  uint32_t            refusal;  /**< 0, or why the call declined. */
+  uint32_t            first;    /**< The first tree. */
+  uint32_t            count;    /**< The number of trees. */
+}
+vejgodat_range;
+
+/** The sender of a tree. */
+typedef struct
+{
+  uint32_t            refusal;  /**< 0, or why the call declined. */
+  int32_t             sender;   /**< A rank; -1 where nobody sends. */
+}
+vejgodat_sender;
+
+/** A set of ranks, whose list is in the buffer of the call. */
+typedef struct
+{
+  uint32_t            refusal;  /**< 0, or why the call declined. */
+  uint32_t            count;    /**< The number of ranks in the set. */
+  int32_t             smallest; /**< The smallest; -1 for an empty set. */
+  int32_t             largest;  /**< The largest; -2 for an empty set. */
+}
+vejgodat_ranks;
+
+/** The length of an object in bytes. */
+typedef struct
+{
+  uint32_t            refusal;  /**< 0, or why the call declined. */
+  uint64_t            length;   /**< The number of bytes. */
+}
+vejgodat_length;
+
+/** \name Offset tables
+ * @{ */
+
+/** Check whether bytes are a valid offset table.
+ *
+ * Checks, in this order: \ref VEJGODAT_RANKS (2) if \a table_len isn't
+ * 8 (P + 1) for a P within its limits; \ref VEJGODAT_TABLE (3) if the entries
+ * aren't those of a valid table.
+ * Cost: one pass over the table, O(P); constant where it gives 2.
+ *
+ * \param [in] table      Any bytes. Not changed.
+ * \param [in] table_len  The number of bytes.
+ * \return                0 if the table is valid, else the refusal.
+ */
+uint32_t            vejgodat_check_table (const uint8_t * table,
+                                          size_t table_len);
+
+/** Compute the length of an offset table.
+ *
+ * Checks: \ref VEJGODAT_RANKS (2) if \a ranks is 0 or above
+ * \ref VEJGODAT_MAX_RANKS.
+ * Cost: constant.
+ *
+ * \param [in] ranks      The number of ranks P; any number.
+ * \return                8 (P + 1), which \ref vejgodat_write_table and
+ *                        \ref vejgodat_table_from_leaves need as buffer.
+ */
+vejgodat_length     vejgodat_table_length (uint32_t ranks);
+
+/** Look up the range of trees of a rank.
+ *
+ * Checks, in this order: those of \ref vejgodat_check_table (2, 3);
+ * \ref VEJGODAT_INDEX (5) if \a rank is not below P.
+ * Cost: one pass over the table for its check, O(P).
+ *
+ * \param [in] table      Any bytes. Not changed.
+ * \param [in] table_len  The number of bytes.
+ * \param [in] rank       A rank; any number.
+ * \return                The first tree of the rank and its count. For an
+ *                        empty rank the count is 0, and the first tree is the
+ *                        table's entry for the rank (K behind the last tree).
+ */
+vejgodat_range      vejgodat_table_range (const uint8_t * table,
+                                          size_t table_len, uint32_t rank);
+
+/** Write the offset table of a partition.
+ *
+ * The partition is a first tree and a count for each rank. It has a table, and
+ * then only one, if every rank that has trees begins no lower than the last
+ * tree of any rank below it, and together they have every tree from 0 to
+ * K - 1, where K is one past the last tree on any rank.
+ *
+ * Checks, in this order: \ref VEJGODAT_RANKS (2) if \a ranks isn't within P's
+ * limits; \ref VEJGODAT_PARTITION (6) if one of the lists doesn't have P
+ * entries, the partition has no table, or K isn't within its limits;
+ * \ref VEJGODAT_BUFFER (22) if \a out_len is below 8 (P + 1).
+ * Cost: O(P).
+ *
+ * \param [in] ranks      The number of ranks P; any number.
+ * \param [in] first      The first tree of each rank; any numbers. The entry
+ *                        of a rank with count 0 has no meaning. Not changed.
+ * \param [in] first_len  The number of entries of \a first.
+ * \param [in] count      The number of trees of each rank; any numbers. Not
+ *                        changed.
+ * \param [in] count_len  The number of entries of \a count.
+ * \param [out] out       Its first 8 (P + 1) bytes become the table; the bytes
+ *                        behind them stay. When refused, all of them stay.
+ * \param [in] out_len    The number of bytes of \a out.
+ * \return                The bytes written, 8 (P + 1).
+ */
+vejgodat_length     vejgodat_write_table (uint32_t ranks,
+                                          const uint32_t * first,
+                                          size_t first_len,
+                                          const uint32_t * count,
+                                          size_t count_len,
+                                          uint8_t * out, size_t out_len);
+
+/** Write the offset table that divides the leaves evenly among the ranks.
+ *
+ * With N leaves in all, numbered tree by tree, rank p gets those from
+ * floor (N p / P) up to, but without, floor (N (p + 1) / P). A tree is on rank
+ * p exactly if one of these leaves is in it.
+ *
+ * Checks, in this order: \ref VEJGODAT_RANKS (2) if \a ranks isn't within P's
+ * limits; \ref VEJGODAT_PARTITION (6) if \a leaves_len isn't within K's limits
+ * or a leaf count isn't from 1 to \ref VEJGODAT_MAX_LEAVES;
+ * \ref VEJGODAT_BUFFER (22) if \a out_len is below 8 (P + 1).
+ * Cost: O(K + P).
+ *
+ * \param [in] ranks      The number of ranks P; any number.
+ * \param [in] leaves     The number of leaves of each tree; any numbers. Not
+ *                        changed.
+ * \param [in] leaves_len The number of entries, which is K.
+ * \param [out] out       Its first 8 (P + 1) bytes become the table; the bytes
+ *                        behind them stay. When refused, all of them stay.
+ * \param [in] out_len    The number of bytes of \a out.
+ * \return                The bytes written, 8 (P + 1).
+ */
+vejgodat_length     vejgodat_table_from_leaves (uint32_t ranks,
+                                                const uint32_t * leaves,
+                                                size_t leaves_len,
+                                                uint8_t * out,
+                                                size_t out_len);
+
+/** @} */
+
+/** \name Who sends
+ *
+ * The old table has the ranges f and the new one f'. For a tree k in f'(q), the
+ * sender of k to q is q itself if k is in f(q), else the smallest rank p with k
+ * in f(p). A rank may thus send to itself: it keeps the tree.
+ *
+ * Every call below takes both tables and checks, in this order:
+ * \ref VEJGODAT_RANKS (2) for either table, \ref VEJGODAT_TABLE (3) for either,
+ * \ref VEJGODAT_DIFFER (4) if they differ in P or in K, \ref VEJGODAT_INDEX (5)
+ * for every rank and tree given; those with a buffer then check
+ * \ref VEJGODAT_BUFFER (22).
+ * @{ */
+
+/** Find the rank that sends a tree to a receiver.
+ *
+ * Checks, in this order: 2, 3, 4 as above; 5 if \a tree is not below K or
+ * \a receiver not below P.
+ * Cost: O(P) for the check of the tables; then O(log P).
+ *
+ * \param [in] old_table  The old table; any bytes. Not changed.
+ * \param [in] old_len    The number of its bytes.
+ * \param [in] new_table  The new table; any bytes. Not changed.
+ * \param [in] new_len    The number of its bytes.
+ * \param [in] tree       A tree k; any number.
+ * \param [in] receiver   A rank q; any number.
+ * \return                The sender of k to q, or -1 where k isn't in f'(q).
+ */
+vejgodat_sender     vejgodat_sender_of (const uint8_t * old_table,
+                                        size_t old_len,
+                                        const uint8_t * new_table,
+                                        size_t new_len,
+                                        uint32_t tree, uint32_t receiver);
+
+/** Find the trees that one rank sends to another. They are one range.
+ *
+ * Checks, in this order: 2, 3, 4 as above; 5 if \a sender or \a receiver is
+ * not below P.
+ * Cost: O(P) for the check of the tables; then constant.
+ *
+ * \param [in] old_table  The old table; any bytes. Not changed.
+ * \param [in] old_len    The number of its bytes.
+ * \param [in] new_table  The new table; any bytes. Not changed.
+ * \param [in] new_len    The number of its bytes.
+ * \param [in] sender     A rank p; any number.
+ * \param [in] receiver   A rank q; any number.
+ * \return                The first tree that p sends to q and how many there
+ *                        are; both 0 where there are none.
+ */
+vejgodat_range      vejgodat_trees_sent (const uint8_t * old_table,
+                                         size_t old_len,
+                                         const uint8_t * new_table,
+                                         size_t new_len,
+                                         uint32_t sender, uint32_t receiver);
+
+/** List the ranks to which a rank sends a tree.
+ *
+ * The rank itself is listed where it keeps a tree. A set never has more than P
+ * ranks, so a buffer of P entries is never too short.
+ *
+ * Checks, in this order: 2, 3, 4 as above; 5 if \a rank is not below P; 22 if
+ * \a out_len is below the number of ranks in the set.
+ * Cost: O(P).
+ *
+ * \param [in] old_table  The old table; any bytes. Not changed.
+ * \param [in] old_len    The number of its bytes.
+ * \param [in] new_table  The new table; any bytes. Not changed.
+ * \param [in] new_len    The number of its bytes.
+ * \param [in] rank       The sending rank p; any number.
+ * \param [out] out       Its first entries become the ranks of the set,
+ *                        ascending; the entries behind them stay. When
+ *                        refused, all of them stay.
+ * \param [in] out_len    The number of entries, not bytes, of \a out.
+ * \return                The number of ranks, the smallest and the largest;
+ *                        0, -1 and -2 for an empty set.
+ */
+vejgodat_ranks      vejgodat_send_set (const uint8_t * old_table,
+                                       size_t old_len,
+                                       const uint8_t * new_table,
+                                       size_t new_len,
+                                       uint32_t rank,
+                                       uint32_t * out, size_t out_len);
+
+/** List the ranks from which a rank gets a tree.
+ *
+ * As \ref vejgodat_send_set, seen from the other side: p is in the receive set
+ * of q exactly if q is in the send set of p.
+ *
+ * Checks, in this order: 2, 3, 4 as above; 5 if \a rank is not below P; 22 if
+ * \a out_len is below the number of ranks in the set.
+ * Cost: O(P).
+ *
+ * \param [in] old_table  The old table; any bytes. Not changed.
+ * \param [in] old_len    The number of its bytes.
+ * \param [in] new_table  The new table; any bytes. Not changed.
+ * \param [in] new_len    The number of its bytes.
+ * \param [in] rank       The receiving rank q; any number.
+ * \param [out] out       Its first entries become the ranks of the set,
+ *                        ascending; the entries behind them stay. When
+ *                        refused, all of them stay.
+ * \param [in] out_len    The number of entries, not bytes, of \a out.
+ * \return                The number of ranks, the smallest and the largest;
+ *                        0, -1 and -2 for an empty set.
+ */
+vejgodat_ranks      vejgodat_receive_set (const uint8_t * old_table,
+                                          size_t old_len,
+                                          const uint8_t * new_table,
+                                          size_t new_len,
+                                          uint32_t rank,
+                                          uint32_t * out, size_t out_len);
+
+/** @} */
+
+#ifdef __cplusplus
+}
+#endif
+
+#endif /* VEJGODAT_H */

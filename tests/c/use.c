@@ -1,0 +1,250 @@
+/* Uses every function of include/vejgodat.h once or more, on document 01's examples, and checks the answers.
+ * It says what differs, and its exit status is 0 only where nothing did. */
+#include <vejgodat.h>
+
+#include <stdio.h>
+#include <string.h>
+
+static int          wrong = 0;
+
+#define EXPECT(condition)                                               \
+  do {                                                                  \
+    if (!(condition)) {                                                 \
+      printf ("use.c:%d: not so: %s\n", __LINE__, #condition);          \
+      ++wrong;                                                          \
+    }                                                                   \
+  } while (0)
+
+/* Write the little-endian bytes of a table. */
+static size_t
+put_table (uint8_t * bytes, int ranks, const int64_t * entries)
+{
+  int                 p, i;
+
+  for (p = 0; p <= ranks; ++p) {
+    for (i = 0; i < 8; ++i) {
+      bytes[8 * p + i] = (uint8_t) ((uint64_t) entries[p] >> (8 * i));
+    }
+  }
+  return VEJGODAT_TABLE_BYTES (ranks);
+}
+
+static void
+layout (void)
+{
+  EXPECT (sizeof (vejgodat_range) == 12);
+  EXPECT (sizeof (vejgodat_sender) == 8);
+  EXPECT (sizeof (vejgodat_ranks) == 16);
+  EXPECT (sizeof (vejgodat_length) == 16);
+  EXPECT (offsetof (vejgodat_length, length) == 8);
+}
+
+static void
+check_table (void)
+{
+  static const int64_t valid[5][4] =
+    { {0, 1}, {0, -1, 1}, {0, 0, 0, 5}, {0, 3, -3, 5}, {0, -3, -3, 5} };
+  static const int    valid_ranks[5] = { 1, 2, 3, 3, 3 };
+  static const int64_t refused[4][4] =
+    { {0, 0}, {-1, 1}, {0, 4, 3, 5}, {0, -4, -3, 5} };
+  static const int    refused_ranks[4] = { 1, 1, 3, 3 };
+  uint8_t             table[32];
+  size_t              length;
+  int                 i;
+
+  for (i = 0; i < 5; ++i) {
+    length = put_table (table, valid_ranks[i], valid[i]);
+    EXPECT (vejgodat_check_table (table, length) == VEJGODAT_OK);
+  }
+  for (i = 0; i < 4; ++i) {
+    length = put_table (table, refused_ranks[i], refused[i]);
+    EXPECT (vejgodat_check_table (table, length) == VEJGODAT_TABLE);
+  }
+  EXPECT (vejgodat_check_table (table, 31) == VEJGODAT_RANKS);
+  EXPECT (vejgodat_check_table (NULL, 0) == VEJGODAT_RANKS);
+}
+
+static void
+table_length (void)
+{
+  vejgodat_length     answer;
+
+  answer = vejgodat_table_length (3);
+  EXPECT (answer.refusal == VEJGODAT_OK && answer.length == 32);
+  answer = vejgodat_table_length (VEJGODAT_MAX_RANKS);
+  EXPECT (answer.refusal == VEJGODAT_OK && answer.length == 8200);
+  answer = vejgodat_table_length (VEJGODAT_MAX_RANKS + 1);
+  EXPECT (answer.refusal == VEJGODAT_RANKS && answer.length == 0);
+}
+
+/* Rank 1 is empty, and tree 2 is on ranks 0 and 2. */
+static void
+table_range (void)
+{
+  static const int64_t entries[4] = { 0, 3, -3, 5 };
+  static const uint32_t first[3] = { 0, 3, 2 }, count[3] = { 3, 0, 3 };
+  uint8_t             table[32];
+  vejgodat_range      range;
+  uint32_t            p;
+
+  put_table (table, 3, entries);
+  for (p = 0; p < 3; ++p) {
+    range = vejgodat_table_range (table, sizeof table, p);
+    EXPECT (range.refusal == VEJGODAT_OK);
+    EXPECT (range.first == first[p] && range.count == count[p]);
+  }
+  range = vejgodat_table_range (table, sizeof table, 3);
+  EXPECT (range.refusal == VEJGODAT_INDEX);
+  EXPECT (range.first == 0 && range.count == 0);
+}
+
+static void
+write_table (void)
+{
+  static const int64_t entries[4] = { 0, 3, -3, 5 };
+  static const uint32_t first[3] = { 0, 4294967295u, 2 };
+  static const uint32_t count[3] = { 3, 0, 3 }, gap[3] = { 1, 0, 3 };
+  uint8_t             table[32], out[40], before[40];
+  vejgodat_length     answer;
+
+  put_table (table, 3, entries);
+  memset (out, 0x5a, sizeof out);
+  memset (before, 0x5a, sizeof before);
+
+  answer = vejgodat_write_table (3, first, 3, gap, 3, out, sizeof out);
+  EXPECT (answer.refusal == VEJGODAT_PARTITION && answer.length == 0);
+  answer = vejgodat_write_table (3, first, 3, count, 2, out, sizeof out);
+  EXPECT (answer.refusal == VEJGODAT_PARTITION && answer.length == 0);
+  answer = vejgodat_write_table (3, first, 3, count, 3, out, 31);
+  EXPECT (answer.refusal == VEJGODAT_BUFFER && answer.length == 0);
+  EXPECT (memcmp (out, before, sizeof out) == 0);
+
+  answer = vejgodat_write_table (3, first, 3, count, 3, out, sizeof out);
+  EXPECT (answer.refusal == VEJGODAT_OK && answer.length == 32);
+  EXPECT (memcmp (out, table, 32) == 0);
+  EXPECT (memcmp (out + 32, before, 8) == 0);
+}
+
+static void
+table_from_leaves (void)
+{
+  static const int64_t entries[2][4] = { {0, -1, -2, 2}, {0, 0, 1, 2} };
+  static const uint32_t leaves[2][2] = { {4, 4}, {1, 1} }, none[2] = { 4, 0 };
+  uint8_t             table[32], out[32];
+  vejgodat_length     answer;
+  int                 i;
+
+  for (i = 0; i < 2; ++i) {
+    put_table (table, 3, entries[i]);
+    answer = vejgodat_table_from_leaves (3, leaves[i], 2, out, sizeof out);
+    EXPECT (answer.refusal == VEJGODAT_OK && answer.length == 32);
+    EXPECT (memcmp (out, table, 32) == 0);
+  }
+  answer = vejgodat_table_from_leaves (3, none, 2, out, sizeof out);
+  EXPECT (answer.refusal == VEJGODAT_PARTITION && answer.length == 0);
+  EXPECT (memcmp (out, table, 32) == 0);
+}
+
+/* The example of the program `plan`. */
+static void
+plan (void)
+{
+  static const int64_t old_entries[4] = { 0, -2, 3, 5 };
+  static const int64_t new_entries[4] = { 0, -3, -4, 5 };
+  /* sender, receiver, first and last tree */
+  static const uint32_t moves[5][4] =
+    { {0, 0, 0, 1}, {1, 0, 2, 2}, {1, 1, 2, 2}, {2, 1, 3, 3}, {2, 2, 3, 4} };
+  static const uint32_t sends[3][2] = { {0, 9}, {0, 1}, {1, 2} };
+  static const uint32_t receives[3][2] = { {0, 1}, {1, 2}, {2, 9} };
+  static const uint32_t send_count[3] = { 1, 2, 2 };
+  static const uint32_t receive_count[3] = { 2, 2, 1 };
+  uint8_t             old_table[32], new_table[32];
+  uint32_t            list[2], p, q, k, count;
+  vejgodat_range      range;
+  vejgodat_sender     sender;
+  vejgodat_ranks      ranks;
+  int                 i;
+
+  put_table (old_table, 3, old_entries);
+  put_table (new_table, 3, new_entries);
+
+  count = 0;
+  for (p = 0; p < 3; ++p) {
+    for (q = 0; q < 3; ++q) {
+      range = vejgodat_trees_sent (old_table, 32, new_table, 32, p, q);
+      EXPECT (range.refusal == VEJGODAT_OK);
+      count += range.count > 0;
+    }
+  }
+  EXPECT (count == 5);
+  for (i = 0; i < 5; ++i) {
+    p = moves[i][0];
+    q = moves[i][1];
+    range = vejgodat_trees_sent (old_table, 32, new_table, 32, p, q);
+    EXPECT (range.first == moves[i][2]);
+    EXPECT (range.first + range.count == moves[i][3] + 1);
+    for (k = moves[i][2]; k <= moves[i][3]; ++k) {
+      sender = vejgodat_sender_of (old_table, 32, new_table, 32, k, q);
+      EXPECT (sender.refusal == VEJGODAT_OK && sender.sender == (int32_t) p);
+    }
+  }
+  sender = vejgodat_sender_of (old_table, 32, new_table, 32, 4, 0);
+  EXPECT (sender.refusal == VEJGODAT_OK && sender.sender == -1);
+  sender = vejgodat_sender_of (old_table, 32, new_table, 32, 5, 0);
+  EXPECT (sender.refusal == VEJGODAT_INDEX && sender.sender == 0);
+
+  for (p = 0; p < 3; ++p) {
+    list[0] = list[1] = 9;
+    ranks = vejgodat_send_set (old_table, 32, new_table, 32, p, list, 2);
+    EXPECT (ranks.refusal == VEJGODAT_OK && ranks.count == send_count[p]);
+    EXPECT (list[0] == sends[p][0] && list[1] == sends[p][1]);
+    EXPECT (ranks.smallest == (int32_t) list[0]);
+    EXPECT (ranks.largest == (int32_t) list[ranks.count - 1]);
+
+    list[0] = list[1] = 9;
+    ranks = vejgodat_receive_set (old_table, 32, new_table, 32, p, list, 2);
+    EXPECT (ranks.refusal == VEJGODAT_OK && ranks.count == receive_count[p]);
+    EXPECT (list[0] == receives[p][0] && list[1] == receives[p][1]);
+    EXPECT (ranks.smallest == (int32_t) list[0]);
+    EXPECT (ranks.largest == (int32_t) list[ranks.count - 1]);
+  }
+
+  list[0] = 9;
+  ranks = vejgodat_send_set (old_table, 32, new_table, 32, 1, list, 1);
+  EXPECT (ranks.refusal == VEJGODAT_BUFFER && ranks.count == 0);
+  EXPECT (ranks.smallest == 0 && ranks.largest == 0 && list[0] == 9);
+  ranks = vejgodat_receive_set (old_table, 32, new_table, 24, 1, list, 1);
+  EXPECT (ranks.refusal == VEJGODAT_TABLE);
+  ranks = vejgodat_receive_set (old_table, 31, new_table, 24, 1, list, 1);
+  EXPECT (ranks.refusal == VEJGODAT_RANKS);
+}
+
+/* Rank 0 has one tree, shared with no smaller rank, and still sends nothing. */
+static void
+empty_set (void)
+{
+  static const int64_t old_entries[3] = { 0, -1, 2 };
+  static const int64_t new_entries[3] = { 0, 0, 2 };
+  uint8_t             old_table[24], new_table[24];
+  vejgodat_ranks      ranks;
+
+  put_table (old_table, 2, old_entries);
+  put_table (new_table, 2, new_entries);
+  ranks = vejgodat_send_set (old_table, 24, new_table, 24, 0, NULL, 0);
+  EXPECT (ranks.refusal == VEJGODAT_OK && ranks.count == 0);
+  EXPECT (ranks.smallest == -1 && ranks.largest == -2);
+}
+
+int
+main (void)
+{
+  layout ();
+  check_table ();
+  table_length ();
+  table_range ();
+  write_table ();
+  table_from_leaves ();
+  plan ();
+  empty_set ();
+  return wrong == 0 ? 0 : 1;
+}

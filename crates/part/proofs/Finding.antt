@@ -4,7 +4,7 @@ use native.Mathlib.Nat.{mul-div-le, mul-le-mul-left, mul-suc, add-sub-cancel-lef
 use native.Mathlib.Numerals.{add-one}
 use native.Mathlib.Omega.{arith}
 use mathlib.Core.Path.{_≡_, sym, _∙_}
-use mathlib.Core.Bool.{true, false}
+use mathlib.Core.Bool.{Bool, true, false}
 use mathlib.Core.List.{List, []}
 use lib.ListN.{length, take, drop}
 use borrow.Author.Tests.{eq-eqb, ne-eqb}
@@ -15,6 +15,15 @@ use Rattle.encoding.proofs.Below.{either, any-false, least-none, least-lt, leas
 use Rattle.records.specs.Record.{coreSize, treeSize}
 use Rattle.part.specs.Lookup.{hasNumber, found, firstWith, lookupRecord}
 
+-- one more that fails, after none that passes
+pub none-next : (i : ℕ) (f : ℕ → Bool) → anyBelow i f ≡ false → f i ≡ false → anyBelow (i + 1) f ≡ false
+unfolding anyBelow
+none-next i f a e = rw (add-one, a, e)
+
+-- a loop that has come to its bound
+pub none-to : (n : ℕ) (f : ℕ → Bool) (i : ℕ) → i ≤ n → n ≤ i → anyBelow i f ≡ false → false ≡ anyBelow n f
+none-to n f i p q a = let e : n ≡ i = omega arith in rw e (sym a)
+
 module _ (size : ℕ) (bs : List ℕ) where
   -- a whole record is in the slice
   pub whole-fits : (i : ℕ) → i < length bs / size → size * i + size ≤ length bs
@@ -23,8 +32,8 @@ module _ (size : ℕ) (bs : List ℕ) where
   module _ (number i : ℕ) where
     -- one more record without the number
     pub none-more : {v : ℕ} → anyBelow i (hasNumber size bs number) ≡ false → v ≡ u32At bs (size * i) → (v ≡ number → ⊥) → anyBelow (i + 1) (hasNumber size bs number) ≡ false
-    unfolding anyBelow hasNumber
-    none-more a e h = rw (add-one, a, ← e) (ne-eqb _ _ h)
+    unfolding hasNumber
+    none-more a e h = none-next i (hasNumber size bs number) a (rw (← e) (ne-eqb _ _ h))
 
     -- the first with the number
     pub first-found : {v : ℕ} → i < length bs / size → anyBelow i (hasNumber size bs number) ≡ false → v ≡ u32At bs (size * i) → v ≡ number → i ≡ leastBelow (length bs / size) (hasNumber size bs number)

@@ -4,3 +4,4 @@ pub mod Ghosts
 pub mod Cut
 pub mod Lookup
 pub mod Calls
+pub mod Mirror

@@ -1,0 +1,88 @@
+-- Laws of the ghosts of a rank.
+use Prim.Native.Nat.{ℕ, _<_}
+use mathlib.Core.Path.{_≡_, refl, sym, ap, _∙_}
+use mathlib.Core.Bool.{Bool, true, not, _&&_}
+use mathlib.Core.List.{List}
+use lib.Dec.{ltb, eqb}
+use lib.ListN.{length, getD}
+use borrow.Author.Tests.{ltb-true, eqb-true, eq-eqb}
+use Rattle.encoding.specs.Below.{anyBelow, member}
+use Rattle.encoding.proofs.Below.{either, and-fst, and-snd, and-intro, iff-eq, any-at, any-intro, kept-length, kept-member, kept-at, kept-found, kept-ascends}
+use Rattle.offsets.specs.Table.{holds}
+use Rattle.records.specs.Shape.{faceCount}
+use Rattle.records.specs.Record.{shapeOf, neighbourOf}
+use Rattle.mesh.specs.Mesh.{meshTrees, meshCore, meshSound, faceNeighbour}
+use Rattle.mesh.proofs.Soundness.{neighbour-below, neighbours-both}
+use Rattle.part.specs.Ghosts.{isGhost, ghostsOf, ghostPosition}
+
+module _ (core : ℕ → List ℕ) (table : List ℕ) (rank : ℕ) where
+  -- the list has the ghosts below K and nothing else
+  pub ghost-member : (K k : ℕ) → member k (ghostsOf core table rank K) ≡ (ltb k K && isGhost core table rank k)
+  unfolding ghostsOf
+  ghost-member K k = kept-member K (isGhost core table rank) k
+
+  -- a ghost stands at its position
+  pub ghost-at : (K k d : ℕ) → k < K → isGhost core table rank k ≡ true → getD (ghostsOf core table rank K) (ghostPosition core table rank k) d ≡ k
+  unfolding ghostsOf ghostPosition
+  ghost-at K k d h e = kept-at K (isGhost core table rank) k h e d
+
+  -- as many as the position past the last
+  pub ghosts-length : (K : ℕ) → length (ghostsOf core table rank K) ≡ ghostPosition core table rank K
+  unfolding ghostsOf ghostPosition
+  ghosts-length K = kept-length K (isGhost core table rank)
+
+  -- ghost j is a ghost below K, and j is its position
+  pub ghost-found : (K j d : ℕ) → j < ghostPosition core table rank K
+      → (getD (ghostsOf core table rank K) j d < K) × (isGhost core table rank (getD (ghostsOf core table rank K) j d) ≡ true) × (ghostPosition core table rank (getD (ghostsOf core table rank K) j d) ≡ j)
+  unfolding ghostsOf ghostPosition
+  ghost-found K j d h = kept-found K (isGhost core table rank) j d h
+
+  -- ghosts ascend
+  pub ghosts-ascend : (K i j d : ℕ) → i < j → j < ghostPosition core table rank K → getD (ghostsOf core table rank K) i d < getD (ghostsOf core table rank K) j d
+  unfolding ghostsOf ghostPosition
+  ghosts-ascend K i j d h l = kept-ascends K (isGhost core table rank) i j d h l
+
+  -- each stands there once
+  pub ghost-once : (K i j d : ℕ) → i < ghostPosition core table rank K → j < ghostPosition core table rank K
+      → getD (ghostsOf core table rank K) i d ≡ getD (ghostsOf core table rank K) j d → i ≡ j
+  ghost-once K i j d h l e = sym (ghost-found K i d h .2) ∙ ap (ghostPosition core table rank) e ∙ ghost-found K j d l .2
+
+-- some tree of f(rank) has k as a face neighbour
+unfoldable pub besideRank : List ℕ → List ℕ → ℕ → ℕ → Bool
+besideRank m table rank k = anyBelow (meshTrees m) (λ n. holds table rank n && faceNeighbour (meshCore m) n k)
+
+module _ (m : List ℕ) (sound : meshSound m ≡ true) (table : List ℕ) (rank : ℕ) where
+  module _ (k : ℕ) (tree : k < meshTrees m) where
+    links : Bool
+    links = anyBelow (faceCount (shapeOf (meshCore m k))) (λ f. holds table rank (neighbourOf (meshCore m k) f))
+
+    -- a link of k into f(rank) is answered by a link of a tree of f(rank) to k
+    to : links ≡ true → besideRank m table rank k ≡ true
+    unfolding links besideRank faceNeighbour
+    to e =
+        let a = any-at (faceCount (shapeOf (meshCore m k))) (λ f. holds table rank (neighbourOf (meshCore m k) f)) e in
+        let n = neighbourOf (meshCore m k) (a .0) in
+        let l : n < meshTrees m = neighbour-below m sound k tree (a .0) (a .1) in
+        let t : faceNeighbour (meshCore m) k n ≡ true = any-intro (faceCount (shapeOf (meshCore m k))) (λ f. eqb (neighbourOf (meshCore m k) f) n) (a .0) (a .1) (eq-eqb n n refl) in
+        any-intro (meshTrees m) (λ n. holds table rank n && faceNeighbour (meshCore m) n k) n l
+        (and-intro (holds table rank n) (faceNeighbour (meshCore m) n k) (a .2) (neighbours-both m sound n k l tree ∙ t))
+
+    back : besideRank m table rank k ≡ true → links ≡ true
+    unfolding links besideRank faceNeighbour
+    back e =
+        let b = any-at (meshTrees m) (λ n. holds table rank n && faceNeighbour (meshCore m) n k) e in
+        let n = b .0 in
+        let t : faceNeighbour (meshCore m) k n ≡ true = neighbours-both m sound k n tree (b .1) ∙ and-snd (holds table rank n) (faceNeighbour (meshCore m) n k) (b .2) in
+        let a = any-at (faceCount (shapeOf (meshCore m k))) (λ f. eqb (neighbourOf (meshCore m k) f) n) t in
+        let q : neighbourOf (meshCore m k) (a .0) ≡ n = eqb-true _ _ (a .2) in
+        any-intro (faceCount (shapeOf (meshCore m k))) (λ f. holds table rank (neighbourOf (meshCore m k) f)) (a .0) (a .1)
+        (rw q (and-fst (holds table rank n) (faceNeighbour (meshCore m) n k) (b .2)))
+
+    -- a tree of a sound mesh is a ghost where it is outside f(rank) and a face neighbour of a tree of f(rank)
+    pub ghost-is : isGhost (meshCore m) table rank k ≡ (not (holds table rank k) && besideRank m table rank k)
+    unfolding isGhost links
+    ghost-is = ap (λ b. not (holds table rank k) && b) (iff-eq links (besideRank m table rank k) to back)
+
+  -- the list has those below K and nothing else
+  pub ghosts-exact : (k : ℕ) → member k (ghostsOf (meshCore m) table rank (meshTrees m)) ≡ (ltb k (meshTrees m) && (not (holds table rank k) && besideRank m table rank k))
+  ghosts-exact k = ghost-member (meshCore m) table rank (meshTrees m) k ∙ either (ltb k (meshTrees m)) (λ p. rw (p, ghost-is k (ltb-true _ _ p))) (λ p. rw p)

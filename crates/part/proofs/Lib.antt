@@ -1,0 +1,5 @@
+-- Laws, for this crate's proofs and for the crates above.
+pub mod Finding
+pub mod Ghosts
+pub mod Checks
+pub mod Cutting

@@ -1,0 +1,7 @@
+-- Document 01, "Records, whole mesh and part": the part, in its order.
+pub mod Layout
+pub mod Ghosts
+pub mod Cut
+pub mod Lookup
+pub mod Calls
+pub mod Mirror

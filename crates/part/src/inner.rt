@@ -1,0 +1,86 @@
+// For the crates above: the checks of a cut and the ghosts of a range. No calls for users.
+ghost use mathlib.Core.Path.{_≡_};
+ghost use Prim.Native.Nat.{_+_, _*_, _≤_};
+ghost use lib.ListN.{length};
+ghost use Rattle.encoding.specs.Below.{anyBelow, countBelow};
+ghost use Rattle.encoding.specs.Pieces.{piece};
+ghost use Rattle.encoding.specs.Refusal.{firstFailed};
+ghost use Rattle.records.specs.Record.{coreSize, treeSize};
+ghost use Rattle.mesh.specs.Mesh.{meshHeader, meshCore};
+ghost use Rattle.part.specs.Mirror.{inRange, neighbourIn, ghostIn};
+ghost use Rattle.part.specs.Calls.{cutChecks};
+
+// The checks of a mesh, a table and a rank (2, 3, 5, 7): 0 or the refusal.
+pub fn cut_refusal(mesh: &[u8], table: &[u8], rank: u32) -> u32
+    ensures { λ r. ⌜ r ≡ firstFailed (cutChecks (now (mesh .entry)) (now (table .entry)) rank) ⌝ }
+{
+    if !offsets::inner::ranks_ok(table) {
+        return 2;
+    }
+    if !offsets::inner::valid(table) {
+        return 3;
+    }
+    let ranks = offsets::inner::ranks(table);
+    if ranks <= rank as usize {
+        return 5;
+    }
+    if !mesh::inner::sound(mesh) {
+        return 7;
+    }
+    if mesh::inner::trees(mesh) as u64 != offsets::inner::entry(table, ranks) {
+        return 7;
+    }
+    0
+}
+
+// Whether a tree is in a range, from its first tree to before its end.
+pub fn in_range(first: u32, end: u32, k: u32) -> bool
+    ensures { λ r. ⌜ r ≡ inRange first end k ⌝ }
+{
+    (first <= k) & (k < end)
+}
+
+// Whether the record at byte `at` has a face neighbour in the range.
+pub fn beside(bs: &[u8], at: usize, faces: u32, first: u32, end: u32) -> bool
+    requires { ⌜ (at + coreSize ≤ length (now bs)) × (faces ≤ 6) ⌝ }
+    ensures { λ r. ⌜ r ≡ anyBelow faces (neighbourIn first end (piece (now (bs .entry)) at coreSize)) ⌝ }
+{
+    let mut face = 0;
+    while face < faces {
+        if in_range(first, end, records::neighbour_of(bs, at, face)) {
+            return true;
+        }
+        face += 1;
+    }
+    false
+}
+
+// Whether tree k of a whole mesh is a ghost of the range.
+pub fn is_ghost(mesh: &[u8], k: u32, first: u32, end: u32) -> bool
+    requires { ⌜ meshHeader + treeSize * k + treeSize ≤ length (now mesh) ⌝ }
+    ensures { λ r. ⌜ r ≡ ghostIn (meshCore (now (mesh .entry))) first end k ⌝ }
+{
+    if in_range(first, end, k) {
+        return false;
+    }
+    let at = mesh::inner::tree_at(k);
+    let faces = records::face_count(records::shape_of(mesh, at));
+    beside(mesh, at, faces, first, end)
+}
+
+// How many ghosts the range has.
+pub fn ghost_count(mesh: &[u8], trees: u32, first: u32, end: u32) -> u32
+    requires { ⌜ length (now mesh) ≡ meshHeader + treeSize * trees ⌝ }
+    ensures { λ r. ⌜ (r ≡ countBelow trees (ghostIn (meshCore (now (mesh .entry))) first end)) × (r ≤ trees) ⌝ }
+{
+    let mut count = 0;
+    let mut k = 0;
+    while k < trees {
+        let ghostly = is_ghost(mesh, k, first, end);
+        k += 1;
+        if ghostly {
+            count += 1;
+        }
+    }
+    count
+}

@@ -1,0 +1,62 @@
+// Parts of a whole mesh.
+ghost use mathlib.Core.Path.{_≡_};
+ghost use Prim.Native.Nat.{_/_, _≤_};
+ghost use lib.ListN.{length};
+ghost use Rattle.encoding.specs.Below.{leastBelow};
+ghost use Rattle.part.specs.Calls.{partLengthOf};
+ghost use Rattle.part.specs.Lookup.{hasNumber, lookupRecord};
+use encoding::answer::Length;
+use records::index::GlobalIndex;
+
+pub mod inner;
+
+// How long the part of a whole mesh for a table and a rank is (2, 3, 5, 7).
+pub fn part_length(mesh: &[u8], table: &[u8], rank: u32) -> Length
+    ensures { λ r. ⌜ r ≡ partLengthOf (now (mesh .entry)) (now (table .entry)) rank ⌝ }
+{
+    let refusal = inner::cut_refusal(mesh, table, rank);
+    if refusal != 0 {
+        return Length { refusal, length: 0 };
+    }
+    let first = offsets::inner::first_tree(table, rank as usize) as u32;
+    let end = offsets::inner::end_tree(table, rank as usize) as u32;
+    let ghosts = inner::ghost_count(mesh, mesh::inner::trees(mesh), first, end);
+    Length {
+        refusal: 0,
+        length: 32 + (64 * ((end - first) as u64) + 40 * (ghosts as u64)),
+    }
+}
+
+// The index of the first whole record of `size` bytes with the number, or how many whole records there are.
+fn find(bs: &[u8], size: usize, number: u32) -> usize
+    requires { ⌜ 4 ≤ size ⌝ }
+    ensures { λ r. ⌜ r ≡ leastBelow (length (now (bs .entry)) / size) (hasNumber size (now (bs .entry)) number) ⌝ }
+{
+    let n = bs.len() / size;
+    let mut i = 0;
+    while i < n {
+        if encoding::read_u32(bs, size * i) == number {
+            return i;
+        }
+        i += 1;
+    }
+    n
+}
+
+// The record with the number, as a part of the lent bytes: the first, trees before ghosts, an empty piece if neither has it.
+pub fn lookup<'a>(trees: &'a [u8], ghosts: &'a [u8], number: GlobalIndex) -> &'a [u8]
+    ensures { λ r. ⌜ now r ≡ lookupRecord (now (trees .entry)) (now (ghosts .entry)) (number .0) ⌝ }
+{
+    let wanted = number.0;
+    let tree = find(trees, 64, wanted);
+    if tree < trees.len() / 64 {
+        let at = 64 * tree;
+        return &trees[at..at + 64];
+    }
+    let held = find(ghosts, 40, wanted);
+    if held < ghosts.len() / 40 {
+        let at = 40 * held;
+        return &ghosts[at..at + 40];
+    }
+    &trees[..0]
+}

@@ -118,7 +118,11 @@ impl Calls {
     fn put_tables(&mut self, tables: &Tables) -> (*const u8, usize, *const u8, usize) {
         let (a, b) = (self.place(), self.place());
         let old = self.old.put(&tables.old, a);
-        let new = self.new.put(&tables.new, b);
+        let mut new = self.new.put(&tables.new, b);
+        // buffers that are only read may be the same
+        if tables.old == tables.new && self.random.chance(128) {
+            new = old;
+        }
         (old, tables.old.len(), new, tables.new.len())
     }
 

@@ -1,7 +1,8 @@
 /** \file vejgodat.h
  *
  * Repartitioning of coarse meshes for tree-based adaptive mesh refinement:
- * offset tables and the communication pattern between two of them.
+ * offset tables, the communication pattern between two of them, and the check
+ * of a whole mesh.
  *
  * Link with libvejgodat.a, which `rt staticlib vejgodat` writes to
  * target/staticlib/. The library is proved to do what its definitions say for
@@ -28,6 +29,53 @@
  * is negative. {0,3,-3,5} is valid: rank 0 has trees 0 to 2, rank 1 has none,
  * rank 2 has 2 to 4.
  *
+ * ## Whole meshes
+ *
+ * A whole mesh is bytes at any address, every number in it little-endian:
+ *
+ *     at 0   uint32_t     the dimension, 2 or 3
+ *     at 4   uint32_t     K
+ *     at 8   K records    tree 0 to tree K - 1, 64 bytes each
+ *
+ * so 8 + 64 K bytes in all. A tree record is a core record of 40 bytes and
+ * 24 bytes of tree data, which are the caller's and may be anything:
+ *
+ *     at 0   uint32_t     the tree's number
+ *     at 4   uint8_t      the shape
+ *     at 5   3 bytes      zero
+ *     at 8   uint32_t[6]  the neighbour's number, for each face
+ *     at 32  uint8_t[6]   the face code, for each face
+ *     at 38  2 bytes      zero
+ *     at 40  24 bytes     tree data
+ *
+ * The shapes, their faces and the corners of these:
+ *
+ *     0  quadrilateral  dimension 2, 4 faces of 2 corners
+ *     1  triangle       dimension 2, 3 faces of 2 corners
+ *     2  hexahedron     dimension 3, 6 faces of 4 corners
+ *     3  tetrahedron    dimension 3, 4 faces of 3 corners
+ *     4  prism          dimension 3, faces 0 to 2 of 4, 3 and 4 of 3 corners
+ *     5  pyramid        dimension 3, faces 0 to 3 of 3, face 4 of 4 corners
+ *
+ * A face code is the orientation times F plus the neighbour's face, where F is
+ * 4 in dimension 2 and 6 in dimension 3. At the domain's boundary a face has
+ * its own tree as neighbour, itself as the neighbour's face and orientation 0.
+ * A face that the shape doesn't have has the neighbour 4,294,967,295 and the
+ * code 0.
+ *
+ * A mesh is sound if the dimension is 2 or 3, K is within its limits, the
+ * length is 8 + 64 K, and of each record
+ *
+ *  - the number is the record's place, from 0;
+ *  - the shape is one of the dimension, and the bytes that are to be zero are;
+ *  - the faces that the shape doesn't have are marked as above;
+ *  - every other face has an orientation below the number of its corners, and
+ *    meets a face of a tree below K that has as many corners, and whose own
+ *    link leads back to it with the same orientation;
+ *  - a face that meets itself has orientation 0: it is the boundary.
+ *
+ * Two trees may meet at several faces, and a tree may meet itself.
+ *
  * ## Refusals
  *
  * Each call checks its input itself and returns a refusal: 0, or the number of
@@ -49,9 +97,11 @@
  *    be written, for `out`). A null pointer goes with a count of 0 only.
  *  - A count of uint8_t is a number of bytes, one of uint32_t a number of
  *    entries and not of bytes. Lists of uint32_t are aligned as uint32_t;
- *    tables, and buffers for tables, may be at any address.
- *  - The buffers of one call don't overlap, and nobody else writes one of them
- *    while the call runs.
+ *    tables, buffers for tables, and meshes may be at any address.
+ *  - A buffer that a call writes overlaps no other buffer of that call. Those
+ *    that it only reads may overlap: the same table may be given as old and as
+ *    new.
+ *  - Nobody else writes a buffer of a call while the call runs.
  */
 #ifndef VEJGODAT_H
 #define VEJGODAT_H
@@ -75,6 +125,9 @@ extern "C" {
 /** The bytes of an offset table of P ranks. */
 #define VEJGODAT_TABLE_BYTES(P) (8 * ((size_t) (P) + 1))
 
+/** The bytes of a whole mesh of K trees. */
+#define VEJGODAT_MESH_BYTES(K) (8 + 64 * (size_t) (K))
+
 /** What the number `refusal` of a result means. */
 enum
 {
@@ -88,6 +141,7 @@ enum
   VEJGODAT_INDEX = 5,           /**< A rank is >= P, or a tree >= K. */
   VEJGODAT_PARTITION = 6,       /**< Ranges or leaf counts fit no table, or a
                                      limit isn't kept. */
+  VEJGODAT_MESH = 7,            /**< A whole mesh isn't sound. */
   VEJGODAT_BUFFER = 22          /**< A buffer is too short. */
 };
 
@@ -341,6 +395,27 @@ vejgodat_ranks      vejgodat_receive_set (const uint8_t * old_table,
                                           size_t new_len,
                                           uint32_t rank,
                                           uint32_t * out, size_t out_len);
+
+/** @} */
+
+/** \name Whole meshes
+ * @{ */
+
+/** Check whether bytes are a sound whole mesh.
+ *
+ * The layout and what makes it sound are above, under Whole meshes.
+ *
+ * Checks: \ref VEJGODAT_MESH (7) if the mesh isn't sound, for whatever reason;
+ * a length that isn't 8 + 64 K for the K at its beginning is one.
+ * Cost: one pass over the records, which looks for each face at its neighbour:
+ * O(F K). Constant where dimension, K or length is wrong.
+ *
+ * \param [in] mesh       Any bytes. Not changed.
+ * \param [in] mesh_len   The number of bytes.
+ * \return                0 if the mesh is sound, else the refusal.
+ */
+uint32_t            vejgodat_check_mesh (const uint8_t * mesh,
+                                         size_t mesh_len);
 
 /** @} */
 

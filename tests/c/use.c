@@ -217,6 +217,13 @@ plan (void)
   EXPECT (ranks.refusal == VEJGODAT_TABLE);
   ranks = vejgodat_receive_set (old_table, 31, new_table, 24, 1, list, 1);
   EXPECT (ranks.refusal == VEJGODAT_RANKS);
+
+  /* one table as old and new: each rank keeps its trees */
+  for (p = 0; p < 3; ++p) {
+    ranks = vejgodat_send_set (old_table, 32, old_table, 32, p, list, 2);
+    EXPECT (ranks.refusal == VEJGODAT_OK && ranks.count == 1);
+    EXPECT (list[0] == p);
+  }
 }
 
 /* Rank 0 has one tree, shared with no smaller rank, and still sends nothing. */
@@ -235,6 +242,55 @@ empty_set (void)
   EXPECT (ranks.smallest == -1 && ranks.largest == -2);
 }
 
+/* Write the little-endian bytes of a number. */
+static void
+put_number (uint8_t * bytes, uint32_t number)
+{
+  int                 i;
+
+  for (i = 0; i < 4; ++i) {
+    bytes[i] = (uint8_t) (number >> (8 * i));
+  }
+}
+
+/* Three triangles: face 0 of each meets face 1 of the next, face 2 is the boundary. */
+static void
+check_mesh (void)
+{
+  uint8_t             mesh[VEJGODAT_MESH_BYTES (3)], *record;
+  uint32_t            k;
+  int                 face;
+
+  memset (mesh, 0, sizeof mesh);
+  put_number (mesh, 2);
+  put_number (mesh + 4, 3);
+  for (k = 0; k < 3; ++k) {
+    record = mesh + VEJGODAT_MESH_BYTES (k);
+    put_number (record, k);
+    record[4] = 1;
+    put_number (record + 8, (k + 1) % 3);
+    put_number (record + 12, (k + 2) % 3);
+    put_number (record + 16, k);
+    for (face = 3; face < 6; ++face) {
+      put_number (record + 8 + 4 * face, 4294967295u);
+    }
+    record[32] = 1;
+    record[33] = 0;
+    record[34] = 2;
+    memset (record + 40, 0xa0 + (int) k, 24);
+  }
+  EXPECT (vejgodat_check_mesh (mesh, sizeof mesh) == VEJGODAT_OK);
+
+  /* face 0 of tree 1 with another orientation than face 1 of tree 2 */
+  mesh[VEJGODAT_MESH_BYTES (1) + 32] = 1 * 4 + 1;
+  EXPECT (vejgodat_check_mesh (mesh, sizeof mesh) == VEJGODAT_MESH);
+  /* with the same, they meet again */
+  mesh[VEJGODAT_MESH_BYTES (2) + 33] = 1 * 4 + 0;
+  EXPECT (vejgodat_check_mesh (mesh, sizeof mesh) == VEJGODAT_OK);
+  EXPECT (vejgodat_check_mesh (mesh, sizeof mesh - 1) == VEJGODAT_MESH);
+  EXPECT (vejgodat_check_mesh (NULL, 0) == VEJGODAT_MESH);
+}
+
 int
 main (void)
 {
@@ -246,5 +302,6 @@ main (void)
   table_from_leaves ();
   plan ();
   empty_set ();
+  check_mesh ();
   return wrong == 0 ? 0 : 1;
 }

@@ -1,6 +1,7 @@
 //! Each call of the library, compared with the model: the answer, every byte of the buffers, and the bytes around them.
 use crate::library::{self, Length, Range, Ranks, Sender};
 use crate::memory::{Arena, Place};
+use crate::mesh_model::{self, Fault};
 use crate::model::{self, Answer, Pair};
 use crate::random::Random;
 use std::collections::{BTreeMap, BTreeSet};
@@ -14,6 +15,8 @@ pub struct Seen {
     pub refusals: BTreeMap<&'static str, BTreeSet<u32>>,
     /// for the calls with two tables: what the old and the new one are by themselves
     pub tables: BTreeMap<&'static str, BTreeSet<(State, State)>>,
+    /// how often a mesh broke exactly these sentences; none is a sound one
+    pub faults: BTreeMap<BTreeSet<Fault>, u64>,
     pub calls: u64,
 }
 
@@ -25,6 +28,7 @@ pub struct Calls {
     list: Arena,
     other_list: Arena,
     out: Arena,
+    mesh: Arena,
 }
 
 /// An old and a new table, and what the model thinks of them.
@@ -94,6 +98,7 @@ impl Calls {
             list: list(),
             other_list: list(),
             out: tables(),
+            mesh: Arena::new(64 * model::MAX_TREES + 8_192),
         }
     }
 
@@ -113,7 +118,11 @@ impl Calls {
     fn put_tables(&mut self, tables: &Tables) -> (*const u8, usize, *const u8, usize) {
         let (a, b) = (self.place(), self.place());
         let old = self.old.put(&tables.old, a);
-        let new = self.new.put(&tables.new, b);
+        let mut new = self.new.put(&tables.new, b);
+        // buffers that are only read may be the same
+        if tables.old == tables.new && self.random.chance(128) {
+            new = old;
+        }
         (old, tables.old.len(), new, tables.new.len())
     }
 
@@ -271,6 +280,20 @@ impl Calls {
         assert!(now == after, "{call} of {rank}, {}: wrote {now:?}, not {after:?}", shown(tables));
         self.note_tables(call, got.refusal, tables);
         (got, after)
+    }
+
+    pub fn check_mesh(&mut self, mesh: &[u8]) -> u32 {
+        let faults = mesh_model::faults(mesh);
+        let expected = if faults.is_empty() { 0 } else { 7 };
+        let place = self.place();
+        let at = self.mesh.put(mesh, place);
+        let got = unsafe { library::vejgodat_check_mesh(at, mesh.len()) };
+        let said = || cut(format!("{faults:?} of {} bytes {:?}", mesh.len(), &mesh[..mesh.len().min(200)]));
+        assert_eq!(got, expected, "check_mesh {}", said());
+        assert!(self.mesh.bytes() == mesh, "check_mesh changed the mesh: {}", said());
+        self.note("check_mesh", got);
+        *self.seen.faults.entry(faults).or_default() += 1;
+        got
     }
 }
 

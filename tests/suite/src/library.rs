@@ -85,4 +85,5 @@ extern "C" {
         out: *mut u32,
         out_len: usize,
     ) -> Ranks;
+    pub fn vejgodat_check_mesh(mesh: *const u8, mesh_len: usize) -> u32;
 }

@@ -5,6 +5,9 @@ mod cases;
 mod leaves;
 mod library;
 mod memory;
+mod mesh;
+mod mesh_cases;
+mod mesh_model;
 mod model;
 mod pattern;
 mod random;
@@ -59,7 +62,7 @@ fn main() {
         *SAID.lock().unwrap() = panic.to_string();
     }));
 
-    let tests = [tables::TESTS, writing::TESTS, leaves::TESTS, pattern::TESTS, refusals::TESTS].concat();
+    let tests = [tables::TESTS, writing::TESTS, leaves::TESTS, pattern::TESTS, mesh::TESTS, refusals::TESTS].concat();
     println!("seed {seed:#x}");
     let mut run = Run { calls: Calls::new(), seed, name: "", case: 0 };
     let (mut passed, mut failed) = (0, 0);

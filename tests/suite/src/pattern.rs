@@ -370,6 +370,7 @@ fn null_pointers(run: &mut Run) {
     let no_length = |refusal| library::Length { refusal, length: 0 };
     unsafe {
         assert_eq!(library::vejgodat_check_table(bytes, 0), 2);
+        assert_eq!(library::vejgodat_check_mesh(bytes, 0), 7);
         assert_eq!(library::vejgodat_table_range(bytes, 0, 0), none);
         assert_eq!(library::vejgodat_write_table(1, list, 0, list, 0, out_bytes, 0), no_length(6));
         assert_eq!(library::vejgodat_write_table(1, [0].as_ptr(), 1, [1].as_ptr(), 1, out_bytes, 0), no_length(22));
@@ -390,5 +391,5 @@ fn null_pointers(run: &mut Run) {
         }
     }
     // made above without a comparison with the model
-    run.calls.seen.calls += 16;
+    run.calls.seen.calls += 17;
 }

@@ -1,5 +1,6 @@
 //! The first check that fails gives its number, whichever argument fails it. Last: what was seen in the whole run.
 use crate::calls::Tables;
+use crate::mesh_model::Fault;
 use crate::model::{bytes_of, MAX_LEAVES};
 use crate::{Run, Test};
 
@@ -10,6 +11,7 @@ pub const TESTS: &[Test] = &[
     ("refusals: leaf counts", leaves),
     ("seen: each refusal from every call that can give it", seen_refusals),
     ("seen: both orders of two tables", seen_orders),
+    ("seen: sound meshes, and each sentence broken", seen_faults),
 ];
 
 /// The smallest of the numbers of the checks that fail.
@@ -119,7 +121,7 @@ fn leaves(run: &mut Run) {
 }
 
 fn seen_refusals(run: &mut Run) {
-    let can_give: [(&str, &[u32]); 9] = [
+    let can_give: [(&str, &[u32]); 10] = [
         ("check_table", &[2, 3]),
         ("table_length", &[2]),
         ("table_range", &[2, 3, 5]),
@@ -129,6 +131,7 @@ fn seen_refusals(run: &mut Run) {
         ("trees_sent", &[2, 3, 4, 5]),
         ("send_set", &[2, 3, 4, 5, 22]),
         ("receive_set", &[2, 3, 4, 5, 22]),
+        ("check_mesh", &[7]),
     ];
     let seen = &run.calls.seen.refusals;
     for (call, numbers) in can_give {
@@ -146,5 +149,29 @@ fn seen_orders(run: &mut Run) {
                 assert!(seen, "{call}: no call with an old table of {old} and a new one of {new}");
             }
         }
+    }
+}
+
+fn seen_faults(run: &mut Run) {
+    let seen = &run.calls.seen.faults;
+    let times = |faults: &[Fault]| seen.get(&faults.iter().copied().collect()).copied().unwrap_or(0);
+    let refused: u64 = seen.iter().filter(|(faults, _)| !faults.is_empty()).map(|(_, times)| times).sum();
+    assert!(times(&[]) > 100_000 && refused > 100_000, "{} sound, {refused} refused", times(&[]));
+    // a wrong dimension is no shape's
+    assert!(times(&[Fault::Dimension, Fault::OtherDimension]) > 1_000);
+    for fault in [
+        Fault::Limits,
+        Fault::Length,
+        Fault::Order,
+        Fault::Shape,
+        Fault::Zeros,
+        Fault::Unused,
+        Fault::Boundary,
+        Fault::OtherDimension,
+        Fault::Orientation,
+        Fault::Corners,
+        Fault::Answer,
+    ] {
+        assert!(times(&[fault]) > 100, "only {fault:?} was broken {} times", times(&[fault]));
     }
 }

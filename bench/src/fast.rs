@@ -134,3 +134,70 @@ pub fn send_set<const CHECKS: bool>(old: &[u8], new: &[u8], rank: u32, out: &mut
     });
     Ok(count)
 }
+
+/// The corners of each face of each shape; 0 where it has no such face.
+const CORNERS: [[u8; 8]; 6] = [
+    [2, 2, 2, 2, 0, 0, 0, 0],
+    [2, 2, 2, 0, 0, 0, 0, 0],
+    [4, 4, 4, 4, 4, 4, 0, 0],
+    [3, 3, 3, 3, 0, 0, 0, 0],
+    [4, 4, 4, 3, 3, 0, 0, 0],
+    [3, 3, 3, 3, 4, 0, 0, 0],
+];
+const FACES: [usize; 6] = [4, 3, 6, 4, 5, 5];
+
+fn number(bytes: &[u8], at: usize) -> u32 {
+    u32::from_le_bytes(bytes[at..at + 4].try_into().unwrap())
+}
+
+/// The records of a mesh of one dimension, of which F and the shapes are known when it is compiled.
+fn sound<const F: u8, const LOW: u32, const HIGH: u32>(records: &[[u8; 64]]) -> bool {
+    for (k, record) in records.iter().enumerate() {
+        // the shape and the zeros behind it are one number
+        let shape = number(record, 4);
+        if number(record, 0) != k as u32 || !(LOW..=HIGH).contains(&shape) || record[38] | record[39] != 0 {
+            return false;
+        }
+        let corners = &CORNERS[shape as usize];
+        let faces = FACES[shape as usize];
+        for face in 0..faces {
+            let neighbour = number(record, 8 + 4 * face);
+            let code = record[32 + face];
+            let (orientation, other) = (code / F, (code % F) as usize);
+            let Some(there) = records.get(neighbour as usize) else { return false };
+            let answered = number(there, 8 + 4 * other) == k as u32
+                && there[32 + other] == (orientation * F).wrapping_add(face as u8);
+            let other_corners = CORNERS.get(there[4] as usize).map_or(0, |corners| corners[other]);
+            let boundary = neighbour == k as u32 && other == face;
+            let turned = if boundary { orientation != 0 } else { orientation >= corners[face] };
+            if !answered || other_corners != corners[face] || turned {
+                return false;
+            }
+        }
+        for face in faces..6 {
+            if number(record, 8 + 4 * face) != u32::MAX || record[32 + face] != 0 {
+                return false;
+            }
+        }
+    }
+    true
+}
+
+pub fn check_mesh(mesh: &[u8]) -> u32 {
+    let Some((header, records)) = mesh.split_first_chunk::<8>() else { return 7 };
+    let (dimension, trees) = (number(header, 0), number(header, 4) as usize);
+    let (records, rest) = records.as_chunks::<64>();
+    if trees == 0 || trees > MAX_TREES as usize || records.len() != trees || !rest.is_empty() {
+        return 7;
+    }
+    let sound = match dimension {
+        2 => sound::<4, 0, 1>(records),
+        3 => sound::<6, 2, 5>(records),
+        _ => false,
+    };
+    if sound {
+        0
+    } else {
+        7
+    }
+}

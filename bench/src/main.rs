@@ -113,6 +113,84 @@ fn send_set(name: &str, old: &[u8], new: &[u8], rank: u32) {
     row(&format!("send set of {} ranks, P = 1,024, {name}", got.count), None, all);
 }
 
+/// A mesh of trees of one shape, with the link of each face: neighbour, its face, orientation.
+fn mesh_of(shape: u8, links: &[Vec<(usize, usize, u8)>]) -> Vec<u8> {
+    let mut mesh = [3u32.to_le_bytes(), (links.len() as u32).to_le_bytes()].concat();
+    for (k, links) in links.iter().enumerate() {
+        let mut record = [0u8; 64];
+        record[..4].copy_from_slice(&(k as u32).to_le_bytes());
+        record[4] = shape;
+        record[8..32].fill(255);
+        for (face, &(neighbour, other, orientation)) in links.iter().enumerate() {
+            record[8 + 4 * face..12 + 4 * face].copy_from_slice(&(neighbour as u32).to_le_bytes());
+            record[32 + face] = orientation * 6 + other as u8;
+        }
+        mesh.extend(record);
+    }
+    mesh
+}
+
+/// Hexahedra in rows, rows in layers: what lies outside is the boundary.
+fn brick(powers: [u32; 3]) -> Vec<u8> {
+    let sizes = powers.map(|power| 1usize << power);
+    let steps = [1, sizes[0], sizes[0] * sizes[1]];
+    let links = |k: usize| {
+        (0..6).map(move |face: usize| {
+            let (step, at) = (steps[face / 2], k / steps[face / 2] % sizes[face / 2]);
+            match face % 2 {
+                0 if at > 0 => (k - step, face + 1, 0),
+                1 if at < sizes[face / 2] - 1 => (k + step, face - 1, 0),
+                _ => (k, face, 0),
+            }
+        })
+    };
+    mesh_of(2, &(0..sizes.iter().product()).map(|k| links(k).collect()).collect::<Vec<_>>())
+}
+
+/// Tetrahedra whose faces meet at random, with random orientations: the neighbours lie anywhere in the buffer.
+fn tangle(power: u32) -> Vec<u8> {
+    let mut state = 2_026u64;
+    let mut below = |n: usize| {
+        state = state.wrapping_mul(6_364_136_223_846_793_005).wrapping_add(1_442_695_040_888_963_407);
+        ((u128::from(state) * n as u128) >> 64) as usize
+    };
+    let mut ends: Vec<usize> = (0..4 << power).collect();
+    for at in (1..ends.len()).rev() {
+        ends.swap(at, below(at + 1));
+    }
+    let mut links = vec![vec![(0, 0, 0); 4]; 1 << power];
+    for pair in ends.chunks(2) {
+        let orientation = below(3) as u8;
+        for (from, to) in [(pair[0], pair[1]), (pair[1], pair[0])] {
+            links[from / 4][from % 4] = (to / 4, to % 4, orientation);
+        }
+    }
+    mesh_of(3, &links)
+}
+
+fn mesh_check(name: &str, power: u32, mut mesh: Vec<u8>) {
+    let library = |mesh: &[u8]| unsafe { library::vejgodat_check_mesh(mesh.as_ptr(), mesh.len()) };
+    assert_eq!((library(&mesh), fast::check_mesh(&mesh)), (0, 0));
+    // another code of the last face
+    let last = mesh.len() - 64 + if mesh[12] == 2 { 37 } else { 35 };
+    mesh[last] ^= 6;
+    assert_eq!((library(&mesh), fast::check_mesh(&mesh)), (7, 7));
+    mesh[last] ^= 6;
+    let mesh = &mesh[..];
+    let all = times(
+        (1 << 25) >> power,
+        1,
+        [
+            &mut || _ = black_box(library(black_box(mesh))),
+            &mut || _ = black_box(fast::check_mesh(black_box(mesh))),
+            &mut || _ = black_box(fast::check_mesh(black_box(mesh))),
+        ],
+    );
+    // there is one version, timed twice
+    let [library, one, again] = all;
+    row(&format!("check of a mesh of 2^{power} {name}"), Some(1 << power), [library, one.min(again), one.min(again)]);
+}
+
 fn main() {
     println!("| call | library, µs | ns per tree | ratio to trusting | ratio to checking |");
     println!("|---|---:|---:|---:|---:|");
@@ -124,4 +202,10 @@ fn main() {
     send_set("a middle rank", &large_table(0), &large_table(400), 512);
     let on_first = bytes_of((0..=RANKS).map(|p| if p == 0 { 0 } else { RANKS * 1_024 }));
     send_set("rank 0 had all", &on_first, &large_table(0), 0);
+    for powers in [[4, 5, 5], [4, 6, 6], [6, 6, 6], [6, 7, 7]] {
+        mesh_check("hexahedra, a brick", powers.iter().sum(), brick(powers));
+    }
+    for power in [14, 16, 18, 20] {
+        mesh_check("tetrahedra, random links", power, tangle(power));
+    }
 }

@@ -109,8 +109,9 @@ pub fn every_list(length: usize, low: i64, high: i64, mut visit: impl FnMut(&[i6
     let mut list = vec![low; length];
     loop {
         visit(&list);
-        let Some(at) = list.iter().position(|&value| value < high) else {
-            return;
+        let at = match list.iter().position(|&value| value < high) {
+            Some(at) => at,
+            None => return,
         };
         list[at] += 1;
         list[..at].fill(low);

@@ -31,7 +31,7 @@ pub struct Arena {
 
 impl Arena {
     pub fn new(room: usize) -> Arena {
-        let room = room.div_ceil(PAGE) * PAGE;
+        let room = (room + PAGE - 1) / PAGE * PAGE;
         // read and write; private, of no file (Linux on x86-64)
         let all = unsafe { mmap(std::ptr::null_mut(), room + 2 * PAGE, 3, 0x22, -1, 0) } as *mut u8;
         assert!(all as isize != -1, "mmap");

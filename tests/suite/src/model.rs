@@ -195,10 +195,10 @@ pub fn leaves_by_numbering(ranks: usize, leaves: &[u32]) -> Vec<Trees> {
     let total = tree_of.len();
     let share = |p: usize| {
         let trees: BTreeSet<i128> = (total * p / ranks..total * (p + 1) / ranks).map(|leaf| tree_of[leaf]).collect();
-        let (Some(&first), Some(&last)) = (trees.first(), trees.last()) else {
-            return Trees { first: 0, end: 0 };
+        let range = match (trees.iter().next(), trees.iter().next_back()) {
+            (Some(&first), Some(&last)) => Trees { first, end: last + 1 },
+            _ => Trees { first: 0, end: 0 },
         };
-        let range = Trees { first, end: last + 1 };
         assert_eq!(range.set(), trees, "a rank's trees are consecutive");
         range
     };

@@ -19,7 +19,7 @@ use Rattle.encoding.proofs.Numbers.{at-step, at-none, at-bound}
 use Rattle.records.specs.Shape.{shapeOk, dimensionOf, faceCount}
 use Rattle.records.specs.Record.{coreSize, unused, numberOf, shapeOf, neighbourOf, codeOf, facesOf, faceOf, orientationOf, tailOk, zerosOk, unusedOk, toItself, boundaryOk, inForm}
 use Rattle.records.specs.Mirror.{faceForm}
-use Rattle.records.proofs.Shapes.{count-six, count-faces, faces-positive, faces-six}
+use Rattle.records.proofs.Shapes.{count-six, count-faces, faces-positive, faces-six, faces-either}
 
 -- ---- records in a buffer
 
@@ -235,3 +235,8 @@ unfolding zerosOk
 tail-alone r s h t =
     same-form r s (record { low = λ i l. h i (omega arith); high = λ i k l. h i l })
     (rw (h 5 (omega arith), h 6 (omega arith), h 7 (omega arith), t))
+
+-- F is 6 where it isn't 4
+pub faces-other : (r : List ℕ) → (facesOf r ≡ 4 → ⊥) → facesOf r ≡ 6
+unfolding facesOf
+faces-other r h = faces-either (dimensionOf (shapeOf r)) (λ e. absurd (h e)) (λ e. e)

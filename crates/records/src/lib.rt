@@ -132,18 +132,27 @@ pub fn faces_of(bs: &[u8], at: usize) -> u32
     faces_in(dimension_of(shape_of(bs, at)))
 }
 
+// F is 4 or 6: a division by a constant is several times faster than one by F.
 pub fn face_of(bs: &[u8], at: usize, face: u32) -> u32
     requires { ⌜ (at + coreSize ≤ length (now bs)) × (face < 6) ⌝ }
     ensures { λ r. ⌜ (r ≡ faceOf (piece (now (bs .entry)) at coreSize) face) × (r < 6) ⌝ }
 {
-    code_of(bs, at, face) % faces_of(bs, at)
+    let code = code_of(bs, at, face);
+    if faces_of(bs, at) == 4 {
+        return code % 4;
+    }
+    code % 6
 }
 
 pub fn orientation_of(bs: &[u8], at: usize, face: u32) -> u32
     requires { ⌜ (at + coreSize ≤ length (now bs)) × (face < 6) ⌝ }
     ensures { λ r. ⌜ r ≡ orientationOf (piece (now (bs .entry)) at coreSize) face ⌝ }
 {
-    code_of(bs, at, face) / faces_of(bs, at)
+    let code = code_of(bs, at, face);
+    if faces_of(bs, at) == 4 {
+        return code / 4;
+    }
+    code / 6
 }
 
 // Whether the zero bytes are zero.

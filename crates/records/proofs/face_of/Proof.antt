@@ -1,7 +1,8 @@
-use Rattle.records.specs.Record.{faceOf}
-use native.Mathlib.Nat.{mod-lt}
-use native.Mathlib.Omega.{arith}
 use borrow.Author.Needs.{needs}
+use Rattle.records.proofs.Forms.{faces-other}
+use Rattle.records.specs.Record.{faceOf}
+use native.Mathlib.Omega.{arith}
+use mathlib.Core.Path.{_∙_, sym}
 use Rattle.records.proofs.face_of.Statement.{statement}
 use Rattle.records.proofs.face_of.Tie as tie
 
@@ -11,12 +12,13 @@ code-of-requires c κs = search needs
 faces-of-requires : tie.Need-faces-of-requires
 faces-of-requires c κs = search needs
 
-rem-result : tie.Need-rem-result
-rem-result c = search needs
-
 returns : tie.Need-returns
 unfolding faceOf
-returns c = (rw (c .before .code-of .ensures, c .faces-of .ensures .0), omega (arith, mod-lt (c .before .code-of .result) (c .faces-of .ensures .1 .0)))
+returns c = (rw (c .before .before .code-of .ensures, sym (c .before .faces-of .ensures .0) ∙ c .if1 .taken), omega arith)
+
+returns-2 : tie.Need-returns-2
+unfolding faceOf
+returns-2 c = (rw (c .before .before .code-of .ensures, faces-other _ (λ e. c .if1 .left (c .before .faces-of .ensures .0 ∙ e))), omega arith)
 
 pub face-of-spec : {M : Type 1} → statement M
-face-of-spec = tie.close (tie.spec code-of-requires faces-of-requires rem-result returns)
+face-of-spec = tie.close (tie.spec code-of-requires faces-of-requires returns returns-2)

@@ -1,5 +1,7 @@
-use Rattle.records.specs.Record.{orientationOf}
 use borrow.Author.Needs.{needs}
+use Rattle.records.proofs.Forms.{faces-other}
+use Rattle.records.specs.Record.{orientationOf}
+use mathlib.Core.Path.{_∙_, sym}
 use Rattle.records.proofs.orientation_of.Statement.{statement}
 use Rattle.records.proofs.orientation_of.Tie as tie
 
@@ -9,12 +11,13 @@ code-of-requires c κs = search needs
 faces-of-requires : tie.Need-faces-of-requires
 faces-of-requires c κs = search needs
 
-div-result : tie.Need-div-result
-div-result c = search needs
-
 returns : tie.Need-returns
 unfolding orientationOf
-returns c = rw (c .before .code-of .ensures, c .faces-of .ensures .0)
+returns c = rw (c .before .before .code-of .ensures, sym (c .before .faces-of .ensures .0) ∙ c .if1 .taken)
+
+returns-2 : tie.Need-returns-2
+unfolding orientationOf
+returns-2 c = rw (c .before .before .code-of .ensures, faces-other _ (λ e. c .if1 .left (c .before .faces-of .ensures .0 ∙ e)))
 
 pub orientation-of-spec : {M : Type 1} → statement M
-orientation-of-spec = tie.close (tie.spec code-of-requires faces-of-requires div-result returns)
+orientation-of-spec = tie.close (tie.spec code-of-requires faces-of-requires returns returns-2)

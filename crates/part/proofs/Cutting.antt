@@ -81,11 +81,14 @@ unfolding codeBytes
 codes-length rows F zero = refl
 codes-length rows F (suc n) = rw (length-append, codes-length rows F n) (omega arith)
 
+pub links-length : (rows : List (List ℕ)) (F : ℕ) → length (neighbourBytes rows 6 ++ codeBytes rows F 6) ≡ 30
+links-length rows F = rw (length-append, neighbours-length rows 6, codes-length rows F 6)
+
 -- a record with other links is as long
 pub rows-length : (rows : List (List ℕ)) (F : ℕ) (r : List ℕ) → 38 ≤ length r → length (withRows rows F r) ≡ length r
 unfolding withRows
 rows-length rows F r h =
-    length-splice r 8 (neighbourBytes rows 6 ++ codeBytes rows F 6) (rw (length-append, neighbours-length rows 6, codes-length rows F 6) h)
+    length-splice r 8 (neighbourBytes rows 6 ++ codeBytes rows F 6) (rw (links-length rows F) h)
 
 pub header-length : (dimension K P rank first n g : ℕ) → length (headerBytes dimension K P rank first n g) ≡ 32
 unfolding headerBytes

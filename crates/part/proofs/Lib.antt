@@ -3,3 +3,6 @@ pub mod Finding
 pub mod Ghosts
 pub mod Checks
 pub mod Cutting
+pub mod Writing
+pub mod Trees
+pub mod Parts

@@ -1,11 +1,18 @@
--- As the code tests a ghost: by the first tree of the range and one past its last. The law in proofs/ says that this is the definition.
-use Prim.Native.Nat.{ℕ}
-use mathlib.Core.Bool.{Bool, not, _&&_}
-use mathlib.Core.List.{List}
-use lib.Dec.{leb, ltb}
-use Rattle.encoding.specs.Below.{anyBelow}
-use Rattle.records.specs.Shape.{faceCount}
-use Rattle.records.specs.Record.{shapeOf, neighbourOf}
+-- As the code tests and writes ghosts: by the first tree of the range and one past its last. Laws in proofs/ say that this is the definition.
+use Prim.Native.Nat.{ℕ, zero, suc, _+_, _-_, _*_, _≤_, _<_}
+use mathlib.Core.Bool.{Bool, cond, not, _&&_}
+use mathlib.Core.Path.{_≡_}
+use mathlib.Core.List.{List, [], _∷_, _++_}
+use lib.Dec.{leb, ltb, eqb}
+use lib.ListN.{length, getD}
+use Rattle.encoding.specs.Numbers.{u32At}
+use Rattle.encoding.specs.Pieces.{splice}
+use Rattle.encoding.specs.Below.{anyBelow, countBelow}
+use Rattle.records.specs.Shape.{faceCount, facesIn}
+use Rattle.records.specs.Record.{coreSize, treeSize, unused, numberOf, shapeOf, neighbourOf}
+use Rattle.mesh.specs.Mesh.{meshHeader, meshDimension, meshCore, meshRecord}
+use Rattle.part.specs.Layout.{partHeader, headerBytes}
+use Rattle.part.specs.Cut.{renamed}
 
 -- k is in the range
 unfoldable pub inRange : ℕ → ℕ → ℕ → Bool
@@ -18,3 +25,76 @@ neighbourIn first end r f = inRange first end (neighbourOf r f)
 -- tree k is a ghost
 unfoldable pub ghostIn : (ℕ → List ℕ) → ℕ → ℕ → ℕ → Bool
 ghostIn core first end k = not (inRange first end k) && anyBelow (faceCount (shapeOf (core k))) (neighbourIn first end (core k))
+
+-- the cores of the ghosts below k, ascending
+unfoldable pub ghostCores : (ℕ → List ℕ) → ℕ → ℕ → ℕ → List ℕ
+ghostCores core first end zero = []
+ghostCores core first end (suc k) = ghostCores core first end k ++ cond (ghostIn core first end k) (core k) []
+
+-- the number of core record i of those from byte at
+unfoldable pub numberAt : List ℕ → ℕ → ℕ → ℕ
+numberAt bs at i = u32At bs (at + coreSize * i)
+
+-- count core records from byte at, their numbers ascending
+pub record Ascending (bs : List ℕ) (at count : ℕ) : Type 0 where
+  pub fits : at + coreSize * count ≤ length bs
+  pub ascends : (i j : ℕ) → i < j → j < count → numberAt bs at i < numberAt bs at j
+
+-- how many of them have a number below this one: the position of the number
+unfoldable pub smaller : List ℕ → ℕ → ℕ → ℕ → ℕ
+smaller bs at count number = countBelow count (λ i. ltb (numberAt bs at i) number)
+
+-- what the renaming of a part's neighbours reads: the ghosts written, and the range
+pub record Held (bs : List ℕ) (at count first end : ℕ) : Type 0 where
+  pub ghosts : Ascending bs at count
+  pub range : first ≤ end
+  pub small : end + count < 4294967296
+
+-- the local index of a neighbour, by the ghosts written
+unfoldable pub localRead : List ℕ → ℕ → ℕ → ℕ → ℕ → ℕ → ℕ
+localRead bs at count first end k = cond (eqb k unused) unused (cond (inRange first end k) (k - first) (end - first + smaller bs at count k))
+
+-- a row with another neighbour, and six of them
+unfoldable pub rowWith : (ℕ → ℕ) → List ℕ → List ℕ
+rowWith rename row = rename (getD row 0 0) ∷ getD row 1 0 ∷ getD row 2 0 ∷ []
+
+unfoldable pub rowsWith : (ℕ → ℕ) → List (List ℕ) → List (List ℕ)
+rowsWith rename rows =
+    rowWith rename (getD rows 0 []) ∷ rowWith rename (getD rows 1 []) ∷ rowWith rename (getD rows 2 []) ∷ rowWith rename (getD rows 3 []) ∷ rowWith rename (getD rows 4 []) ∷ rowWith rename (getD rows 5 []) ∷ []
+
+-- what writing the record at byte from of a mesh to byte to of a part needs
+pub record TreeRoom (mesh out : List ℕ) (from faces first end at count to : ℕ) : Type 0 where
+  pub source : from + treeSize ≤ length mesh
+  pub target : to + treeSize ≤ length out
+  pub faced : 0 < faces
+  pub held : Held out at count first end
+
+-- the records of n trees from the first on, renamed
+unfoldable pub treesWith : (ℕ → ℕ) → ℕ → List ℕ → ℕ → ℕ → List ℕ
+treesWith rename F mesh first zero = []
+treesWith rename F mesh first (suc n) = treesWith rename F mesh first n ++ renamed rename F (meshRecord mesh (first + n))
+
+-- what writing a range's records needs: the ghosts begin behind the last of them
+pub record TreesRoom (mesh out : List ℕ) (faces first end at count : ℕ) : Type 0 where
+  pub source : meshHeader + treeSize * end ≤ length mesh
+  pub target : at ≡ partHeader + treeSize * (end - first)
+  pub faced : 0 < faces
+  pub held : Held out at count first end
+
+-- what writing a part needs: its trees and ghosts are counted, and the buffer has room
+pub record PartRoom (mesh : List ℕ) (K first end : ℕ) (out : List ℕ) (at count : ℕ) : Type 0 where
+  pub long : length mesh ≡ meshHeader + treeSize * K
+  pub numbers : (k : ℕ) → k < K → numberOf (meshCore mesh k) ≡ k
+  pub range : first ≤ end
+  pub within : end ≤ K
+  pub place : at ≡ partHeader + treeSize * (end - first)
+  pub many : count ≡ countBelow K (ghostIn (meshCore mesh) first end)
+  pub small : end + count < 4294967296
+  pub room : at + coreSize * count ≤ length out
+
+-- the part, as the code writes it: the ghosts first, since the trees' neighbours are looked up there
+unfoldable pub partWith : List ℕ → ℕ → ℕ → ℕ → ℕ → ℕ → List ℕ → ℕ → ℕ → List ℕ
+partWith mesh K P rank first end out at count =
+    headerBytes (meshDimension mesh) K P rank first (end - first) count
+    ++ (treesWith (localRead (splice out at (ghostCores (meshCore mesh) first end K)) at count first end) (facesIn (meshDimension mesh)) mesh first (end - first)
+    ++ ghostCores (meshCore mesh) first end K)

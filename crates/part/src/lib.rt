@@ -3,11 +3,12 @@ ghost use mathlib.Core.Path.{_≡_};
 ghost use Prim.Native.Nat.{_/_, _≤_};
 ghost use lib.ListN.{length};
 ghost use Rattle.encoding.specs.Below.{leastBelow};
-ghost use Rattle.part.specs.Calls.{partLengthOf};
+ghost use Rattle.part.specs.Calls.{partLengthOf, cutPartOf};
 ghost use Rattle.part.specs.Lookup.{hasNumber, lookupRecord};
 use encoding::answer::Length;
 use records::index::GlobalIndex;
 
+pub mod cut;
 pub mod inner;
 
 // How long the part of a whole mesh for a table and a rank is (2, 3, 5, 7).
@@ -24,6 +25,34 @@ pub fn part_length(mesh: &[u8], table: &[u8], rank: u32) -> Length
     Length {
         refusal: 0,
         length: 32 + (64 * ((end - first) as u64) + 40 * (ghosts as u64)),
+    }
+}
+
+// Cut out the part of a whole mesh for a table and a rank (2, 3, 5, 7, 22).
+pub fn cut_part(mesh: &[u8], table: &[u8], rank: u32, out: &mut [u8]) -> Length
+    ensures { λ r. ⌜ (r, now (out .exit)) ≡ cutPartOf (now (mesh .entry)) (now (table .entry)) rank (now (out .entry)) ⌝ }
+{
+    let refusal = inner::cut_refusal(mesh, table, rank);
+    if refusal != 0 {
+        return Length { refusal, length: 0 };
+    }
+    let first = offsets::inner::first_tree(table, rank as usize) as u32;
+    let end = offsets::inner::end_tree(table, rank as usize) as u32;
+    let trees = mesh::inner::trees(mesh);
+    let count = inner::ghost_count(mesh, trees, first, end);
+    let at = 32 + 64 * ((end - first) as usize);
+    let n = at + 40 * (count as usize);
+    if out.len() < n {
+        return Length {
+            refusal: 22,
+            length: 0,
+        };
+    }
+    let ranks = offsets::inner::ranks(table) as u32;
+    cut::write(mesh, trees, ranks, rank, first, end, &mut *out, at, count);
+    Length {
+        refusal: 0,
+        length: n as u64,
     }
 }
 

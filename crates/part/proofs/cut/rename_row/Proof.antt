@@ -1,0 +1,25 @@
+use Rattle.part.specs.Mirror.{rowWith}
+use borrow.Author.Needs.{needs}
+use Rattle.part.proofs.cut.rename_row.Statement.{statement}
+use Rattle.part.proofs.cut.rename_row.Tie as tie
+
+array-read-local-index : tie.Need-array-read-local-index
+array-read-local-index c = search needs
+
+local-index-requires : tie.Need-local-index-requires
+local-index-requires c κs = search needs
+
+array-read-t14 : tie.Need-array-read-t14
+array-read-t14 c = search needs
+
+array-read-t17 : tie.Need-array-read-t17
+array-read-t17 c = search needs
+
+returns : tie.Need-returns
+unfolding rowWith
+returns c = rw (c .local-index .ensures)
+
+pub rename-row-spec : {M : Type 1} → statement M
+rename-row-spec =
+    tie.close
+    (tie.spec array-read-local-index local-index-requires array-read-t14 array-read-t17 returns)

@@ -1,0 +1,41 @@
+use Rattle.part.proofs.Parts.{trees-room, part-written}
+use borrow.Author.Needs.{needs}
+use Rattle.part.proofs.cut.write.Statement.{statement}
+use Rattle.part.proofs.cut.write.Tie as tie
+
+dimension-requires : tie.Need-dimension-requires
+dimension-requires c κs = search needs
+
+faces-in-requires : tie.Need-faces-in-requires
+faces-in-requires c κs = search needs
+
+write-ghosts-requires : tie.Need-write-ghosts-requires
+write-ghosts-requires c κs = search needs
+
+write-trees-requires : tie.Need-write-trees-requires
+write-trees-requires c κs = trees-room _ _ _ _ _ _ _ (c .before .before .before .before .before .before .before .before .before .pre) (c .before .before .before .before .before .faces-in .ensures .1 .0) (c .before .before .before .write-ghosts .ensures)
+
+sub-write-header : tie.Need-sub-write-header
+sub-write-header c = search needs
+
+write-header-requires : tie.Need-write-header-requires
+write-header-requires c κs = search needs
+
+same-length : tie.Need-same-length
+same-length c = search needs
+
+returns : tie.Need-returns
+returns c = part-written _ _ _ _ _ _ _ (c .before .before .before .before .before .before .before .before .before .before .before .before .before .before .before .before .pre) _ _ (c .before .before .before .before .before .before .before .before .before .before .before .before .before .dimension .ensures) (c .before .before .before .before .before .before .before .before .before .before .before .before .faces-in .ensures .0) (c .before .before .before .before .before .before .before .before .before .before .write-ghosts .ensures) (c .before .before .before .before .before .before .write-trees .ensures) (c .before .before .write-header .ensures)
+
+pub write-spec : {M : Type 1} → statement M
+write-spec =
+    tie.close
+    (tie.spec
+    dimension-requires
+    faces-in-requires
+    write-ghosts-requires
+    write-trees-requires
+    sub-write-header
+    write-header-requires
+    same-length
+    returns)

@@ -2,6 +2,9 @@
 pub mod Layout
 pub mod Ghosts
 pub mod Cut
+pub mod View
+pub mod Part
+pub mod Neighbour
 pub mod Lookup
 pub mod Calls
 pub mod Mirror

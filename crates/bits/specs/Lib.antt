@@ -1,0 +1,2 @@
+-- Sets of numbers as words of 64 bits.
+pub mod Bits

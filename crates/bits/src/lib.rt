@@ -1,0 +1,1 @@
+// Sets of numbers as words of 64 bits.

@@ -1,1 +1,2 @@
 -- Laws, for this crate's proofs and for the crates above.
+pub mod Examples

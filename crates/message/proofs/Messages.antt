@@ -1,0 +1,270 @@
+-- Laws of the message that the rule names: its length, what is read back from it, its layout, and what it depends on.
+use Prim.Native.Nat.{ℕ, zero, suc, _+_, _-_, _*_, _≤_, _<_}
+use native.Mathlib.Nat.{le-refl, add-zero}
+use native.Mathlib.Omega.{arith}
+use mathlib.Core.Path.{_≡_, refl, sym, ap, _∙_}
+use mathlib.Core.Bool.{Bool, true, false, cond, _&&_, _||_}
+use mathlib.Core.List.{List, [], _∷_, _++_, append-assoc, append-nil}
+use lib.Dec.{ltb, eqb}
+use lib.ListN.{length, getD, drop, length-append, length-drop, List·getD-append}
+use lib.Seq.{take-append-le, drop-append-le, drop-append-add, take-all, take-at, drop-at, getD-at}
+use Rattle.encoding.specs.Below.{countBelow, keptBelow}
+use Rattle.encoding.specs.Numbers.{leValue, leBytes, leAt, u32At}
+use Rattle.encoding.specs.Pieces.{piece}
+use Rattle.encoding.proofs.Below.{either, below-suc, count-le, kept-length, kept-found}
+use Rattle.encoding.proofs.Numbers.{bytes-length, value-bytes}
+use Rattle.offsets.specs.Table.{ranks, trees}
+use Rattle.offsets.proofs.Tables.{ranks-high, trees-high}
+use Rattle.records.specs.Record.{coreSize, treeSize}
+use Rattle.records.proofs.Forms.{piece-piece}
+use Rattle.pattern.specs.Sender.{Tables, sends, sentFirst, sentCount}
+use Rattle.pattern.proofs.Sets.{sent-below, sent-in}
+use Rattle.message.specs.Layout.{messageTreePlace, messageGhostPlace, messageSize, messageHeaderBytes, messageEpoch, messageDimension, messageK, messageP, messageSender, messageReceiver, messageTrees, messageGhosts, messageTree, messageGhost}
+use Rattle.message.specs.Rule.{treesFrom, ghostGoes, ghostsGoing, ruleMessage}
+
+-- ---- pieces of two lists
+
+piece-first : (a b : List ℕ) (off n : ℕ) → off + n ≤ length a → piece (a ++ b) off n ≡ piece a off n
+unfolding piece
+piece-first a b off n h =
+    let l : n ≤ length (drop off a) = simp length-drop (omega arith) in
+    rw (drop-append-le off a b (omega arith), take-append-le n (drop off a) b l)
+
+piece-later : (a b : List ℕ) (m off n : ℕ) → length a ≡ m → piece (a ++ b) (m + off) n ≡ piece b off n
+unfolding piece
+piece-later a b m off n e = rw (← e, drop-append-add a b off)
+
+piece-last : (a b : List ℕ) (off n : ℕ) → length a ≡ off → length b ≡ n → piece (a ++ b) off n ≡ b
+unfolding piece
+piece-last a b off n e l = rw (drop-at a b off e) (take-all n b (omega arith))
+
+piece-start : (a b : List ℕ) (n : ℕ) → length a ≡ n → piece (a ++ b) 0 n ≡ a
+unfolding piece
+piece-start a b n e = take-at a b n e
+
+-- ---- the header
+
+-- numbers of 32 bits in a row
+unfoldable words : List ℕ → List ℕ
+words [] = []
+words (v ∷ vs) = leBytes 4 v ++ words vs
+
+-- number i is read back
+word-at : (vs rest : List ℕ) (i : ℕ) → i < length vs → getD vs i 0 < 4294967296 → u32At (words vs ++ rest) (4 * i) ≡ getD vs i 0
+unfolding words leAt
+word-at [] rest i h b = absurd (omega arith)
+word-at (v ∷ vs) rest zero h b = rw append-assoc (ap leValue (piece-start (leBytes 4 v) (words vs ++ rest) 4 (bytes-length 4 v)) ∙ value-bytes 4 v b)
+word-at (v ∷ vs) rest (suc i) h b =
+    let e : 4 * suc i ≡ 4 + 4 * i = omega arith in
+    rw (append-assoc, e) (ap leValue (piece-later (leBytes 4 v) (words vs ++ rest) 4 (4 * i) 4 (bytes-length 4 v)) ∙ word-at vs rest i (omega arith) b)
+
+module _ (epoch dimension K P sender receiver n g : ℕ) where
+  pub header-length : length (messageHeaderBytes epoch dimension K P sender receiver n g) ≡ 32
+  unfolding messageHeaderBytes
+  header-length = simp (length-append, bytes-length)
+
+  module _ (rest : List ℕ) where
+    abbrev numbers : List ℕ
+    numbers = epoch ∷ dimension ∷ K ∷ P ∷ sender ∷ receiver ∷ n ∷ g ∷ []
+
+    abbrev whole : List ℕ
+    whole = messageHeaderBytes epoch dimension K P sender receiver n g ++ rest
+
+    header-at : (i : ℕ) → i < 8 → getD numbers i 0 < 4294967296 → u32At whole (4 * i) ≡ getD numbers i 0
+    unfolding words messageHeaderBytes
+    header-at i h b = rw (← append-nil (leBytes 4 g)) (word-at numbers rest i h b)
+
+    pub header-epoch : epoch < 4294967296 → messageEpoch (messageHeaderBytes epoch dimension K P sender receiver n g ++ rest) ≡ epoch
+    unfolding messageEpoch
+    header-epoch h = header-at 0 (omega arith) h
+
+    pub header-dimension : dimension < 4294967296 → messageDimension (messageHeaderBytes epoch dimension K P sender receiver n g ++ rest) ≡ dimension
+    unfolding messageDimension
+    header-dimension h = header-at 1 (omega arith) h
+
+    pub header-K : K < 4294967296 → messageK (messageHeaderBytes epoch dimension K P sender receiver n g ++ rest) ≡ K
+    unfolding messageK
+    header-K h = header-at 2 (omega arith) h
+
+    pub header-P : P < 4294967296 → messageP (messageHeaderBytes epoch dimension K P sender receiver n g ++ rest) ≡ P
+    unfolding messageP
+    header-P h = header-at 3 (omega arith) h
+
+    pub header-sender : sender < 4294967296 → messageSender (messageHeaderBytes epoch dimension K P sender receiver n g ++ rest) ≡ sender
+    unfolding messageSender
+    header-sender h = header-at 4 (omega arith) h
+
+    pub header-receiver : receiver < 4294967296 → messageReceiver (messageHeaderBytes epoch dimension K P sender receiver n g ++ rest) ≡ receiver
+    unfolding messageReceiver
+    header-receiver h = header-at 5 (omega arith) h
+
+    pub header-trees : n < 4294967296 → messageTrees (messageHeaderBytes epoch dimension K P sender receiver n g ++ rest) ≡ n
+    unfolding messageTrees
+    header-trees h = header-at 6 (omega arith) h
+
+    pub header-ghosts : g < 4294967296 → messageGhosts (messageHeaderBytes epoch dimension K P sender receiver n g ++ rest) ≡ g
+    unfolding messageGhosts
+    header-ghosts h = header-at 7 (omega arith) h
+
+-- ---- the records
+
+module _ (core : ℕ → List ℕ) (old new : List ℕ) (hand : ℕ → Bool) (treeRecord : ℕ → List ℕ) (p q : ℕ) where
+  abbrev goes : ℕ → Bool
+  goes = ghostGoes core old new hand treeRecord p q
+
+  -- n trees from k on, of 64 bytes each
+  module _ (k : ℕ) where
+    trees-length : (n : ℕ) → ((i : ℕ) → i < n → length (treeRecord (k + i)) ≡ treeSize) → length (treesFrom core old new hand treeRecord p q k n) ≡ treeSize * n
+    unfolding treesFrom
+    trees-length zero l = refl
+    trees-length (suc n) l = rw (length-append, trees-length n (λ i h. l i (omega arith)), l n (le-refl (suc n))) (omega arith)
+
+    trees-at : (n : ℕ) → ((i : ℕ) → i < n → length (treeRecord (k + i)) ≡ treeSize) → (i : ℕ) → i < n
+        → piece (treesFrom core old new hand treeRecord p q k n) (treeSize * i) treeSize ≡ treeRecord (k + i)
+    unfolding treesFrom
+    trees-at zero l i h = absurd (omega arith)
+    trees-at (suc n) l i h =
+        let l' : (j : ℕ) → j < n → length (treeRecord (k + j)) ≡ treeSize = λ j a. l j (omega arith) in
+        let R : List ℕ = treesFrom core old new hand treeRecord p q k n in
+        let lR : length R ≡ treeSize * n = trees-length n l' in
+        below-suc i n h
+        (λ a. piece-first R (treeRecord (k + n)) (treeSize * i) treeSize (omega arith) ∙ trees-at n l' i a)
+        (λ e. piece-last R (treeRecord (k + n)) (treeSize * i) treeSize (rw e lR) (l n (le-refl (suc n))) ∙ ap (λ (j : ℕ). treeRecord (k + j)) (sym e))
+
+  -- the ghosts below K that go, of 40 bytes each
+  ghosts-length : (K : ℕ) → ((g : ℕ) → g < K → goes g ≡ true → length (core g) ≡ coreSize) → length (ghostsGoing core old new hand treeRecord p q K) ≡ coreSize * countBelow K goes
+  unfolding ghostsGoing countBelow
+  ghosts-length zero l = refl
+  ghosts-length (suc k) l =
+      either (goes k)
+      (λ t. rw (length-append, ghosts-length k (λ j a. l j (omega arith)), t) (omega (arith, l k (le-refl (suc k)) t)))
+      (λ t. rw (length-append, ghosts-length k (λ j a. l j (omega arith)), t) (omega arith))
+
+  ghosts-at : (K : ℕ) → ((g : ℕ) → g < K → goes g ≡ true → length (core g) ≡ coreSize) → (j : ℕ) → j < countBelow K goes
+      → piece (ghostsGoing core old new hand treeRecord p q K) (coreSize * j) coreSize ≡ core (getD (keptBelow K goes) j 0)
+  unfolding ghostsGoing countBelow keptBelow
+  ghosts-at zero l j h = absurd (omega arith)
+  ghosts-at (suc k) l j h =
+      let l' : (g : ℕ) → g < k → goes g ≡ true → length (core g) ≡ coreSize = λ g a. l g (omega arith) in
+      let G : List ℕ = ghostsGoing core old new hand treeRecord p q k in
+      let n : ℕ = countBelow k goes in
+      let lG : length G ≡ coreSize * n = ghosts-length k l' in
+      let lK : length (keptBelow k goes) ≡ n = kept-length k goes in
+      either (goes k)
+      (λ t. let h' : j < n + 1 = rw t at h in
+      rw t
+      (below-suc j n (omega arith)
+      (λ a. piece-first G (core k) (coreSize * j) coreSize (omega arith) ∙ ghosts-at k l' j a ∙ ap core (sym (List·getD-append (keptBelow k goes) (k ∷ []) 0 j (omega arith))))
+      (λ e. piece-last G (core k) (coreSize * j) coreSize (rw e lG) (l k (le-refl (suc k)) t) ∙ ap core (sym (getD-at (keptBelow k goes) k [] 0 j (omega arith))))))
+      (λ t. let h' : j < n = omega (arith, rw t at h) in
+      rw (t, append-nil G, append-nil (keptBelow k goes)) (ghosts-at k l' j h'))
+
+  -- the records that the message takes have their sizes
+  pub record RecordsLong : Type 0 where
+    pub trees-long : (k : ℕ) → sends old new p q k ≡ true → length (treeRecord k) ≡ treeSize
+    pub ghosts-long : (g : ℕ) → g < trees old → ghostGoes core old new hand treeRecord p q g ≡ true → length (core g) ≡ coreSize
+
+  -- ---- the message, read back
+
+  module _ (T : Tables old new) (is-sender : p < ranks old) (is-receiver : q < ranks old) where
+    -- how many trees and ghosts it has, and its first tree
+    abbrev n : ℕ
+    n = sentCount old new p q
+
+    abbrev many : ℕ
+    many = countBelow (trees old) goes
+
+    abbrev first : ℕ
+    first = sentFirst old new p q
+
+    abbrev records : List ℕ
+    records = treesFrom core old new hand treeRecord p q first n ++ ghostsGoing core old new hand treeRecord p q (trees old)
+
+    -- all below 2 ^ 32
+    few-trees : trees old ≤ 1048576
+    few-trees = trees-high old (T .oldBytes) (T .oldRanks) (T .oldValid)
+
+    few-ranks : ranks old ≤ 1024
+    few-ranks = ranks-high old (T .oldBytes) (T .oldRanks) (T .oldValid)
+
+    few-sent : n ≤ 1048576
+    few-sent = omega (arith, sent-below old new T p q is-sender is-receiver, few-trees)
+
+    few-ghosts : many ≤ 1048576
+    few-ghosts = omega (arith, count-le (trees old) goes, few-trees)
+
+    module _ (epoch dimension : ℕ) where
+      abbrev message : List ℕ
+      message = ruleMessage core old new hand treeRecord p q epoch dimension
+
+      pub message-epoch : epoch < 4294967296 → messageEpoch message ≡ epoch
+      unfolding ruleMessage
+      message-epoch h = header-epoch epoch dimension (trees old) (ranks old) p q n many records h
+
+      pub message-dimension : dimension < 4294967296 → messageDimension message ≡ dimension
+      unfolding ruleMessage
+      message-dimension h = header-dimension epoch dimension (trees old) (ranks old) p q n many records h
+
+      pub message-K : messageK message ≡ trees old
+      unfolding ruleMessage
+      message-K = header-K epoch dimension (trees old) (ranks old) p q n many records (omega (arith, few-trees))
+
+      pub message-P : messageP message ≡ ranks old
+      unfolding ruleMessage
+      message-P = header-P epoch dimension (trees old) (ranks old) p q n many records (omega (arith, few-ranks))
+
+      pub message-sender : messageSender message ≡ p
+      unfolding ruleMessage
+      message-sender = header-sender epoch dimension (trees old) (ranks old) p q n many records (omega (arith, few-ranks))
+
+      pub message-receiver : messageReceiver message ≡ q
+      unfolding ruleMessage
+      message-receiver = header-receiver epoch dimension (trees old) (ranks old) p q n many records (omega (arith, few-ranks))
+
+      pub message-trees : messageTrees message ≡ sentCount old new p q
+      unfolding ruleMessage
+      message-trees = header-trees epoch dimension (trees old) (ranks old) p q n many records (omega (arith, few-sent))
+
+      pub message-ghosts : messageGhosts message ≡ countBelow (trees old) (ghostGoes core old new hand treeRecord p q)
+      unfolding ruleMessage
+      message-ghosts = header-ghosts epoch dimension (trees old) (ranks old) p q n many records (omega (arith, few-ghosts))
+
+      module _ (long : RecordsLong) where
+        tree-long : (i : ℕ) → i < n → length (treeRecord (first + i)) ≡ treeSize
+        tree-long i h = long .trees-long (first + i) (sent-in old new T p q is-sender is-receiver (first + i) (omega arith) (omega arith))
+
+        header-long : length (messageHeaderBytes epoch dimension (trees old) (ranks old) p q n many) ≡ 32
+        header-long = header-length epoch dimension (trees old) (ranks old) p q n many
+
+        sent-long : length (treesFrom core old new hand treeRecord p q first n) ≡ treeSize * n
+        sent-long = trees-length first n tree-long
+
+        -- the length of the message
+        pub message-length : length message ≡ messageSize (sentCount old new p q) (countBelow (trees old) (ghostGoes core old new hand treeRecord p q))
+        unfolding ruleMessage
+        message-length = rw (length-append, header-long, length-append, sent-long, ghosts-length (trees old) (long .ghosts-long))
+
+        -- tree i, with its data
+        pub message-record : (i : ℕ) → i < sentCount old new p q → piece message (messageTreePlace i) treeSize ≡ treeRecord (sentFirst old new p q + i)
+        unfolding ruleMessage
+        message-record i h =
+            piece-later (messageHeaderBytes epoch dimension (trees old) (ranks old) p q n many) records 32 (treeSize * i) treeSize header-long
+            ∙ piece-first (treesFrom core old new hand treeRecord p q first n) (ghostsGoing core old new hand treeRecord p q (trees old)) (treeSize * i) treeSize (omega (arith, sent-long))
+            ∙ trees-at first n tree-long i h
+
+        -- its core
+        pub message-tree : (i : ℕ) → i < sentCount old new p q → messageTree message i ≡ piece (treeRecord (sentFirst old new p q + i)) 0 coreSize
+        unfolding messageTree
+        message-tree i h =
+            let e : piece message (messageTreePlace i + 0) coreSize ≡ piece message (messageTreePlace i) coreSize = ap (λ (at : ℕ). piece message at coreSize) (add-zero (messageTreePlace i)) in
+            sym e ∙ sym (piece-piece message (messageTreePlace i) treeSize 0 coreSize (omega arith)) ∙ ap (λ (r : List ℕ). piece r 0 coreSize) (message-record i h)
+
+        -- ghost j is the core of the ghost with j before it that go
+        pub message-ghost : (j : ℕ) → j < countBelow (trees old) (ghostGoes core old new hand treeRecord p q)
+            → messageGhost message j ≡ core (getD (keptBelow (trees old) (ghostGoes core old new hand treeRecord p q)) j 0)
+        unfolding messageGhost ruleMessage
+        message-ghost j h =
+            rw message-trees
+            (piece-later (messageHeaderBytes epoch dimension (trees old) (ranks old) p q n many) records 32 (treeSize * n + coreSize * j) coreSize header-long
+            ∙ piece-later (treesFrom core old new hand treeRecord p q first n) (ghostsGoing core old new hand treeRecord p q (trees old)) (treeSize * n) (coreSize * j) coreSize sent-long
+            ∙ ghosts-at (trees old) (long .ghosts-long) j h)

@@ -3,24 +3,31 @@ use Prim.Native.Nat.{ℕ, zero, suc, _+_, _-_, _*_, _≤_, _<_}
 use native.Mathlib.Nat.{le-refl, add-zero}
 use native.Mathlib.Omega.{arith}
 use mathlib.Core.Path.{_≡_, refl, sym, ap, _∙_}
-use mathlib.Core.Bool.{Bool, true, false, cond, _&&_, _||_}
+use mathlib.Core.Bool.{Bool, true, _&&_}
 use mathlib.Core.List.{List, [], _∷_, _++_, append-assoc, append-nil}
 use lib.Dec.{ltb, eqb}
 use lib.ListN.{length, getD, drop, length-append, length-drop, List·getD-append}
 use lib.Seq.{take-append-le, drop-append-le, drop-append-add, take-all, take-at, drop-at, getD-at}
+use borrow.Author.Tests.{eqb-false, lt-ltb, eq-eqb}
 use Rattle.encoding.specs.Below.{countBelow, keptBelow}
 use Rattle.encoding.specs.Numbers.{leValue, leBytes, leAt, u32At}
 use Rattle.encoding.specs.Pieces.{piece}
-use Rattle.encoding.proofs.Below.{either, below-suc, count-le, kept-length, kept-found}
+use Rattle.encoding.proofs.Below.{tests, either, and-intro, below-suc, all-intro, count-le, kept-length, kept-found, kept-ascends}
 use Rattle.encoding.proofs.Numbers.{bytes-length, value-bytes}
+use Rattle.encoding.proofs.Pieces.{piece-length}
 use Rattle.offsets.specs.Table.{ranks, trees}
 use Rattle.offsets.proofs.Tables.{ranks-high, trees-high}
-use Rattle.records.specs.Record.{coreSize, treeSize}
+use Rattle.records.specs.Shape.{dimensionOf, faceCount}
+use Rattle.records.specs.Record.{coreSize, treeSize, numberOf, shapeOf, neighbourOf, inForm}
 use Rattle.records.proofs.Forms.{piece-piece}
 use Rattle.pattern.specs.Sender.{Tables, sends, sentFirst, sentCount}
-use Rattle.pattern.proofs.Sets.{sent-below, sent-in}
-use Rattle.message.specs.Layout.{messageTreePlace, messageGhostPlace, messageSize, messageHeaderBytes, messageEpoch, messageDimension, messageK, messageP, messageSender, messageReceiver, messageTrees, messageGhosts, messageTree, messageGhost}
+use Rattle.pattern.proofs.Senders.{sends-true}
+use Rattle.pattern.proofs.Sets.{new-below, sent-below, sent-in}
+use Rattle.mesh.specs.Mesh.{meshHeader, meshDimension, meshTrees, dimensionOk, meshCore, meshRecord, meshSound}
+use Rattle.mesh.proofs.Soundness.{header-parts, sound-header, sound-fits, sound-core, sound-form, sound-number, sound-shape, neighbour-below}
+use Rattle.message.specs.Layout.{messageTreePlace, messageSize, messageHeaderBytes, messageEpoch, messageDimension, messageK, messageP, messageSender, messageReceiver, messageTrees, messageGhosts, messageTree, messageGhost, recordLaid, sizeLaid, afterLast, recordsLaid, inLayout}
 use Rattle.message.specs.Rule.{treesFrom, ghostGoes, ghostsGoing, ruleMessage}
+use Rattle.message.specs.Build.{meshMessage}
 
 -- ---- pieces of two lists
 
@@ -106,6 +113,39 @@ module _ (epoch dimension K P sender receiver n g : ℕ) where
     unfolding messageGhosts
     header-ghosts h = header-at 7 (omega arith) h
 
+dimension-small : (d : ℕ) → dimensionOk d ≡ true → d < 4294967296
+unfolding dimensionOk
+dimension-small d e =
+    either (eqb d 2) (λ a. omega tests)
+    (λ a. let b : eqb d 3 ≡ true = rw a at e in omega tests)
+
+-- ---- records laid out
+
+-- a core with number k that a message of this dimension and K may hold: in form, a shape of the dimension, neighbours of used faces below K
+pub record CoreLaid (dimension K k : ℕ) (r : List ℕ) : Type 0 where
+  pub form : inForm k r ≡ true
+  pub number : numberOf r ≡ k
+  pub shape : dimensionOf (shapeOf r) ≡ dimension
+  pub below : (f : ℕ) → f < faceCount (shapeOf r) → neighbourOf r f < K
+
+module _ (m : List ℕ) (dimension K : ℕ) (is-dimension : messageDimension m ≡ dimension) (is-K : messageK m ≡ K) where
+  core-laid : (k : ℕ) (r : List ℕ) → CoreLaid dimension K k r → recordLaid m r ≡ true
+  unfolding recordLaid
+  core-laid k r c =
+      rw (is-dimension, is-K, c .number, c .form, eq-eqb (dimensionOf (shapeOf r)) dimension (c .shape))
+      (all-intro (faceCount (shapeOf r)) (λ f. ltb (neighbourOf r f) K) (λ f h. lt-ltb (neighbourOf r f) K (c .below f h)))
+
+  -- such records with ascending numbers
+  cores-laid : (count : ℕ) (r : ℕ → List ℕ) (number : ℕ → ℕ) → ((i : ℕ) → i < count → CoreLaid dimension K (number i) (r i))
+      → ((i j : ℕ) → i < j → j < count → number i < number j) → recordsLaid m count r ≡ true
+  unfolding recordsLaid afterLast
+  cores-laid count r number c ascends =
+      all-intro count (λ i. recordLaid m (r i) && afterLast r i)
+      (λ i h. and-intro (recordLaid m (r i)) (afterLast r i) (core-laid (number i) (r i) (c i h))
+      (either (eqb i 0) (λ e. rw e)
+      (λ e. let n : i ≡ 0 → ⊥ = eqb-false i 0 e in
+      rw (e, c i h .number, c (i - 1) (omega arith) .number) (lt-ltb (number (i - 1)) (number i) (ascends (i - 1) i (omega arith) h)))))
+
 -- ---- the records
 
 module _ (core : ℕ → List ℕ) (old new : List ℕ) (hand : ℕ → Bool) (treeRecord : ℕ → List ℕ) (p q : ℕ) where
@@ -163,6 +203,12 @@ module _ (core : ℕ → List ℕ) (old new : List ℕ) (hand : ℕ → Bool) (t
   pub record RecordsLong : Type 0 where
     pub trees-long : (k : ℕ) → sends old new p q k ≡ true → length (treeRecord k) ≡ treeSize
     pub ghosts-long : (g : ℕ) → g < trees old → ghostGoes core old new hand treeRecord p q g ≡ true → length (core g) ≡ coreSize
+
+  -- and are laid out: of a tree record its core is
+  pub record RuleLaid (dimension : ℕ) : Type 0 where
+    pub long : RecordsLong
+    pub trees-laid : (k : ℕ) → sends old new p q k ≡ true → CoreLaid dimension (trees old) k (piece (treeRecord k) 0 coreSize)
+    pub ghosts-laid : (g : ℕ) → g < trees old → ghostGoes core old new hand treeRecord p q g ≡ true → CoreLaid dimension (trees old) g (core g)
 
   -- ---- the message, read back
 
@@ -268,3 +314,62 @@ module _ (core : ℕ → List ℕ) (old new : List ℕ) (hand : ℕ → Bool) (t
             (piece-later (messageHeaderBytes epoch dimension (trees old) (ranks old) p q n many) records 32 (treeSize * n + coreSize * j) coreSize header-long
             ∙ piece-later (treesFrom core old new hand treeRecord p q first n) (ghostsGoing core old new hand treeRecord p q (trees old)) (treeSize * n) (coreSize * j) coreSize sent-long
             ∙ ghosts-at (trees old) (long .ghosts-long) j h)
+
+      -- ---- its layout
+
+      -- the message is in layout
+      pub rule-in-layout : dimensionOk dimension ≡ true → RuleLaid dimension → inLayout message ≡ true
+      unfolding inLayout sizeLaid
+      rule-in-layout d laid =
+          let is-dimension : messageDimension message ≡ dimension = message-dimension (dimension-small dimension d) in
+          let size : eqb (length message) (messageSize n many) ≡ true = eq-eqb (length message) (messageSize n many) (message-length (laid .long)) in
+          let trees-laid : recordsLaid message n (messageTree message) ≡ true =
+          cores-laid message dimension (trees old) is-dimension message-K n (messageTree message) (λ i. first + i)
+          (λ i h. rw (message-tree (laid .long) i h) (laid .trees-laid (first + i) (sent-in old new T p q is-sender is-receiver (first + i) (omega arith) (omega arith))))
+          (λ i j l h. omega arith) in
+          let number : ℕ → ℕ = λ j. getD (keptBelow (trees old) goes) j 0 in
+          let ghosts-laid : recordsLaid message many (messageGhost message) ≡ true =
+          cores-laid message dimension (trees old) is-dimension message-K many (messageGhost message) number
+          (λ j h. let f = kept-found (trees old) goes j 0 h in rw (message-ghost (laid .long) j h) (laid .ghosts-laid (number j) (f .0) (f .1)))
+          (λ i j l h. kept-ascends (trees old) goes i j 0 l h) in
+          rw (message-trees, message-ghosts, is-dimension, d, size, trees-laid, ghosts-laid)
+
+-- the message of a sound mesh is in layout
+module _ (mesh old new : List ℕ) (sound : meshSound mesh ≡ true) (same : meshTrees mesh ≡ trees old) (T : Tables old new) (p q : ℕ) (is-receiver : q < ranks old) where
+  record-core : (k : ℕ) → piece (meshRecord mesh k) 0 coreSize ≡ meshCore mesh k
+  unfolding meshRecord meshCore
+  record-core k = piece-piece mesh (meshHeader + treeSize * k) treeSize 0 coreSize (omega arith) ∙ ap (λ (at : ℕ). piece mesh at coreSize) (add-zero (meshHeader + treeSize * k))
+
+  mesh-core-laid : (k : ℕ) → k < trees old → CoreLaid (meshDimension mesh) (trees old) k (meshCore mesh k)
+  mesh-core-laid k h =
+      let l : k < meshTrees mesh = omega arith in
+      record {
+        form = sound-form mesh sound k l;
+        number = sound-number mesh sound k l;
+        shape = sound-shape mesh sound k l;
+        below = λ f a. omega (arith, neighbour-below mesh sound k l f a);
+      }
+
+  sent-tree : (k : ℕ) → sends old new p q k ≡ true → k < trees old
+  sent-tree k e = new-below old new T q k is-receiver (sends-true old new T p q k e .0)
+
+  pub mesh-records-long : RecordsLong (meshCore mesh) old new (λ k. ltb k (meshTrees mesh)) (meshRecord mesh) p q
+  unfolding meshRecord
+  mesh-records-long =
+      record {
+        trees-long = λ k e. piece-length mesh (meshHeader + treeSize * k) treeSize (sound-fits mesh sound k (omega (arith, sent-tree k e)));
+        ghosts-long = λ g h e. sound-core mesh sound g (omega arith);
+      }
+
+  pub mesh-rule-laid : RuleLaid (meshCore mesh) old new (λ k. ltb k (meshTrees mesh)) (meshRecord mesh) p q (meshDimension mesh)
+  mesh-rule-laid =
+      record {
+        long = mesh-records-long;
+        trees-laid = λ k e. rw (record-core k) (mesh-core-laid k (sent-tree k e));
+        ghosts-laid = λ g h e. mesh-core-laid g h;
+      }
+
+  pub mesh-in-layout : (epoch : ℕ) → p < ranks old → inLayout (meshMessage mesh old new p q epoch) ≡ true
+  unfolding meshMessage
+  mesh-in-layout epoch is-sender =
+      rule-in-layout (meshCore mesh) old new (λ k. ltb k (meshTrees mesh)) (meshRecord mesh) p q T is-sender is-receiver epoch (meshDimension mesh) (header-parts mesh (sound-header mesh sound) .0) mesh-rule-laid

@@ -2,8 +2,8 @@
 use Prim.Native.Nat.{ℕ, zero, suc, _+_, _-_, _*_, _≤_, _<_}
 use native.Mathlib.Nat.{le-refl, add-zero}
 use native.Mathlib.Omega.{arith}
-use mathlib.Core.Path.{_≡_, refl, sym, ap, _∙_}
-use mathlib.Core.Bool.{Bool, true, _&&_}
+use mathlib.Core.Path.{_≡_, refl, sym, ap, ap₂, _∙_}
+use mathlib.Core.Bool.{Bool, true, false, _&&_, _||_}
 use mathlib.Core.List.{List, [], _∷_, _++_, append-assoc, append-nil}
 use lib.Dec.{ltb, eqb}
 use lib.ListN.{length, getD, drop, length-append, length-drop, List·getD-append}
@@ -12,22 +12,24 @@ use borrow.Author.Tests.{eqb-false, lt-ltb, eq-eqb}
 use Rattle.encoding.specs.Below.{countBelow, keptBelow}
 use Rattle.encoding.specs.Numbers.{leValue, leBytes, leAt, u32At}
 use Rattle.encoding.specs.Pieces.{piece}
-use Rattle.encoding.proofs.Below.{tests, either, and-intro, below-suc, all-intro, count-le, kept-length, kept-found, kept-ascends}
+use Rattle.encoding.proofs.Below.{tests, either, clash, and-fst, and-intro, below-suc, all-intro, count-same, count-le, kept-length, kept-found, kept-ascends}
 use Rattle.encoding.proofs.Numbers.{bytes-length, value-bytes}
 use Rattle.encoding.proofs.Pieces.{piece-length}
-use Rattle.offsets.specs.Table.{ranks, trees}
+use Rattle.offsets.specs.Table.{ranks, trees, holds}
 use Rattle.offsets.proofs.Tables.{ranks-high, trees-high}
 use Rattle.records.specs.Shape.{dimensionOf, faceCount}
 use Rattle.records.specs.Record.{coreSize, treeSize, numberOf, shapeOf, neighbourOf, inForm}
 use Rattle.records.proofs.Forms.{piece-piece}
 use Rattle.pattern.specs.Sender.{Tables, sends, sentFirst, sentCount}
-use Rattle.pattern.proofs.Senders.{sends-true}
+use Rattle.pattern.proofs.Senders.{sender-holds, sends-true}
 use Rattle.pattern.proofs.Sets.{new-below, sent-below, sent-in}
 use Rattle.mesh.specs.Mesh.{meshHeader, meshDimension, meshTrees, dimensionOk, meshCore, meshRecord, meshSound}
 use Rattle.mesh.proofs.Soundness.{header-parts, sound-header, sound-fits, sound-core, sound-form, sound-number, sound-shape, neighbour-below}
+use Rattle.part.specs.Ghosts.{isGhost}
 use Rattle.message.specs.Layout.{messageTreePlace, messageSize, messageHeaderBytes, messageEpoch, messageDimension, messageK, messageP, messageSender, messageReceiver, messageTrees, messageGhosts, messageTree, messageGhost, recordLaid, sizeLaid, afterLast, recordsLaid, inLayout}
-use Rattle.message.specs.Rule.{treesFrom, ghostGoes, ghostsGoing, ruleMessage}
+use Rattle.message.specs.Rule.{sendsBeside, considers, sendsGhost, treesFrom, ghostGoes, ghostsGoing, ruleMessage}
 use Rattle.message.specs.Build.{meshMessage}
+use Rattle.message.proofs.Ghosts.{sends-considers, considers-held}
 
 -- ---- pieces of two lists
 
@@ -373,3 +375,86 @@ module _ (mesh old new : List ℕ) (sound : meshSound mesh ≡ true) (same : mes
   unfolding meshMessage
   mesh-in-layout epoch is-sender =
       rule-in-layout (meshCore mesh) old new (λ k. ltb k (meshTrees mesh)) (meshRecord mesh) p q T is-sender is-receiver epoch (meshDimension mesh) (header-parts mesh (sound-header mesh sound) .0) mesh-rule-laid
+
+-- ---- which records the message depends on
+
+-- whether p sends q tree g as a ghost is read from g's own core
+own-core : (core : ℕ → List ℕ) (old new : List ℕ) (p q g : ℕ) → sendsGhost core old new p q g ≡ sendsGhost (λ k. core g) old new p q g
+unfolding sendsGhost considers sendsBeside isGhost
+own-core core old new p q g = refl
+
+pub same-core : (a b : ℕ → List ℕ) (old new : List ℕ) (p q g : ℕ) → a g ≡ b g → sendsGhost a old new p q g ≡ sendsGhost b old new p q g
+same-core a b old new p q g e = own-core a old new p q g ∙ ap (λ (r : List ℕ). sendsGhost (λ k. r) old new p q g) e ∙ sym (own-core b old new p q g)
+
+-- two ways to find records: cores, which of them are at hand, and tree records
+module _ (core₁ core₂ : ℕ → List ℕ) (hand₁ hand₂ : ℕ → Bool) (record₁ record₂ : ℕ → List ℕ) (old new : List ℕ) (p q : ℕ) where
+  abbrev goes₁ : ℕ → Bool
+  goes₁ = ghostGoes core₁ old new hand₁ record₁ p q
+
+  abbrev goes₂ : ℕ → Bool
+  goes₂ = ghostGoes core₂ old new hand₂ record₂ p q
+
+  trees-same : (k n : ℕ) → ((i : ℕ) → i < n → record₁ (k + i) ≡ record₂ (k + i)) → treesFrom core₁ old new hand₁ record₁ p q k n ≡ treesFrom core₂ old new hand₂ record₂ p q k n
+  unfolding treesFrom
+  trees-same k zero e = refl
+  trees-same k (suc n) e = ap₂ (λ (a b : List ℕ). a ++ b) (trees-same k n (λ i h. e i (omega arith))) (e n (le-refl (suc n)))
+
+  ghosts-same : (K : ℕ) → ((g : ℕ) → g < K → goes₁ g ≡ goes₂ g) → ((g : ℕ) → g < K → goes₁ g ≡ true → core₁ g ≡ core₂ g)
+      → ghostsGoing core₁ old new hand₁ record₁ p q K ≡ ghostsGoing core₂ old new hand₂ record₂ p q K
+  unfolding ghostsGoing
+  ghosts-same zero s e = refl
+  ghosts-same (suc k) s e =
+      ap₂ (λ (a b : List ℕ). a ++ b) (ghosts-same k (λ g h. s g (omega arith)) (λ g h. e g (omega arith)))
+      (either (goes₁ k)
+      (λ t. let u : goes₂ k ≡ true = sym (s k (le-refl (suc k))) ∙ t in rw (t, u, e k (le-refl (suc k)) t))
+      (λ t. let u : goes₂ k ≡ false = sym (s k (le-refl (suc k))) ∙ t in rw (t, u)))
+
+  module _ (T : Tables old new) (is-sender : p < ranks old) (is-receiver : q < ranks old) (epoch dimension : ℕ) where
+    -- they give the same message where the trees sent, the ghosts that go and the cores of these agree
+    pub rule-agrees : ((k : ℕ) → sends old new p q k ≡ true → record₁ k ≡ record₂ k)
+        → ((g : ℕ) → g < trees old → ghostGoes core₁ old new hand₁ record₁ p q g ≡ ghostGoes core₂ old new hand₂ record₂ p q g)
+        → ((g : ℕ) → g < trees old → ghostGoes core₁ old new hand₁ record₁ p q g ≡ true → core₁ g ≡ core₂ g)
+        → ruleMessage core₁ old new hand₁ record₁ p q epoch dimension ≡ ruleMessage core₂ old new hand₂ record₂ p q epoch dimension
+    unfolding ruleMessage
+    rule-agrees t s e =
+        let n : ℕ = sentCount old new p q in
+        let first : ℕ = sentFirst old new p q in
+        ap₂ (λ (c : ℕ) (l : List ℕ). messageHeaderBytes epoch dimension (trees old) (ranks old) p q n c ++ l) (count-same (trees old) goes₁ goes₂ s)
+        (ap₂ (λ (a b : List ℕ). a ++ b)
+        (trees-same first n (λ i h. t (first + i) (sent-in old new T p q is-sender is-receiver (first + i) (omega arith) (omega arith))))
+        (ghosts-same (trees old) s e))
+
+    -- the second has all trees; the first has the trees that p considers, and has them as the second does
+    pub rule-from-held : ((k : ℕ) → sends old new p q k ≡ true → record₁ k ≡ record₂ k)
+        → ((g : ℕ) → g < trees old → hand₂ g ≡ true)
+        → ((g : ℕ) → g < trees old → considers core₂ old new p q g ≡ true → hand₁ g ≡ true)
+        → ((g : ℕ) → g < trees old → hand₁ g ≡ true → core₁ g ≡ core₂ g)
+        → ruleMessage core₁ old new hand₁ record₁ p q epoch dimension ≡ ruleMessage core₂ old new hand₂ record₂ p q epoch dimension
+    unfolding ghostGoes
+    rule-from-held t all held same =
+        rule-agrees t
+        (λ g h. rw (all g h)
+        (either (hand₁ g)
+        (λ e. rw e (same-core core₁ core₂ old new p q g (same g h e)))
+        (λ e. rw e (either (sendsGhost core₂ old new p q g) (λ d. clash (held g h (sends-considers core₂ old new p q g d)) e) sym))))
+        (λ g h e. same g h (and-fst (hand₁ g) (sendsGhost core₁ old new p q g) e))
+
+-- what a part of rank p must have: the mesh's records of f(p), and the mesh's cores of these and of its ghosts
+module _ (core : ℕ → List ℕ) (hand : ℕ → Bool) (treeRecord : ℕ → List ℕ) (mesh old : List ℕ) (p : ℕ) where
+  pub record HasPart : Type 0 where
+    pub own-records : (k : ℕ) → k < trees old → holds old p k ≡ true → treeRecord k ≡ meshRecord mesh k
+    pub has-held : (k : ℕ) → k < trees old → (holds old p k || isGhost (meshCore mesh) old p k) ≡ true → hand k ≡ true
+    pub same-cores : (k : ℕ) → k < trees old → hand k ≡ true → core k ≡ meshCore mesh k
+
+  -- then the rule applied to it is the rule applied to the mesh
+  pub rule-from-part : (new : List ℕ) (q : ℕ) → Tables old new → p < ranks old → q < ranks old → meshTrees mesh ≡ trees old → HasPart → (epoch : ℕ)
+      → ruleMessage core old new hand treeRecord p q epoch (meshDimension mesh) ≡ meshMessage mesh old new p q epoch
+  unfolding meshMessage
+  rule-from-part new q T is-sender is-receiver same part epoch =
+      rule-from-held core (meshCore mesh) hand (λ k. ltb k (meshTrees mesh)) treeRecord (meshRecord mesh) old new p q T is-sender is-receiver epoch (meshDimension mesh)
+      (λ k e. let s = sends-true old new T p q k e in
+      let h : k < trees old = new-below old new T q k is-receiver (s .0) in
+      part .own-records k h (rw (s .1) at (sender-holds old new T k q h is-receiver)))
+      (λ g h. lt-ltb g (meshTrees mesh) (omega arith))
+      (λ g h e. part .has-held g h (considers-held (meshCore mesh) old new T p q g is-receiver e))
+      (part .same-cores)

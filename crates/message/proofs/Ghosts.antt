@@ -63,6 +63,7 @@ module _ (core : ℕ → List ℕ) (old new : List ℕ) where
   unfolding sendsBeside
   beside-at p q g e = any-at (faceCount (shapeOf (core g))) (λ f. sends old new p q (neighbourOf (core g) f)) e
 
+  -- and back
   pub beside-in : (p q g f : ℕ) → f < faceCount (shapeOf (core g)) → sends old new p q (neighbourOf (core g) f) ≡ true → sendsBeside core old new p q g ≡ true
   unfolding sendsBeside
   beside-in p q g f h e = any-intro (faceCount (shapeOf (core g))) (λ f. sends old new p q (neighbourOf (core g) f)) f h e
@@ -88,15 +89,17 @@ module _ (core : ℕ → List ℕ) (old new : List ℕ) where
         any-intro (ranks old) (λ r. sendsBeside core old new r q g) r (sender-lt old new T k q (new-below old new T q k rank (a .2)) rank)
         (beside-in r q g (a .0) (a .1) (sends-in old new T q k (a .2)))
 
-    -- the sender of a ghost is a rank, and considers it
+    -- the sender of a ghost is a rank
     pub ghost-sender-lt : ghostSender core old new q g < ranks old
     unfolding ghostSender
     ghost-sender-lt = either (sendsBeside core old new q q g) (λ e. rw e rank) (λ e. rw e (least-lt (ranks old) (λ r. sendsBeside core old new r q g) some-sender))
 
+    -- it sends q a neighbour of the ghost
     pub ghost-sender-beside : sendsBeside core old new (ghostSender core old new q g) q g ≡ true
     unfolding ghostSender
     ghost-sender-beside = either (sendsBeside core old new q q g) (λ e. rw (e, e)) (λ e. rw e (least-at (ranks old) (λ r. sendsBeside core old new r q g) some-sender))
 
+    -- so it considers it
     pub ghost-sender-considers : considers core old new (ghostSender core old new q g) q g ≡ true
     ghost-sender-considers = considers-beside (ghostSender core old new q g) q g ghostly ∙ ghost-sender-beside
 
@@ -115,11 +118,12 @@ module _ (core : ℕ → List ℕ) (old new : List ℕ) where
 
   -- ---- what goes
 
-  -- a ghost that p sends q is a ghost of q that p considers
+  -- a ghost that p sends q is one that p considers
   pub sends-considers : (p q g : ℕ) → sendsGhost core old new p q g ≡ true → considers core old new p q g ≡ true
   unfolding sendsGhost
   sends-considers p q g e = and-fst (considers core old new p q g) _ e
 
+  -- what p considers for q is a ghost of q
   pub considers-ghost : (p q g : ℕ) → considers core old new p q g ≡ true → isGhost core new q g ≡ true
   unfolding considers
   considers-ghost p q g e = and-snd (sendsBeside core old new p q g) (isGhost core new q g) e

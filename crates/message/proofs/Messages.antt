@@ -68,6 +68,7 @@ word-at (v ∷ vs) rest (suc i) h b =
     rw (append-assoc, e) (ap leValue (piece-later (leBytes 4 v) (words vs ++ rest) 4 (4 * i) 4 (bytes-length 4 v)) ∙ word-at vs rest i (omega arith) b)
 
 module _ (epoch dimension K P sender receiver n g : ℕ) where
+  -- eight numbers
   pub header-length : length (messageHeaderBytes epoch dimension K P sender receiver n g) ≡ 32
   unfolding messageHeaderBytes
   header-length = simp (length-append, bytes-length)
@@ -83,6 +84,7 @@ module _ (epoch dimension K P sender receiver n g : ℕ) where
     unfolding words messageHeaderBytes
     header-at i h b = rw (← append-nil (leBytes 4 g)) (word-at numbers rest i h b)
 
+    -- each of them is read back from a message that begins with them
     pub header-epoch : epoch < 4294967296 → messageEpoch (messageHeaderBytes epoch dimension K P sender receiver n g ++ rest) ≡ epoch
     unfolding messageEpoch
     header-epoch h = header-at 0 (omega arith) h
@@ -206,7 +208,7 @@ module _ (core : ℕ → List ℕ) (old new : List ℕ) (hand : ℕ → Bool) (t
     pub trees-long : (k : ℕ) → sends old new p q k ≡ true → length (treeRecord k) ≡ treeSize
     pub ghosts-long : (g : ℕ) → g < trees old → ghostGoes core old new hand treeRecord p q g ≡ true → length (core g) ≡ coreSize
 
-  -- and are laid out: of a tree record its core is
+  -- those records are laid out; of a tree record, its core
   pub record RuleLaid (dimension : ℕ) : Type 0 where
     pub long : RecordsLong
     pub trees-laid : (k : ℕ) → sends old new p q k ≡ true → CoreLaid dimension (trees old) k (piece (treeRecord k) 0 coreSize)
@@ -245,6 +247,7 @@ module _ (core : ℕ → List ℕ) (old new : List ℕ) (hand : ℕ → Bool) (t
       abbrev message : List ℕ
       message = ruleMessage core old new hand treeRecord p q epoch dimension
 
+      -- the numbers of its header are read back
       pub message-epoch : epoch < 4294967296 → messageEpoch message ≡ epoch
       unfolding ruleMessage
       message-epoch h = header-epoch epoch dimension (trees old) (ranks old) p q n many records h
@@ -336,7 +339,8 @@ module _ (core : ℕ → List ℕ) (old new : List ℕ) (hand : ℕ → Bool) (t
           (λ i j l h. kept-ascends (trees old) goes i j 0 l h) in
           rw (message-trees, message-ghosts, is-dimension, d, size, trees-laid, ghosts-laid)
 
--- the message of a sound mesh is in layout
+-- ---- the message of a sound mesh
+
 module _ (mesh old new : List ℕ) (sound : meshSound mesh ≡ true) (same : meshTrees mesh ≡ trees old) (T : Tables old new) (p q : ℕ) (is-receiver : q < ranks old) where
   record-core : (k : ℕ) → piece (meshRecord mesh k) 0 coreSize ≡ meshCore mesh k
   unfolding meshRecord meshCore
@@ -355,6 +359,7 @@ module _ (mesh old new : List ℕ) (sound : meshSound mesh ≡ true) (same : mes
   sent-tree : (k : ℕ) → sends old new p q k ≡ true → k < trees old
   sent-tree k e = new-below old new T q k is-receiver (sends-true old new T p q k e .0)
 
+  -- its records have their sizes
   pub mesh-records-long : RecordsLong (meshCore mesh) old new (λ k. ltb k (meshTrees mesh)) (meshRecord mesh) p q
   unfolding meshRecord
   mesh-records-long =
@@ -363,6 +368,7 @@ module _ (mesh old new : List ℕ) (sound : meshSound mesh ≡ true) (same : mes
         ghosts-long = λ g h e. sound-core mesh sound g (omega arith);
       }
 
+  -- and are laid out
   pub mesh-rule-laid : RuleLaid (meshCore mesh) old new (λ k. ltb k (meshTrees mesh)) (meshRecord mesh) p q (meshDimension mesh)
   mesh-rule-laid =
       record {
@@ -371,6 +377,7 @@ module _ (mesh old new : List ℕ) (sound : meshSound mesh ≡ true) (same : mes
         ghosts-laid = λ g h e. mesh-core-laid g h;
       }
 
+  -- so the message is in layout
   pub mesh-in-layout : (epoch : ℕ) → p < ranks old → inLayout (meshMessage mesh old new p q epoch) ≡ true
   unfolding meshMessage
   mesh-in-layout epoch is-sender =
@@ -378,11 +385,11 @@ module _ (mesh old new : List ℕ) (sound : meshSound mesh ≡ true) (same : mes
 
 -- ---- which records the message depends on
 
--- whether p sends q tree g as a ghost is read from g's own core
 own-core : (core : ℕ → List ℕ) (old new : List ℕ) (p q g : ℕ) → sendsGhost core old new p q g ≡ sendsGhost (λ k. core g) old new p q g
 unfolding sendsGhost considers sendsBeside isGhost
 own-core core old new p q g = refl
 
+-- whether p sends q tree g as a ghost is read from g's own core
 pub same-core : (a b : ℕ → List ℕ) (old new : List ℕ) (p q g : ℕ) → a g ≡ b g → sendsGhost a old new p q g ≡ sendsGhost b old new p q g
 same-core a b old new p q g e = own-core a old new p q g ∙ ap (λ (r : List ℕ). sendsGhost (λ k. r) old new p q g) e ∙ sym (own-core b old new p q g)
 
@@ -439,8 +446,8 @@ module _ (core₁ core₂ : ℕ → List ℕ) (hand₁ hand₂ : ℕ → Bool) (
         (λ e. rw e (either (sendsGhost core₂ old new p q g) (λ d. clash (held g h (sends-considers core₂ old new p q g d)) e) sym))))
         (λ g h e. same g h (and-fst (hand₁ g) (sendsGhost core₁ old new p q g) e))
 
--- what a part of rank p must have: the mesh's records of f(p), and the mesh's cores of these and of its ghosts
 module _ (core : ℕ → List ℕ) (hand : ℕ → Bool) (treeRecord : ℕ → List ℕ) (mesh old : List ℕ) (p : ℕ) where
+  -- what a part of rank p must have: the mesh's records of f(p), the cores of these and of its ghosts, and no core that differs from the mesh's
   pub record HasPart : Type 0 where
     pub own-records : (k : ℕ) → k < trees old → holds old p k ≡ true → treeRecord k ≡ meshRecord mesh k
     pub has-held : (k : ℕ) → k < trees old → (holds old p k || isGhost (meshCore mesh) old p k) ≡ true → hand k ≡ true

@@ -1,0 +1,3 @@
+-- Demand 3: lists of deliver and close calls on an area.
+pub mod Canonical
+pub mod Lists

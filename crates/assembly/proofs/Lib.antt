@@ -1,2 +1,5 @@
 -- Laws, for this crate's proofs and for the crates above.
 pub mod Examples
+pub mod Joined
+pub mod Heard
+pub mod Zones

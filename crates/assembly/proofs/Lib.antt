@@ -1,1 +1,4 @@
 -- Laws, for this crate's proofs and for the crates above.
+pub mod Joined
+pub mod Heard
+pub mod Zones

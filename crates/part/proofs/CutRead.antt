@@ -189,6 +189,16 @@ module _ (mesh table : List ℕ) (rank : ℕ) (sound : meshSound mesh ≡ true) 
 
 -- ---- the theorems
 
+-- all numbers of the header are below 2 ^ 32
+pub record HeaderFits (mesh table : List ℕ) (rank : ℕ) : Type 0 where
+  pub dimension-word : meshDimension mesh < 4294967296
+  pub trees-word : meshTrees mesh < 4294967296
+  pub ranks-word : ranks table < 4294967296
+  pub rank-word : rank < 4294967296
+  pub first-word : firstTree table rank < 4294967296
+  pub count-word : treeCount table rank < 4294967296
+  pub ghosts-word : ghostCount mesh table rank < 4294967296
+
 -- the bounds that follow where a part can be cut
 pub cuttable-fits : (mesh table : List ℕ) (rank : ℕ) → Cuttable mesh table rank → Bytes table → CutFits mesh table rank
 cuttable-fits mesh table rank h b =
@@ -207,17 +217,7 @@ module _ (mesh table : List ℕ) (rank : ℕ) (ok : Cuttable mesh table rank) (b
   fits : CutFits mesh table rank
   fits = cuttable-fits mesh table rank ok bytes
 
-  -- all numbers of the header are below 2 ^ 32
-  pub record HeaderFits : Type 0 where
-    pub dimension-word : meshDimension mesh < 4294967296
-    pub trees-word : meshTrees mesh < 4294967296
-    pub ranks-word : ranks table < 4294967296
-    pub rank-word : rank < 4294967296
-    pub first-word : firstTree table rank < 4294967296
-    pub count-word : treeCount table rank < 4294967296
-    pub ghosts-word : ghostCount mesh table rank < 4294967296
-
-  pub header-fits : HeaderFits
+  pub header-fits : HeaderFits mesh table rank
   unfolding treeCount ghostCount ghostPosition
   header-fits =
       let p = ranks-high table bytes (ok .table-ranks) (ok .table-valid) in

@@ -1,0 +1,256 @@
+-- A cut part holds the mesh's records, agrees with every other part of the mesh, and is sound.
+use Prim.Native.Nat.{ℕ, zero, suc, _+_, _-_, _*_, _≤_, _<_}
+use native.Mathlib.Nat.{le-refl, add-sub-cancel-left}
+use native.Mathlib.Omega.{arith}
+use mathlib.Core.Path.{_≡_, refl, sym, ap, ap₂, _∙_}
+use mathlib.Core.Bool.{Bool, true, false, cond, not, _&&_, _||_}
+use mathlib.Core.List.{List}
+use lib.Dec.{leb, ltb, eqb}
+use lib.ListN.{length, getD}
+use borrow.Author.Tests.{ltb-true, leb-true, eqb-true, le-leb, lt-ltb, le-ltb, eq-eqb, ne-eqb}
+use Rattle.encoding.specs.Below.{allBelow, anyBelow, leastBelow}
+use Rattle.encoding.specs.Numbers.{u32At}
+use Rattle.encoding.specs.Pieces.{piece, Bytes}
+use Rattle.encoding.proofs.Below.{either, tests, clash, and-fst, and-snd, and-intro, iff-eq, all-intro, any-at, any-intro, any-same, count-le, least-is}
+use Rattle.encoding.proofs.Pieces.{bytes-piece}
+use Rattle.offsets.specs.Table.{ranks, trees, firstTree, endTree, treeCount, holds}
+use Rattle.records.specs.Shape.{dimensionOf, faceCount, facesIn}
+use Rattle.records.specs.Record.{coreSize, treeSize, unused, numberOf, shapeOf, neighbourOf, faceOf, inForm}
+use Rattle.records.proofs.Forms.{form-unused, unused-neighbour}
+use Rattle.records.proofs.Shapes.{count-six, faces-positive}
+use Rattle.mesh.specs.Link.{orientationOk, linkOk}
+use Rattle.mesh.specs.Mesh.{meshHeader, meshDimension, meshTrees, meshCore, meshSound, dimensionOk}
+use Rattle.mesh.proofs.Soundness.{sound-core, sound-form, sound-number, sound-shape, sound-link, neighbour-below, face-there, link-back}
+use Rattle.part.specs.Layout.{treePlace, partSize}
+use Rattle.part.specs.Ghosts.{isGhost, ghostsOf, ghostPosition}
+use Rattle.part.specs.Cut.{renamed, localIndex, ghostCount, cutPart}
+use Rattle.part.specs.View.{isLocal, ghostIs, held, heldCore, treeLink, ghostLink, localSound, ghostAfter, ghostBeside, ghostSound, viewSound}
+use Rattle.part.specs.Part.{noTree, partDimension, partK, partFirst, partCount, partGhostCount, storedTree, storedGhost, globalIndex, globalTree, partHolds, partCore, partHeaderSound, partSound}
+use Rattle.part.proofs.Cutting.{Cuttable, CutFits}
+use Rattle.part.proofs.Ghosts.{ghost-at, ghost-found, ghosts-ascend}
+use Rattle.part.proofs.CutRead.{HeaderFits, header-fits, cuttable-fits, cut-dimension, cut-K, cut-ranks, cut-rank, cut-first, cut-count, cut-ghosts, cut-zero, cut-end, cut-within, cut-tree, cut-data, cut-ghost, position-below, cut-ghost-at, cut-ghost-number}
+use Rattle.part.proofs.Renamed.{renamed-number, renamed-back}
+
+-- k is in the range
+pub holds-range : (table : List ℕ) (rank k : ℕ) → holds table rank k ≡ true → (firstTree table rank ≤ k) × (k < endTree table rank)
+unfolding holds
+holds-range table rank k e = (leb-true _ _ (and-fst (leb (firstTree table rank) k) _ e), ltb-true _ _ (and-snd (leb (firstTree table rank) k) _ e))
+
+module _ (mesh table : List ℕ) (rank : ℕ) (ok : Cuttable mesh table rank) (mesh-bytes : Bytes mesh) (bytes : Bytes table) where
+  abbrev part : List ℕ
+  part = cutPart mesh table rank
+
+  abbrev K : ℕ
+  K = meshTrees mesh
+
+  abbrev first : ℕ
+  first = firstTree table rank
+
+  abbrev n : ℕ
+  n = treeCount table rank
+
+  abbrev ghost : ℕ → Bool
+  ghost = isGhost (meshCore mesh) table rank
+
+  abbrev position : ℕ → ℕ
+  position = ghostPosition (meshCore mesh) table rank
+
+  -- ---- a tree's neighbours
+
+  -- a tree of f(rank) is below K
+  pub local-below : (k : ℕ) → holds table rank k ≡ true → k < meshTrees mesh
+  local-below k e = let r = holds-range table rank k e in let w = cuttable-fits mesh table rank ok bytes in omega arith
+
+  -- a neighbour of a tree of f(rank) is unused, in f(rank), or a ghost
+  pub neighbour-cases : {C : Type 0} (k : ℕ) → holds table rank k ≡ true → (f : ℕ) → f < 6
+      → (neighbourOf (meshCore mesh k) f ≡ unused → C)
+      → (neighbourOf (meshCore mesh k) f < meshTrees mesh → holds table rank (neighbourOf (meshCore mesh k) f) ≡ true → C)
+      → (neighbourOf (meshCore mesh k) f < meshTrees mesh → holds table rank (neighbourOf (meshCore mesh k) f) ≡ false → isGhost (meshCore mesh) table rank (neighbourOf (meshCore mesh k) f) ≡ true → C) → C
+  unfolding isGhost
+  neighbour-cases k e f h none tree beside =
+      let m : ℕ = neighbourOf (meshCore mesh k) f in
+      let l : k < K = local-below k e in
+      let s = ok .mesh-sound in
+      either (ltb f (faceCount (shapeOf (meshCore mesh k))))
+      (λ p.
+      let face : f < faceCount (shapeOf (meshCore mesh k)) = ltb-true _ _ p in
+      let b : m < K = neighbour-below mesh s k l f face in
+      either (holds table rank m) (tree b)
+      (λ q. beside b q
+      (and-intro (not (holds table rank m)) (anyBelow (faceCount (shapeOf (meshCore mesh m))) (λ g. holds table rank (neighbourOf (meshCore mesh m) g))) (rw q)
+      (any-intro (faceCount (shapeOf (meshCore mesh m))) (λ g. holds table rank (neighbourOf (meshCore mesh m) g)) (faceOf (meshCore mesh k) f) (face-there mesh s k l f face) (rw (link-back mesh s k l f face .0) e)))))
+      (λ p. none (unused-neighbour (meshCore mesh k) f (form-unused k (meshCore mesh k) (sound-form mesh s k l) f (omega tests) h)))
+
+  -- ---- local indices
+
+  -- the local index of an unused face, of a tree and of a ghost
+  pub local-unused : localIndex mesh table rank unused ≡ unused
+  unfolding localIndex
+  local-unused = refl
+
+  pub local-tree : (k : ℕ) → holds table rank k ≡ true → localIndex mesh table rank k ≡ k - firstTree table rank
+  unfolding localIndex
+  local-tree k e =
+      let l = local-below k e in let w = cuttable-fits mesh table rank ok bytes in
+      rw (ne-eqb k unused (λ q. omega arith), e)
+
+  pub local-ghost : (k : ℕ) → k < meshTrees mesh → holds table rank k ≡ false → localIndex mesh table rank k ≡ treeCount table rank + ghostPosition (meshCore mesh) table rank k
+  unfolding localIndex
+  local-ghost k l e =
+      let w = cuttable-fits mesh table rank ok bytes in
+      rw (ne-eqb k unused (λ q. omega arith), e)
+
+  -- the global number behind a local index
+  global-unused : globalIndex part unused ≡ unused
+  unfolding globalIndex
+  global-unused = refl
+
+  global-tree : (i : ℕ) → i < n → globalIndex part i ≡ first + i
+  unfolding globalIndex
+  global-tree i h =
+      let w = cuttable-fits mesh table rank ok bytes in
+      let b = cut-within mesh table rank ok bytes in
+      let l : first + i < K = omega arith in
+      let c = sound-core mesh (ok .mesh-sound) (first + i) l in
+      rw (ne-eqb i unused (λ q. omega arith), cut-count mesh table rank ok bytes, lt-ltb i n h)
+      (ap numberOf (cut-tree mesh table rank ok bytes i h) ∙ renamed-number (localIndex mesh table rank) (facesIn (meshDimension mesh)) (meshCore mesh (first + i)) c ∙ sound-number mesh (ok .mesh-sound) (first + i) l)
+
+  global-ghost : (k : ℕ) → k < K → ghost k ≡ true → globalIndex part (n + position k) ≡ k
+  unfolding globalIndex ghostPosition
+  global-ghost k l e =
+      let w = cuttable-fits mesh table rank ok bytes in
+      let b = cut-within mesh table rank ok bytes in
+      let p = position-below mesh table rank ok bytes k l e in
+      rw (ne-eqb (n + position k) unused (λ q. omega (arith, count-le k ghost)), cut-count mesh table rank ok bytes, cut-ghosts mesh table rank ok bytes, le-ltb (n + position k) n (omega arith), lt-ltb (n + position k) (n + ghostCount mesh table rank) (omega arith), add-sub-cancel-left n (position k))
+      (cut-ghost-number mesh table rank ok bytes k l e)
+
+  -- a neighbour renamed to a local index and back is itself
+  pub index-unused : globalIndex (cutPart mesh table rank) (localIndex mesh table rank unused) ≡ unused
+  index-unused = rw local-unused global-unused
+
+  pub index-tree : (k : ℕ) → holds table rank k ≡ true → globalIndex (cutPart mesh table rank) (localIndex mesh table rank k) ≡ k
+  index-tree k e =
+      let r = holds-range table rank k e in
+      let d = cut-end mesh table rank ok bytes in
+      rw (local-tree k e, global-tree (k - first) (omega arith)) (omega arith)
+
+  pub index-ghost : (k : ℕ) → k < meshTrees mesh → holds table rank k ≡ false → isGhost (meshCore mesh) table rank k ≡ true → globalIndex (cutPart mesh table rank) (localIndex mesh table rank k) ≡ k
+  index-ghost k l e t = rw (local-ghost k l e) (global-ghost k l t)
+
+  module _ (k : ℕ) (tree : holds table rank k ≡ true) (f : ℕ) (face : f < 6) where
+    -- so it is for each neighbour of a tree of f(rank)
+    neighbour-back : globalIndex part (localIndex mesh table rank (neighbourOf (meshCore mesh k) f)) ≡ neighbourOf (meshCore mesh k) f
+    neighbour-back =
+        neighbour-cases k tree f face
+        (λ e. rw e index-unused)
+        (λ l e. index-tree (neighbourOf (meshCore mesh k) f) e)
+        (λ l e t. index-ghost (neighbourOf (meshCore mesh k) f) l e t)
+
+    -- whose local index has 32 bits
+    pub neighbour-local : localIndex mesh table rank (neighbourOf (meshCore mesh k) f) < 4294967296
+    unfolding ghostPosition
+    neighbour-local =
+        let m : ℕ = neighbourOf (meshCore mesh k) f in
+        let w = cuttable-fits mesh table rank ok bytes in
+        let b = cut-within mesh table rank ok bytes in
+        neighbour-cases k tree f face
+        (λ e. rw (e, local-unused) (omega arith))
+        (λ l e. rw (local-tree m e) (omega arith))
+        (λ l e t. rw (local-ghost m l e) (omega (arith, count-le m ghost)))
+
+  -- ---- the records held
+
+  range-local : (i : ℕ) → i < n → holds table rank (first + i) ≡ true
+  unfolding holds
+  range-local i h = let d = cut-end mesh table rank ok bytes in and-intro (leb first (first + i)) _ (le-leb first (first + i) (omega arith)) (lt-ltb (first + i) (endTree table rank) (omega arith))
+
+  core-bytes : (k : ℕ) → Bytes (meshCore mesh k)
+  unfolding meshCore
+  core-bytes k = bytes-piece mesh (meshHeader + treeSize * k) coreSize mesh-bytes
+
+  -- tree i with neighbours as global numbers is the mesh's core
+  pub cut-global : (i : ℕ) → i < treeCount table rank → globalTree (cutPart mesh table rank) i ≡ meshCore mesh (firstTree table rank + i)
+  unfolding globalTree
+  cut-global i h =
+      let k : ℕ = first + i in
+      let t : holds table rank k ≡ true = range-local i h in
+      rw (cut-dimension mesh table rank ok bytes, cut-tree mesh table rank ok bytes i h)
+      (renamed-back (localIndex mesh table rank) (globalIndex part) (facesIn (meshDimension mesh)) (meshCore mesh k) (neighbour-back k t) (core-bytes k) (sound-core mesh (ok .mesh-sound) k (local-below k t)) (faces-positive (meshDimension mesh)) (neighbour-local k t))
+
+  abbrev isTree : ℕ → Bool
+  isTree = isLocal (partFirst part) (partCount part) (partGhostCount part) (globalTree part) (storedGhost part)
+
+  abbrev isAt : ℕ → ℕ → Bool
+  isAt = ghostIs (partFirst part) (partCount part) (partGhostCount part) (globalTree part) (storedGhost part)
+
+  tree-is : (k : ℕ) → isTree k ≡ holds table rank k
+  unfolding isLocal holds
+  tree-is k = rw (cut-first mesh table rank ok bytes, cut-count mesh table rank ok bytes, cut-end mesh table rank ok bytes)
+
+  -- ghost j
+  abbrev number : ℕ → ℕ
+  number j = getD (ghostsOf (meshCore mesh) table rank K) j 0
+
+  at-is : (k j : ℕ) → j < ghostCount mesh table rank → isAt k j ≡ eqb (number j) k
+  unfolding ghostIs ghostCount
+  at-is k j h =
+      rw (cut-ghost mesh table rank ok bytes j h, sound-number mesh (ok .mesh-sound) (number j) (ghost-found (meshCore mesh) table rank K j 0 h .0))
+
+  ghost-there : (k : ℕ) → anyBelow (partGhostCount part) (isAt k) ≡ (ltb k K && ghost k)
+  unfolding ghostCount
+  ghost-there k =
+      ap (λ (g : ℕ). anyBelow g (isAt k)) (cut-ghosts mesh table rank ok bytes)
+      ∙ iff-eq (anyBelow (position K) (isAt k)) (ltb k K && ghost k)
+      (λ e.
+      let a = any-at (position K) (isAt k) e in
+      let w = ghost-found (meshCore mesh) table rank K (a .0) 0 (a .1) in
+      let q : number (a .0) ≡ k = eqb-true _ _ (sym (at-is k (a .0) (a .1)) ∙ a .2) in
+      rw (← q) (and-intro (ltb (number (a .0)) K) (ghost (number (a .0))) (lt-ltb _ _ (w .0)) (w .1)))
+      (λ e.
+      let l : k < K = ltb-true _ _ (and-fst (ltb k K) (ghost k) e) in
+      let t : ghost k ≡ true = and-snd (ltb k K) (ghost k) e in
+      let p = position-below mesh table rank ok bytes k l t in
+      any-intro (position K) (isAt k) (position k) p (at-is k (position k) p ∙ eq-eqb _ _ (ghost-at (meshCore mesh) table rank K k 0 l t)))
+
+  ghost-least : (k : ℕ) → k < K → ghost k ≡ true → leastBelow (partGhostCount part) (isAt k) ≡ position k
+  unfolding ghostCount
+  ghost-least k l t =
+      let p = position-below mesh table rank ok bytes k l t in
+      ap (λ (g : ℕ). leastBelow g (isAt k)) (cut-ghosts mesh table rank ok bytes)
+      ∙ least-is (position K) (isAt k) (position k) p (at-is k (position k) p ∙ eq-eqb _ _ (ghost-at (meshCore mesh) table rank K k 0 l t))
+      (λ j h.
+      let w = ghost-found (meshCore mesh) table rank K j 0 (omega arith) in
+      at-is k j (omega arith) ∙ ne-eqb (number j) k (λ e. let q : position k ≡ j = rw e at (w .2) in omega arith))
+
+  -- the part holds tree k
+  holds-is : (k : ℕ) → partHolds part k ≡ (holds table rank k || (ltb k K && ghost k))
+  unfolding partHolds held
+  holds-is k = rw (tree-is k, ghost-there k)
+
+  -- the part holds the trees of f(rank) and the ghosts
+  pub cut-holds : (k : ℕ) → k < meshTrees mesh → partHolds (cutPart mesh table rank) k ≡ (holds table rank k || isGhost (meshCore mesh) table rank k)
+  cut-holds k l = holds-is k ∙ rw (lt-ltb k K l)
+
+  -- and no other
+  pub held-below : (k : ℕ) → partHolds (cutPart mesh table rank) k ≡ true → k < meshTrees mesh
+  held-below k e =
+      let h : (holds table rank k || (ltb k K && ghost k)) ≡ true = sym (holds-is k) ∙ e in
+      either (holds table rank k) (local-below k) (λ q. ltb-true _ _ (and-fst (ltb k K) (ghost k) (rw q at h)))
+
+  -- each record held is the mesh's
+  pub cut-core : (k : ℕ) → partHolds (cutPart mesh table rank) k ≡ true → partCore (cutPart mesh table rank) k ≡ meshCore mesh k
+  unfolding partCore heldCore
+  cut-core k e =
+      let h : (holds table rank k || (ltb k K && ghost k)) ≡ true = sym (holds-is k) ∙ e in
+      rw (tree-is k)
+      (either (holds table rank k)
+      (λ q.
+      let r = holds-range table rank k q in
+      let d = cut-end mesh table rank ok bytes in
+      let s : first + (k - first) ≡ k = omega arith in
+      rw (q, cut-first mesh table rank ok bytes, cut-global (k - first) (omega arith), s))
+      (λ q.
+      let t : (ltb k K && ghost k) ≡ true = rw q at h in
+      let l : k < K = ltb-true _ _ (and-fst (ltb k K) (ghost k) t) in
+      let u : ghost k ≡ true = and-snd (ltb k K) (ghost k) t in
+      rw (q, ghost-least k l u) (cut-ghost-at mesh table rank ok bytes k l u)))

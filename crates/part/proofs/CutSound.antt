@@ -36,6 +36,11 @@ pub holds-range : (table : List ℕ) (rank k : ℕ) → holds table rank k ≡ t
 unfolding holds
 holds-range table rank k e = (leb-true _ _ (and-fst (leb (firstTree table rank) k) _ e), ltb-true _ _ (and-snd (leb (firstTree table rank) k) _ e))
 
+-- a link's rule reads the records at both its ends
+pub link-same : (a b : ℕ → List ℕ) (k f : ℕ) → a k ≡ b k → a (neighbourOf (b k) f) ≡ b (neighbourOf (b k) f) → linkOk a k f ≡ linkOk b k f
+unfolding linkOk
+link-same a b k f e h = rw (e, h)
+
 module _ (mesh table : List ℕ) (rank : ℕ) (ok : Cuttable mesh table rank) (mesh-bytes : Bytes mesh) (bytes : Bytes table) where
   abbrev part : List ℕ
   part = cutPart mesh table rank
@@ -254,3 +259,23 @@ module _ (mesh table : List ℕ) (rank : ℕ) (ok : Cuttable mesh table rank) (m
       let l : k < K = ltb-true _ _ (and-fst (ltb k K) (ghost k) t) in
       let u : ghost k ≡ true = and-snd (ltb k K) (ghost k) t in
       rw (q, ghost-least k l u) (cut-ghost-at mesh table rank ok bytes k l u)))
+
+  -- the tree data of tree k is the mesh's
+  pub cut-data-at : (k : ℕ) → holds table rank k ≡ true → piece (cutPart mesh table rank) (treePlace (k - firstTree table rank) + coreSize) 24 ≡ piece mesh (meshHeader + treeSize * k + coreSize) 24
+  cut-data-at k e =
+      let r = holds-range table rank k e in
+      let d = cut-end mesh table rank ok bytes in
+      let s : first + (k - first) ≡ k = omega arith in
+      cut-data mesh table rank ok bytes (k - first) (omega arith) ∙ ap (λ (m : ℕ). piece mesh (meshHeader + treeSize * m + coreSize) 24) s
+
+-- ---- two parts of one mesh
+
+module _ (mesh : List ℕ) (mesh-bytes : Bytes mesh) (a : List ℕ) (p : ℕ) (cut-a : Cuttable mesh a p) (a-bytes : Bytes a) (b : List ℕ) (q : ℕ) (cut-b : Cuttable mesh b q) (b-bytes : Bytes b) (k : ℕ) where
+  -- they agree on every record that both hold
+  pub parts-agree : partHolds (cutPart mesh a p) k ≡ true → partHolds (cutPart mesh b q) k ≡ true → partCore (cutPart mesh a p) k ≡ partCore (cutPart mesh b q) k
+  parts-agree h l = cut-core mesh a p cut-a mesh-bytes a-bytes k h ∙ sym (cut-core mesh b q cut-b mesh-bytes b-bytes k l)
+
+  -- and on the tree data of every tree that both have
+  pub parts-agree-data : holds a p k ≡ true → holds b q k ≡ true
+      → piece (cutPart mesh a p) (treePlace (k - firstTree a p) + coreSize) 24 ≡ piece (cutPart mesh b q) (treePlace (k - firstTree b q) + coreSize) 24
+  parts-agree-data h l = cut-data-at mesh a p cut-a mesh-bytes a-bytes k h ∙ sym (cut-data-at mesh b q cut-b mesh-bytes b-bytes k l)

@@ -1,34 +1,34 @@
 -- A cut part holds the mesh's records, agrees with every other part of the mesh, and is sound.
-use Prim.Native.Nat.{ℕ, zero, suc, _+_, _-_, _*_, _≤_, _<_}
-use native.Mathlib.Nat.{le-refl, add-sub-cancel-left}
+use Prim.Native.Nat.{ℕ, _+_, _-_, _*_, _≤_, _<_}
+use native.Mathlib.Nat.{add-sub-cancel-left}
 use native.Mathlib.Omega.{arith}
-use mathlib.Core.Path.{_≡_, refl, sym, ap, ap₂, _∙_}
-use mathlib.Core.Bool.{Bool, true, false, cond, not, _&&_, _||_}
+use mathlib.Core.Path.{_≡_, refl, sym, ap, _∙_}
+use mathlib.Core.Bool.{Bool, true, false, not, _&&_, _||_, or-true}
 use mathlib.Core.List.{List}
 use lib.Dec.{leb, ltb, eqb}
 use lib.ListN.{length, getD}
-use borrow.Author.Tests.{ltb-true, leb-true, eqb-true, le-leb, lt-ltb, le-ltb, eq-eqb, ne-eqb}
-use Rattle.encoding.specs.Below.{allBelow, anyBelow, leastBelow}
-use Rattle.encoding.specs.Numbers.{u32At}
+use borrow.Author.Tests.{ltb-true, leb-true, eqb-true, le-leb, lt-ltb, le-ltb, eq-eqb, ne-eqb, eqb-false, not-true}
+use Rattle.encoding.specs.Below.{anyBelow, leastBelow}
 use Rattle.encoding.specs.Pieces.{piece, Bytes}
-use Rattle.encoding.proofs.Below.{either, tests, clash, and-fst, and-snd, and-intro, iff-eq, all-intro, any-at, any-intro, any-same, count-le, least-is}
+use Rattle.encoding.proofs.Below.{either, tests, and-fst, and-snd, and-intro, iff-eq, any-at, any-intro, any-same, count-le, least-is}
 use Rattle.encoding.proofs.Pieces.{bytes-piece}
 use Rattle.offsets.specs.Table.{ranks, trees, firstTree, endTree, treeCount, holds}
-use Rattle.records.specs.Shape.{dimensionOf, faceCount, facesIn}
-use Rattle.records.specs.Record.{coreSize, treeSize, unused, numberOf, shapeOf, neighbourOf, faceOf, inForm}
+use Rattle.records.specs.Shape.{faceCount, facesIn}
+use Rattle.records.specs.Record.{coreSize, treeSize, unused, numberOf, shapeOf, neighbourOf, faceOf}
 use Rattle.records.proofs.Forms.{form-unused, unused-neighbour}
 use Rattle.records.proofs.Shapes.{count-six, faces-positive}
 use Rattle.mesh.specs.Link.{orientationOk, linkOk}
-use Rattle.mesh.specs.Mesh.{meshHeader, meshDimension, meshTrees, meshCore, meshSound, dimensionOk}
-use Rattle.mesh.proofs.Soundness.{sound-core, sound-form, sound-number, sound-shape, sound-link, neighbour-below, face-there, link-back}
+use Rattle.mesh.specs.Mesh.{meshHeader, meshDimension, meshTrees, meshCore}
+use Rattle.mesh.proofs.Soundness.{link-orientation, header-parts, sound-header, sound-core, sound-form, sound-number, sound-shape, sound-link, neighbour-below, face-there, link-back}
 use Rattle.part.specs.Layout.{treePlace, partSize}
 use Rattle.part.specs.Ghosts.{isGhost, ghostsOf, ghostPosition}
-use Rattle.part.specs.Cut.{renamed, localIndex, ghostCount, cutPart}
-use Rattle.part.specs.View.{isLocal, ghostIs, held, heldCore, treeLink, ghostLink, localSound, ghostAfter, ghostBeside, ghostSound, viewSound}
-use Rattle.part.specs.Part.{noTree, partDimension, partK, partFirst, partCount, partGhostCount, storedTree, storedGhost, globalIndex, globalTree, partHolds, partCore, partHeaderSound, partSound}
-use Rattle.part.proofs.Cutting.{Cuttable, CutFits}
+use Rattle.part.specs.Cut.{localIndex, ghostCount, cutPart}
+use Rattle.part.specs.View.{isLocal, ghostIs, held, heldCore, treeLink, ghostLink, ghostAfter, ghostBeside}
+use Rattle.part.specs.Part.{partDimension, partK, partFirst, partCount, partGhostCount, storedGhost, globalIndex, globalTree, partHolds, partCore, partHeaderSound, partSound}
+use Rattle.part.proofs.Cutting.{Cuttable, cut-length}
 use Rattle.part.proofs.Ghosts.{ghost-at, ghost-found, ghosts-ascend}
-use Rattle.part.proofs.CutRead.{HeaderFits, header-fits, cuttable-fits, cut-dimension, cut-K, cut-ranks, cut-rank, cut-first, cut-count, cut-ghosts, cut-zero, cut-end, cut-within, cut-tree, cut-data, cut-ghost, position-below, cut-ghost-at, cut-ghost-number}
+use Rattle.part.proofs.CutRead.{cuttable-fits, cut-dimension, cut-K, cut-ranks, cut-rank, cut-first, cut-count, cut-ghosts, cut-zero, cut-end, cut-within, cut-tree, cut-data, cut-ghost, position-below, cut-ghost-at, cut-ghost-number}
+use Rattle.part.proofs.Views.{tree-link-make, ghost-link-make, TreeView, GhostView, view-make}
 use Rattle.part.proofs.Renamed.{renamed-number, renamed-back}
 
 -- k is in the range
@@ -40,6 +40,11 @@ holds-range table rank k e = (leb-true _ _ (and-fst (leb (firstTree table rank) 
 pub link-same : (a b : ℕ → List ℕ) (k f : ℕ) → a k ≡ b k → a (neighbourOf (b k) f) ≡ b (neighbourOf (b k) f) → linkOk a k f ≡ linkOk b k f
 unfolding linkOk
 link-same a b k f e h = rw (e, h)
+
+-- a link that obeys the rule has an orientation below the corners of its face
+orientation-of : (core : ℕ → List ℕ) (k f : ℕ) → linkOk core k f ≡ true → orientationOk (core k) f ≡ true
+unfolding orientationOk
+orientation-of core k f e = lt-ltb _ _ (link-orientation core k f e)
 
 module _ (mesh table : List ℕ) (rank : ℕ) (ok : Cuttable mesh table rank) (mesh-bytes : Bytes mesh) (bytes : Bytes table) where
   abbrev part : List ℕ
@@ -267,6 +272,122 @@ module _ (mesh table : List ℕ) (rank : ℕ) (ok : Cuttable mesh table rank) (m
       let d = cut-end mesh table rank ok bytes in
       let s : first + (k - first) ≡ k = omega arith in
       cut-data mesh table rank ok bytes (k - first) (omega arith) ∙ ap (λ (m : ℕ). piece mesh (meshHeader + treeSize * m + coreSize) 24) s
+
+  -- ---- soundness
+
+  header-sound : partHeaderSound part table rank ≡ true
+  unfolding partHeaderSound
+  header-sound =
+      rw (cut-dimension mesh table rank ok bytes, header-parts mesh (sound-header mesh (ok .mesh-sound)) .0, cut-K mesh table rank ok bytes, ok .same-trees, cut-ranks mesh table rank ok bytes, cut-rank mesh table rank ok bytes, cut-first mesh table rank ok bytes, cut-count mesh table rank ok bytes, cut-zero mesh table rank ok bytes, eq-eqb (trees table) (trees table) refl, eq-eqb (ranks table) (ranks table) refl, eq-eqb rank rank refl, eq-eqb first first refl, eq-eqb n n refl)
+
+  -- a tree of f(rank) is held, and so is a ghost
+  pub tree-held : (k : ℕ) → holds table rank k ≡ true → partHolds (cutPart mesh table rank) k ≡ true
+  tree-held k e = cut-holds k (local-below k e) ∙ rw e
+
+  pub ghost-held : (k : ℕ) → k < meshTrees mesh → isGhost (meshCore mesh) table rank k ≡ true → partHolds (cutPart mesh table rank) k ≡ true
+  ghost-held k l e = cut-holds k l ∙ rw (e, or-true)
+
+  -- the neighbours of a tree of f(rank) are held
+  pub neighbour-held : (k : ℕ) → holds table rank k ≡ true → (f : ℕ) → f < faceCount (shapeOf (meshCore mesh k)) → partHolds (cutPart mesh table rank) (neighbourOf (meshCore mesh k) f) ≡ true
+  neighbour-held k e f h =
+      let m : ℕ = neighbourOf (meshCore mesh k) f in
+      let w = cuttable-fits mesh table rank ok bytes in
+      let b : m < K = neighbour-below mesh (ok .mesh-sound) k (local-below k e) f h in
+      neighbour-cases k e f (omega (arith, count-six (shapeOf (meshCore mesh k))))
+      (λ u. absurd (omega arith))
+      (λ l t. tree-held m t)
+      (λ l t g. ghost-held m l g)
+
+  -- a link between two records held obeys the rule
+  link-held : (k : ℕ) → partHolds part k ≡ true → (f : ℕ) → f < faceCount (shapeOf (meshCore mesh k)) → partHolds part (neighbourOf (meshCore mesh k) f) ≡ true → linkOk (partCore part) k f ≡ true
+  link-held k e f h t =
+      link-same (partCore part) (meshCore mesh) k f (cut-core k e) (cut-core (neighbourOf (meshCore mesh k) f) t) ∙ sound-link mesh (ok .mesh-sound) k (held-below k e) f h
+
+  tree-link : (k : ℕ) → holds table rank k ≡ true → (f : ℕ) → f < faceCount (shapeOf (meshCore mesh k)) → treeLink (partFirst part) (partCount part) (partGhostCount part) (globalTree part) (storedGhost part) k f ≡ true
+  unfolding partHolds partCore
+  tree-link k e f h =
+      let t = neighbour-held k e f h in
+      let same : neighbourOf (partCore part k) f ≡ neighbourOf (meshCore mesh k) f = ap (λ (r : List ℕ). neighbourOf r f) (cut-core k (tree-held k e)) in
+      tree-link-make _ _ _ _ _ k f (ap (partHolds part) same ∙ t) (link-held k (tree-held k e) f h t)
+
+  tree-sound : (i : ℕ) → i < n → TreeView (partFirst part) (partCount part) (partGhostCount part) (globalTree part) (storedGhost part) (partDimension part) i
+  tree-sound i h =
+      let k : ℕ = first + i in
+      let t : holds table rank k ≡ true = range-local i h in
+      let l : k < K = local-below k t in
+      let s = ok .mesh-sound in
+      let c : globalTree part i ≡ meshCore mesh k = cut-global i h in
+      let e : partFirst part + i ≡ k = ap (λ (m : ℕ). m + i) (cut-first mesh table rank ok bytes) in
+      record {
+        form = rw (e, c) (sound-form mesh s k l);
+        number = rw (e, c) (sound-number mesh s k l);
+        shape = rw (cut-dimension mesh table rank ok bytes, c) (sound-shape mesh s k l);
+        links = λ f p. rw e (tree-link k t f (rw c at p));
+      }
+
+  ghost-link : (k : ℕ) → k < K → ghost k ≡ true → (f : ℕ) → f < faceCount (shapeOf (meshCore mesh k)) → ghostLink (partFirst part) (partCount part) (partGhostCount part) (globalTree part) (storedGhost part) (partK part) k f ≡ true
+  unfolding partHolds partCore
+  ghost-link k l t f h =
+      let e : partHolds part k ≡ true = ghost-held k l t in
+      let c : partCore part k ≡ meshCore mesh k = cut-core k e in
+      let same : neighbourOf (partCore part k) f ≡ neighbourOf (meshCore mesh k) f = ap (λ (r : List ℕ). neighbourOf r f) c in
+      let link : linkOk (meshCore mesh) k f ≡ true = sound-link mesh (ok .mesh-sound) k l f h in
+      let below : neighbourOf (meshCore mesh k) f < K = neighbour-below mesh (ok .mesh-sound) k l f h in
+      ghost-link-make _ _ _ _ _ k f (partK part) (λ p. link-held k e f h (ap (partHolds part) (sym same) ∙ p))
+      (omega (arith, same, cut-K mesh table rank ok bytes))
+      (ap (λ (r : List ℕ). orientationOk r f) c ∙ orientation-of (meshCore mesh) k f link)
+
+  after-is : (j : ℕ) → j < ghostCount mesh table rank → ghostAfter (partFirst part) (partCount part) (partGhostCount part) (globalTree part) (storedGhost part) j ≡ true
+  unfolding ghostAfter ghostCount
+  after-is j h =
+      either (eqb j 0) (λ e. rw e)
+      (λ e.
+      let z : 0 < j = omega (arith, eqb-false j 0 e) in
+      let a = cut-ghost mesh table rank ok bytes (j - 1) (omega arith) in
+      let b = cut-ghost mesh table rank ok bytes j h in
+      let la = ghost-found (meshCore mesh) table rank K (j - 1) 0 (omega arith) .0 in
+      let lb = ghost-found (meshCore mesh) table rank K j 0 h .0 in
+      rw (e, a, b, sound-number mesh (ok .mesh-sound) (number (j - 1)) la, sound-number mesh (ok .mesh-sound) (number j) lb)
+      (lt-ltb (number (j - 1)) (number j) (ghosts-ascend (meshCore mesh) table rank K (j - 1) j 0 (omega arith) h)))
+
+  beside-is : (j : ℕ) → j < ghostCount mesh table rank → ghostBeside (partFirst part) (partCount part) (partGhostCount part) (globalTree part) (storedGhost part) j ≡ true
+  unfolding ghostBeside ghostCount isGhost
+  beside-is j h =
+      let k : ℕ = number j in
+      let t = ghost-found (meshCore mesh) table rank K j 0 h .1 in
+      let c : storedGhost part j ≡ meshCore mesh k = cut-ghost mesh table rank ok bytes j h in
+      rw c
+      (any-same (faceCount (shapeOf (meshCore mesh k))) (λ f. isTree (neighbourOf (meshCore mesh k) f)) (λ f. holds table rank (neighbourOf (meshCore mesh k) f)) (λ f p. tree-is (neighbourOf (meshCore mesh k) f))
+      ∙ and-snd (not (holds table rank k)) (anyBelow (faceCount (shapeOf (meshCore mesh k))) (λ f. holds table rank (neighbourOf (meshCore mesh k) f))) t)
+
+  ghost-sound : (j : ℕ) → j < ghostCount mesh table rank → GhostView (partFirst part) (partCount part) (partGhostCount part) (globalTree part) (storedGhost part) (partDimension part) (partK part) j
+  unfolding ghostCount isGhost
+  ghost-sound j h =
+      let k : ℕ = number j in
+      let w = ghost-found (meshCore mesh) table rank K j 0 h in
+      let s = ok .mesh-sound in
+      let c : storedGhost part j ≡ meshCore mesh k = cut-ghost mesh table rank ok bytes j h in
+      let e : numberOf (meshCore mesh k) ≡ k = sound-number mesh s k (w .0) in
+      record {
+        form = rw (c, e) (sound-form mesh s k (w .0));
+        below = rw (c, e, cut-K mesh table rank ok bytes) (w .0);
+        outside = rw (c, e, tree-is k) (not-true (holds table rank k) (and-fst (not (holds table rank k)) _ (w .1)));
+        after = after-is j h;
+        shape = rw (cut-dimension mesh table rank ok bytes, c) (sound-shape mesh s k (w .0));
+        beside = beside-is j h;
+        links = λ f p. rw (c, e) (ghost-link k (w .0) (w .1) f (rw c at p));
+      }
+
+  -- a cut part is sound
+  pub cut-sound : partSound (cutPart mesh table rank) table rank ≡ true
+  unfolding partSound
+  cut-sound =
+      let w = cuttable-fits mesh table rank ok bytes in
+      let l : length part ≡ partSize (partCount part) (partGhostCount part) = rw (cut-count mesh table rank ok bytes, cut-ghosts mesh table rank ok bytes) (cut-length mesh table rank (ok .mesh-sound) (w .rises) (w .within)) in
+      rw (header-sound, eq-eqb (length part) _ l)
+      (view-make (partFirst part) (partCount part) (partGhostCount part) (globalTree part) (storedGhost part) (partDimension part) (partK part)
+      (λ i h. tree-sound i (rw (cut-count mesh table rank ok bytes) at h))
+      (λ j h. ghost-sound j (rw (cut-ghosts mesh table rank ok bytes) at h)))
 
 -- ---- two parts of one mesh
 

@@ -7,5 +7,6 @@ pub mod Writing
 pub mod Trees
 pub mod Parts
 pub mod CutRead
+pub mod Views
 pub mod Renamed
 pub mod CutSound

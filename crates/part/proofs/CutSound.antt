@@ -170,7 +170,8 @@ module _ (mesh table : List ℕ) (rank : ℕ) (ok : Cuttable mesh table rank) (m
 
   -- ---- the records held
 
-  range-local : (i : ℕ) → i < n → holds table rank (first + i) ≡ true
+  -- the trees of f(rank)
+  pub range-local : (i : ℕ) → i < treeCount table rank → holds table rank (firstTree table rank + i) ≡ true
   unfolding holds
   range-local i h = let d = cut-end mesh table rank ok bytes in and-intro (leb first (first + i)) _ (le-leb first (first + i) (omega arith)) (lt-ltb (first + i) (endTree table rank) (omega arith))
 

@@ -10,3 +10,4 @@ pub mod CutRead
 pub mod Views
 pub mod Renamed
 pub mod CutSound
+pub mod CutLinks

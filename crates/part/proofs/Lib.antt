@@ -11,3 +11,4 @@ pub mod Views
 pub mod Renamed
 pub mod CutSound
 pub mod CutLinks
+pub mod SoundParts

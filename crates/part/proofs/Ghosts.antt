@@ -13,7 +13,7 @@ use Rattle.records.specs.Shape.{faceCount}
 use Rattle.records.specs.Record.{shapeOf, neighbourOf}
 use Rattle.mesh.specs.Mesh.{meshTrees, meshCore, meshSound, faceNeighbour}
 use Rattle.mesh.proofs.Soundness.{neighbour-below, neighbours-both}
-use Rattle.part.specs.Ghosts.{isGhost, ghostsOf, ghostPosition}
+use Rattle.part.specs.Ghosts.{isGhost, ghostsOf, ghostPosition, besideRank}
 
 module _ (core : ℕ → List ℕ) (table : List ℕ) (rank : ℕ) where
   -- the list has the ghosts below K and nothing else
@@ -47,17 +47,13 @@ module _ (core : ℕ → List ℕ) (table : List ℕ) (rank : ℕ) where
       → getD (ghostsOf core table rank K) i d ≡ getD (ghostsOf core table rank K) j d → i ≡ j
   ghost-once K i j d h l e = sym (ghost-found K i d h .2) ∙ ap (ghostPosition core table rank) e ∙ ghost-found K j d l .2
 
--- some tree of f(rank) has k as a face neighbour
-unfoldable pub besideRank : List ℕ → List ℕ → ℕ → ℕ → Bool
-besideRank m table rank k = anyBelow (meshTrees m) (λ n. holds table rank n && faceNeighbour (meshCore m) n k)
-
 module _ (m : List ℕ) (sound : meshSound m ≡ true) (table : List ℕ) (rank : ℕ) where
   module _ (k : ℕ) (tree : k < meshTrees m) where
     links : Bool
     links = anyBelow (faceCount (shapeOf (meshCore m k))) (λ f. holds table rank (neighbourOf (meshCore m k) f))
 
     -- a link of k into f(rank) is answered by a link of a tree of f(rank) to k
-    to : links ≡ true → besideRank m table rank k ≡ true
+    to : links ≡ true → besideRank (meshCore m) table rank (meshTrees m) k ≡ true
     unfolding links besideRank faceNeighbour
     to e =
         let a = any-at (faceCount (shapeOf (meshCore m k))) (λ f. holds table rank (neighbourOf (meshCore m k) f)) e in
@@ -67,7 +63,7 @@ module _ (m : List ℕ) (sound : meshSound m ≡ true) (table : List ℕ) (rank 
         any-intro (meshTrees m) (λ n. holds table rank n && faceNeighbour (meshCore m) n k) n l
         (and-intro (holds table rank n) (faceNeighbour (meshCore m) n k) (a .2) (neighbours-both m sound n k l tree ∙ t))
 
-    back : besideRank m table rank k ≡ true → links ≡ true
+    back : besideRank (meshCore m) table rank (meshTrees m) k ≡ true → links ≡ true
     unfolding links besideRank faceNeighbour
     back e =
         let b = any-at (meshTrees m) (λ n. holds table rank n && faceNeighbour (meshCore m) n k) e in
@@ -79,10 +75,10 @@ module _ (m : List ℕ) (sound : meshSound m ≡ true) (table : List ℕ) (rank 
         (rw q (and-fst (holds table rank n) (faceNeighbour (meshCore m) n k) (b .2)))
 
     -- a tree of a sound mesh is a ghost where it is outside f(rank) and a face neighbour of a tree of f(rank)
-    pub ghost-is : isGhost (meshCore m) table rank k ≡ (not (holds table rank k) && besideRank m table rank k)
+    pub ghost-is : isGhost (meshCore m) table rank k ≡ (not (holds table rank k) && besideRank (meshCore m) table rank (meshTrees m) k)
     unfolding isGhost links
-    ghost-is = ap (λ b. not (holds table rank k) && b) (iff-eq links (besideRank m table rank k) to back)
+    ghost-is = ap (λ b. not (holds table rank k) && b) (iff-eq links (besideRank (meshCore m) table rank (meshTrees m) k) to back)
 
   -- the list has those below K and nothing else
-  pub ghosts-exact : (k : ℕ) → member k (ghostsOf (meshCore m) table rank (meshTrees m)) ≡ (ltb k (meshTrees m) && (not (holds table rank k) && besideRank m table rank k))
+  pub ghosts-exact : (k : ℕ) → member k (ghostsOf (meshCore m) table rank (meshTrees m)) ≡ (ltb k (meshTrees m) && (not (holds table rank k) && besideRank (meshCore m) table rank (meshTrees m) k))
   ghosts-exact k = ghost-member (meshCore m) table rank (meshTrees m) k ∙ either (ltb k (meshTrees m)) (λ p. rw (p, ghost-is k (ltb-true _ _ p))) (λ p. rw p)

@@ -6,3 +6,9 @@ pub mod Cutting
 pub mod Writing
 pub mod Trees
 pub mod Parts
+pub mod CutRead
+pub mod Views
+pub mod Renamed
+pub mod CutSound
+pub mod CutLinks
+pub mod SoundParts

@@ -1,14 +1,17 @@
 -- For a local index and a face: the shape, and one of boundary, unused, a local tree or a ghost, with face and orientation.
-use Prim.Native.Nat.{ℕ}
+use Prim.Native.Nat.{ℕ, _+_, _-_}
 use mathlib.Core.Bool.{Bool, cond}
 use mathlib.Core.List.{List}
 use lib.Dec.{leb, ltb}
+use Rattle.offsets.specs.Table.{firstTree, treeCount, holds}
 use Rattle.records.specs.declared.index.LocalIndex.{LocalIndex}
 use Rattle.records.specs.Shape.{faceCount}
 use Rattle.records.specs.Record.{shapeOf, neighbourOf, faceOf, orientationOf, toItself}
+use Rattle.mesh.specs.Mesh.{meshCore}
 use Rattle.part.specs.declared.neighbour.Across.{Across}
 use Rattle.part.specs.declared.neighbour.Link.{Link}
 use Rattle.part.specs.declared.neighbour.Link.the-variants.{Boundary, Unused, Local, Ghost}
+use Rattle.part.specs.Ghosts.{ghostPosition}
 use Rattle.part.specs.Part.{partCount, storedTree}
 
 -- the number of each case
@@ -36,3 +39,14 @@ linkOf part i f =
     (cond (ltb (neighbourOf (storedTree part i) f) (partCount part))
     (Local (across (neighbourOf (storedTree part i) f) (faceOf (storedTree part i) f) (orientationOf (storedTree part i) f)))
     (Ghost (across (neighbourOf (storedTree part i) f) (faceOf (storedTree part i) f) (orientationOf (storedTree part i) f)))))
+
+-- the same of a part cut out of a whole mesh, by the mesh alone: with k the tree's number, a neighbour in f(rank) is a local tree, every other a ghost
+unfoldable pub meshLink : List ℕ → List ℕ → ℕ → ℕ → ℕ → Link
+meshLink mesh table rank i f =
+    let k : ℕ = firstTree table rank + i in
+    let r : List ℕ = meshCore mesh k in
+    cond (leb (faceCount (shapeOf r)) f) (Unused (across 0 0 0))
+    (cond (toItself k r f) (Boundary (across i f 0))
+    (cond (holds table rank (neighbourOf r f))
+    (Local (across (neighbourOf r f - firstTree table rank) (faceOf r f) (orientationOf r f)))
+    (Ghost (across (treeCount table rank + ghostPosition (meshCore mesh) table rank (neighbourOf r f)) (faceOf r f) (orientationOf r f)))))

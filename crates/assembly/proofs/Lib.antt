@@ -3,3 +3,4 @@ pub mod Examples
 pub mod Joined
 pub mod Heard
 pub mod Zones
+pub mod Sound

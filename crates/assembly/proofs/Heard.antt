@@ -2,7 +2,7 @@
 use Prim.Native.Nat.{ℕ, zero, suc, _+_, _-_, _*_, _/_, _%_, _^_, _<_}
 use native.Mathlib.Nat.{one-le-pow, mod-one, mod-lt, mod-eq-of-lt, div-eq-of-lt, add-div-right, add-mul-div-right}
 use native.Mathlib.Omega.{arith}
-use mathlib.Core.Path.{_≡_, refl, ap, _∙_}
+use mathlib.Core.Path.{_≡_, refl, sym, ap, _∙_}
 use mathlib.Core.Bool.{Bool, true, false, cond}
 use mathlib.Core.List.{List, _++_}
 use lib.Dec.{eqb}
@@ -13,6 +13,7 @@ use Rattle.encoding.specs.Numbers.{leBytes}
 use Rattle.encoding.proofs.Below.{either, below-suc, sum-same}
 use Rattle.bits.specs.Bits.{bitOf}
 use Rattle.assembly.specs.Layout.{wordOf, wordsOf, slotsOf}
+use Rattle.assembly.proofs.Joined.{slots-same}
 
 -- bit b as a number, where h has it
 abbrev power : (ℕ → Bool) → ℕ → ℕ
@@ -109,3 +110,10 @@ pub word-same : (H₁ H₂ : ℕ → Bool) (w : ℕ) → ((b : ℕ) → b < 64 �
 unfolding wordOf
 word-same H₁ H₂ w e =
     sum-same 64 (power (λ b. H₁ (64 * w + b))) (power (λ b. H₂ (64 * w + b))) (λ b l. ap (λ (t : Bool). cond t (2 ^ b) 0) (e b l))
+
+-- n words depend on the senders below 64 n
+pub words-same : (H₁ H₂ : ℕ → Bool) (n : ℕ) → ((s : ℕ) → s < 64 * n → H₁ s ≡ H₂ s) → wordsOf H₁ n ≡ wordsOf H₂ n
+words-same H₁ H₂ n e =
+    words-slots H₁ n
+    ∙ (slots-same (λ w. leBytes 8 (wordOf H₁ w)) (λ w. leBytes 8 (wordOf H₂ w)) n (λ w h. ap (leBytes 8) (word-same H₁ H₂ w (λ b l. e (64 * w + b) (omega arith))))
+    ∙ sym (words-slots H₂ n))

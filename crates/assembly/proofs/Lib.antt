@@ -2,3 +2,4 @@
 pub mod Joined
 pub mod Heard
 pub mod Zones
+pub mod Sound

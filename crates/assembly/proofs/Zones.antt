@@ -2,7 +2,7 @@
 use Prim.Native.Nat.{ℕ, _+_, _-_, _*_, _/_, _%_, _≤_, _<_}
 use native.Mathlib.Nat.{add-zero, mul-le-mul, mod-lt}
 use native.Mathlib.Omega.{arith}
-use mathlib.Core.Path.{_≡_, refl, sym, ap, _∙_}
+use mathlib.Core.Path.{_≡_, refl, sym, ap, ap₂, _∙_}
 use mathlib.Core.Bool.{Bool, true}
 use mathlib.Core.List.{List, [], _∷_, _++_, append-assoc, append-nil}
 use lib.Dec.{eqb}
@@ -23,8 +23,8 @@ use Rattle.pattern.specs.Sender.{Tables}
 use Rattle.mesh.specs.Mesh.{dimensionOk}
 use Rattle.assembly.specs.Layout.{heardWords, ghostBound, newPlace, wordsPlace, slotsPlace, ghostSlotsPlace, areaSize, areaHeaderBytes, wordOf, wordsOf, slotsOf, areaWith}
 use Rattle.assembly.specs.Area.{areaEpoch, areaDimension, areaK, areaP, areaRank, areaCount, areaGhosts, areaOld, areaNew, areaFirst, heard, treeSlot, treeSlotCore, ghostSlot, behindArea}
-use Rattle.assembly.proofs.Joined.{piece-first, piece-behind, piece-start, piece-replicate, words, word-at, slots-length, slots-at}
-use Rattle.assembly.proofs.Heard.{word-small, word-bit, words-slots}
+use Rattle.assembly.proofs.Joined.{piece-first, piece-behind, piece-start, piece-replicate, words, word-at, slots-length, slots-at, slots-same}
+use Rattle.assembly.proofs.Heard.{word-small, word-bit, words-slots, words-same}
 
 -- ---- the limits
 
@@ -81,6 +81,34 @@ pub record Zones (epoch dimension : ℕ) (old new : List ℕ) (rank : ℕ) (slot
   pub ghosts-long : length ghosts ≡ coreSize * g
   pub ghosts-fit : g ≤ ghostBound (facesIn dimension) (treeCount new rank)
 
+-- what is read from an area with these zones
+pub record Reads (a : List ℕ) (epoch dimension : ℕ) (old new : List ℕ) (rank : ℕ) (H : ℕ → Bool) (slot : ℕ → List ℕ) (g : ℕ) (ghosts tail : List ℕ) : Type 0 where
+  pub at-length : areaSize dimension (ranks old) (treeCount new rank) ≤ length a
+  pub at-epoch : areaEpoch a ≡ epoch
+  pub at-dimension : areaDimension a ≡ dimension
+  pub at-K : areaK a ≡ trees old
+  pub at-P : areaP a ≡ ranks old
+  pub at-rank : areaRank a ≡ rank
+  pub at-count : areaCount a ≡ treeCount new rank
+  pub at-ghosts : areaGhosts a ≡ g
+  pub at-last : u32At a 28 ≡ 0
+  pub at-old : areaOld a ≡ old
+  pub at-new : areaNew a ≡ new
+  pub at-first : areaFirst a ≡ firstTree new rank
+  pub at-heard : (s : ℕ) → s < 64 * heardWords (ranks old) → heard a s ≡ H s
+  pub at-slot : (i : ℕ) → i < treeCount new rank → treeSlot a i ≡ slot i
+  pub at-core : (i : ℕ) → i < treeCount new rank → treeSlotCore a i ≡ piece (slot i) 0 coreSize
+  pub at-ghost : (j : ℕ) → j < g → ghostSlot a j ≡ piece ghosts (coreSize * j) coreSize
+  pub at-empty : (j : ℕ) → g ≤ j → j < ghostBound (facesIn dimension) (treeCount new rank) → ghostSlot a j ≡ replicate coreSize 0
+  pub at-behind : behindArea a ≡ tail
+
+-- P and K are within their limits
+pub few-ranks : (old new : List ℕ) → Tables old new → ranks old ≤ maxRanks
+few-ranks old new T = ranks-high old (T .oldBytes) (T .oldRanks) (T .oldValid)
+
+pub few-trees : (old new : List ℕ) → Tables old new → trees old ≤ maxTrees
+few-trees old new T = trees-high old (T .oldBytes) (T .oldRanks) (T .oldValid)
+
 -- the new range of a rank
 module _ (old new : List ℕ) (rank : ℕ) (T : Tables old new) (r : rank < ranks old) where
   -- it ends at most at K
@@ -90,8 +118,9 @@ module _ (old new : List ℕ) (rank : ℕ) (T : Tables old new) (r : rank < rank
       let k = T .sameTrees in
       omega (arith, count-add new (T .newBytes) (T .newRanks) (T .newValid) rank (omega arith), end-trees new (T .newBytes) (T .newRanks) (T .newValid) rank (omega arith))
 
+  -- so it is within the limit
   pub few-count : treeCount new rank ≤ maxTrees
-  few-count = omega (arith, range-end, trees-high old (T .oldBytes) (T .oldRanks) (T .oldValid))
+  few-count = omega (arith, range-end, few-trees old new T)
 
 module _ (epoch dimension : ℕ) (old new : List ℕ) (rank : ℕ) (H : ℕ → Bool) (slot : ℕ → List ℕ) (g : ℕ) (ghosts tail : List ℕ) (Z : Zones epoch dimension old new rank slot g ghosts) where
   abbrev T : Tables old new
@@ -128,12 +157,6 @@ module _ (epoch dimension : ℕ) (old new : List ℕ) (rank : ℕ) (H : ℕ → 
   zones : area ≡ header ++ (old ++ (new ++ behindNew))
   unfolding areaWith
   zones = simp append-assoc
-
-  few-ranks : P ≤ maxRanks
-  few-ranks = ranks-high old (T .oldBytes) (T .oldRanks) (T .oldValid)
-
-  few-trees : trees old ≤ maxTrees
-  few-trees = trees-high old (T .oldBytes) (T .oldRanks) (T .oldValid)
 
   -- ---- how long they are
 
@@ -178,15 +201,15 @@ module _ (epoch dimension : ℕ) (old new : List ℕ) (rank : ℕ) (H : ℕ → 
 
   pub read-K : areaK (areaWith epoch dimension old new rank H slot g ghosts ++ tail) ≡ trees old
   unfolding areaK
-  read-K = number-at 2 (omega arith) (omega (arith, few-trees))
+  read-K = number-at 2 (omega arith) (omega (arith, few-trees old new T))
 
   pub read-P : areaP (areaWith epoch dimension old new rank H slot g ghosts ++ tail) ≡ ranks old
   unfolding areaP
-  read-P = number-at 3 (omega arith) (omega (arith, few-ranks))
+  read-P = number-at 3 (omega arith) (omega (arith, few-ranks old new T))
 
   pub read-rank : areaRank (areaWith epoch dimension old new rank H slot g ghosts ++ tail) ≡ rank
   unfolding areaRank
-  read-rank = number-at 4 (omega arith) (omega (arith, few-ranks, Z .is-rank))
+  read-rank = number-at 4 (omega arith) (omega (arith, few-ranks old new T, Z .is-rank))
 
   pub read-count : areaCount (areaWith epoch dimension old new rank H slot g ghosts ++ tail) ≡ treeCount new rank
   unfolding areaCount
@@ -288,3 +311,49 @@ module _ (epoch dimension : ℕ) (old new : List ℕ) (rank : ℕ) (H : ℕ → 
   read-behind =
       rw (read-dimension, read-P, read-count)
       (drop-at (areaWith epoch dimension old new rank H slot g ghosts) tail (areaSize dimension P n) area-length)
+
+  -- all of it
+  pub area-reads : Reads (areaWith epoch dimension old new rank H slot g ghosts ++ tail) epoch dimension old new rank H slot g ghosts tail
+  area-reads =
+      record {
+        at-length = rw (length-append, area-length) (omega arith);
+        at-epoch = read-epoch;
+        at-dimension = read-dimension;
+        at-K = read-K;
+        at-P = read-P;
+        at-rank = read-rank;
+        at-count = read-count;
+        at-ghosts = read-ghosts;
+        at-last = read-last;
+        at-old = read-old;
+        at-new = read-new;
+        at-first = read-first;
+        at-heard = read-heard;
+        at-slot = read-slot;
+        at-core = read-core;
+        at-ghost = read-ghost;
+        at-empty = read-empty;
+        at-behind = read-behind;
+      }
+
+-- ---- what an area depends on
+
+-- the senders that have a bit, and the slots of the rank's trees
+pub area-same : (epoch dimension : ℕ) (old new : List ℕ) (rank : ℕ) (H₁ H₂ : ℕ → Bool) (slot₁ slot₂ : ℕ → List ℕ) (g : ℕ) (ghosts : List ℕ)
+    → ((s : ℕ) → s < 64 * heardWords (ranks old) → H₁ s ≡ H₂ s) → ((i : ℕ) → i < treeCount new rank → slot₁ i ≡ slot₂ i)
+    → areaWith epoch dimension old new rank H₁ slot₁ g ghosts ≡ areaWith epoch dimension old new rank H₂ slot₂ g ghosts
+unfolding areaWith
+area-same epoch dimension old new rank H₁ H₂ slot₁ slot₂ g ghosts eH eS =
+    ap₂
+    (λ (ws ts : List ℕ). areaHeaderBytes epoch dimension (trees old) (ranks old) rank (treeCount new rank) g
+    ++ (old ++ (new ++ (ws ++ (ts ++ (ghosts ++ replicate (coreSize * (ghostBound (facesIn dimension) (treeCount new rank) - g)) 0))))))
+    (words-same H₁ H₂ (heardWords (ranks old)) eH) (slots-same slot₁ slot₂ (treeCount new rank) eS)
+
+-- equal areas have heard the same senders
+pub area-heard : (epoch dimension : ℕ) (old new : List ℕ) (rank : ℕ) (H₁ H₂ : ℕ → Bool) (slot₁ slot₂ : ℕ → List ℕ) (g₁ g₂ : ℕ) (ghosts₁ ghosts₂ : List ℕ)
+    → Zones epoch dimension old new rank slot₁ g₁ ghosts₁ → Zones epoch dimension old new rank slot₂ g₂ ghosts₂
+    → areaWith epoch dimension old new rank H₁ slot₁ g₁ ghosts₁ ≡ areaWith epoch dimension old new rank H₂ slot₂ g₂ ghosts₂
+    → (s : ℕ) → s < 64 * heardWords (ranks old) → H₁ s ≡ H₂ s
+area-heard epoch dimension old new rank H₁ H₂ slot₁ slot₂ g₁ g₂ ghosts₁ ghosts₂ Z₁ Z₂ e s h =
+    sym (read-heard epoch dimension old new rank H₁ slot₁ g₁ ghosts₁ [] Z₁ s h)
+    ∙ (ap (λ (a : List ℕ). heard (a ++ []) s) e ∙ read-heard epoch dimension old new rank H₂ slot₂ g₂ ghosts₂ [] Z₂ s h)

@@ -6,3 +6,4 @@ pub mod Cutting
 pub mod Writing
 pub mod Trees
 pub mod Parts
+pub mod Global

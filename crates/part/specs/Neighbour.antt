@@ -34,5 +34,5 @@ linkOf part i f =
     cond (leb (faceCount (shapeOf (storedTree part i))) f) (Unused (across 0 0 0))
     (cond (toItself i (storedTree part i) f) (Boundary (across i f 0))
     (cond (ltb (neighbourOf (storedTree part i) f) (partCount part))
-      (Local (across (neighbourOf (storedTree part i) f) (faceOf (storedTree part i) f) (orientationOf (storedTree part i) f)))
-      (Ghost (across (neighbourOf (storedTree part i) f) (faceOf (storedTree part i) f) (orientationOf (storedTree part i) f)))))
+    (Local (across (neighbourOf (storedTree part i) f) (faceOf (storedTree part i) f) (orientationOf (storedTree part i) f)))
+    (Ghost (across (neighbourOf (storedTree part i) f) (faceOf (storedTree part i) f) (orientationOf (storedTree part i) f)))))

@@ -7,3 +7,5 @@ pub mod Writing
 pub mod Trees
 pub mod Parts
 pub mod Global
+pub mod Judging
+pub mod Checking

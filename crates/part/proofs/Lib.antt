@@ -12,3 +12,6 @@ pub mod Renamed
 pub mod CutSound
 pub mod CutLinks
 pub mod SoundParts
+pub mod Global
+pub mod Judging
+pub mod Checking

@@ -11,6 +11,7 @@ use records::index::GlobalIndex;
 pub mod cut;
 pub mod inner;
 pub mod neighbour;
+pub mod sound;
 
 // How long the part of a whole mesh for a table and a rank is (2, 3, 5, 7).
 pub fn part_length(mesh: &[u8], table: &[u8], rank: u32) -> Length

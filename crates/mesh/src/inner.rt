@@ -1,13 +1,15 @@
 // For the crates above: reading a whole mesh, and the rule of a link between two records in a buffer. No calls for users.
 ghost use mathlib.Core.Path.{_≡_};
 ghost use mathlib.Core.Bool.{true};
-ghost use Prim.Native.Nat.{_+_, _*_, _≤_, _<_};
+ghost use Prim.Native.Nat.{_+_, _*_, _/_, _%_, _≤_, _<_};
 ghost use lib.ListN.{length};
 ghost use Rattle.encoding.specs.Below.{allBelow};
 ghost use Rattle.encoding.specs.Pieces.{piece};
+ghost use Rattle.records.specs.Shape.{facesIn};
 ghost use Rattle.records.specs.Record.{coreSize, treeSize};
 ghost use Rattle.mesh.specs.Link.{orientationOk, sameCorners, answered as answeredBy};
-ghost use Rattle.mesh.specs.Mesh.{meshHeader, meshDimension, meshTrees, dimensionOk, meshCore, faceSound, treeSound, headerSound, meshSound};
+ghost use Rattle.mesh.specs.Mesh.{meshHeader, meshDimension, meshTrees, dimensionOk, meshCore, headerSound, meshSound};
+ghost use Rattle.mesh.specs.Mirror.{cornerWord, cornersIn, cornersQuick, answeredQuick, faceQuick, treeQuick};
 
 pub fn dimension(mesh: &[u8]) -> u32
     requires { ⌜ meshHeader ≤ length (now mesh) ⌝ }
@@ -67,10 +69,71 @@ pub fn answered(bs: &[u8], k: u32, at: usize, face: u32, to: usize) -> bool
         & (records::orientation_of(bs, to, there) == orientation)
 }
 
+// The fast check of one link, by the mesh's dimension and not by the shapes of the two records. For a mesh all of whose records have that dimension it says the same (proofs/Quick.antt).
+
+// The neighbour's face of a code, by F of the dimension.
+fn face_in(dimension: u32, code: u32) -> u32
+    ensures { λ r. ⌜ (r ≡ code % facesIn dimension) × (r < 6) ⌝ }
+{
+    if dimension == 2 {
+        return code % 4;
+    }
+    code % 6
+}
+
+fn orientation_in(dimension: u32, code: u32) -> u32
+    ensures { λ r. ⌜ r ≡ code / facesIn dimension ⌝ }
+{
+    if dimension == 2 {
+        return code / 4;
+    }
+    code / 6
+}
+
+// 12 bits for each shape of the dimension, 2 for each face: one less than its corners.
+fn corner_word(dimension: u32) -> u64
+    ensures { λ r. ⌜ r ≡ cornerWord dimension ⌝ }
+{
+    if dimension == 2 {
+        return 86101;
+    }
+    11751017587391
+}
+
+// The corners of a face, 1 for one that isn't there.
+fn corners_in(dimension: u32, shape: u32, face: u32) -> u32
+    requires { ⌜ face < 6 ⌝ }
+    ensures { λ r. ⌜ r ≡ cornersIn dimension shape face ⌝ }
+{
+    let word = corner_word(dimension) >> (12 * (shape % 4) + 2 * face);
+    1 + ((word % 4) as u32)
+}
+
+fn corners_quick(bs: &[u8], dimension: u32, at: usize, face: u32, to: usize) -> bool
+    requires { ⌜ (at + coreSize ≤ length (now bs)) × (face < 6) × (to + coreSize ≤ length (now bs)) ⌝ }
+    ensures { λ r. ⌜ r ≡ cornersQuick dimension (piece (now (bs .entry)) at coreSize) face (piece (now (bs .entry)) to coreSize) ⌝ }
+{
+    let code = records::code_of(bs, at, face);
+    let own = corners_in(dimension, records::shape_of(bs, at), face);
+    let there = corners_in(dimension, records::shape_of(bs, to), face_in(dimension, code));
+    (orientation_in(dimension, code) < own) & (own == there)
+}
+
+// The neighbour's code is this one with the face in place of the neighbour's.
+fn answered_quick(bs: &[u8], dimension: u32, k: u32, at: usize, face: u32, to: usize) -> bool
+    requires { ⌜ (at + coreSize ≤ length (now bs)) × (face < 6) × (to + coreSize ≤ length (now bs)) ⌝ }
+    ensures { λ r. ⌜ r ≡ answeredQuick dimension k (piece (now (bs .entry)) at coreSize) face (piece (now (bs .entry)) to coreSize) ⌝ }
+{
+    let code = records::code_of(bs, at, face);
+    let there = face_in(dimension, code);
+    (records::neighbour_of(bs, to, there) == k)
+        & ((records::code_of(bs, to, there) as u64) + (there as u64) == (code as u64) + (face as u64))
+}
+
 // The neighbour's record is read only once its number is known to be below K.
-fn face_sound(mesh: &[u8], trees: u32, k: u32, face: u32) -> bool
+fn face_quick(mesh: &[u8], dimension: u32, trees: u32, k: u32, face: u32) -> bool
     requires { ⌜ (length (now mesh) ≡ meshHeader + treeSize * trees) × (k < trees) × (face < 6) ⌝ }
-    ensures { λ r. ⌜ r ≡ faceSound (meshCore (now (mesh .entry))) trees k face ⌝ }
+    ensures { λ r. ⌜ r ≡ faceQuick (meshCore (now (mesh .entry))) dimension trees k face ⌝ }
 {
     let at = tree_at(k);
     let n = records::neighbour_of(mesh, at, face);
@@ -78,18 +141,16 @@ fn face_sound(mesh: &[u8], trees: u32, k: u32, face: u32) -> bool
         return false;
     }
     let to = tree_at(n);
-    orientation_ok(mesh, at, face)
-        & same_corners(mesh, at, face, to)
-        & answered(mesh, k, at, face, to)
+    corners_quick(mesh, dimension, at, face, to) & answered_quick(mesh, dimension, k, at, face, to)
 }
 
-fn faces_sound(mesh: &[u8], trees: u32, k: u32, faces: u32) -> bool
+fn faces_quick(mesh: &[u8], dimension: u32, trees: u32, k: u32, faces: u32) -> bool
     requires { ⌜ (length (now mesh) ≡ meshHeader + treeSize * trees) × (k < trees) × (faces ≤ 6) ⌝ }
-    ensures { λ r. ⌜ r ≡ allBelow faces (faceSound (meshCore (now (mesh .entry))) trees k) ⌝ }
+    ensures { λ r. ⌜ r ≡ allBelow faces (faceQuick (meshCore (now (mesh .entry))) dimension trees k) ⌝ }
 {
     let mut face = 0;
     while face < faces {
-        if !face_sound(mesh, trees, k, face) {
+        if !face_quick(mesh, dimension, trees, k, face) {
             return false;
         }
         face += 1;
@@ -97,25 +158,25 @@ fn faces_sound(mesh: &[u8], trees: u32, k: u32, faces: u32) -> bool
     true
 }
 
-fn tree_sound(mesh: &[u8], dimension: u32, trees: u32, k: u32) -> bool
+fn tree_quick(mesh: &[u8], dimension: u32, trees: u32, k: u32) -> bool
     requires { ⌜ (length (now mesh) ≡ meshHeader + treeSize * trees) × (k < trees) ⌝ }
-    ensures { λ r. ⌜ r ≡ treeSound (meshCore (now (mesh .entry))) dimension trees k ⌝ }
+    ensures { λ r. ⌜ r ≡ treeQuick (meshCore (now (mesh .entry))) dimension trees k ⌝ }
 {
     let at = tree_at(k);
     let shape = records::shape_of(mesh, at);
     records::in_form(mesh, at, k)
         & (records::number_of(mesh, at) == k)
         & (records::dimension_of(shape) == dimension)
-        & faces_sound(mesh, trees, k, records::face_count(shape))
+        & faces_quick(mesh, dimension, trees, k, records::face_count(shape))
 }
 
-fn trees_sound(mesh: &[u8], dimension: u32, trees: u32) -> bool
+fn trees_quick(mesh: &[u8], dimension: u32, trees: u32) -> bool
     requires { ⌜ length (now mesh) ≡ meshHeader + treeSize * trees ⌝ }
-    ensures { λ r. ⌜ r ≡ allBelow trees (treeSound (meshCore (now (mesh .entry))) dimension trees) ⌝ }
+    ensures { λ r. ⌜ r ≡ allBelow trees (treeQuick (meshCore (now (mesh .entry))) dimension trees) ⌝ }
 {
     let mut k = 0;
     while k < trees {
-        if !tree_sound(mesh, dimension, trees, k) {
+        if !tree_quick(mesh, dimension, trees, k) {
             return false;
         }
         k += 1;
@@ -141,5 +202,5 @@ pub fn sound(mesh: &[u8]) -> bool
     if !header_sound(mesh) {
         return false;
     }
-    trees_sound(mesh, dimension(mesh), trees(mesh))
+    trees_quick(mesh, dimension(mesh), trees(mesh))
 }

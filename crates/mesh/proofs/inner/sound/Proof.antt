@@ -21,11 +21,11 @@ dimension-requires c κs = omega (arith, header-parts _ (sym (c .before .header-
 trees-requires : tie.Need-trees-requires
 trees-requires c κs = omega (arith, header-parts _ (sym (c .before .before .header-sound .ensures) ∙ not-false _ (c .before .if1 .left)) .2)
 
-trees-sound-requires : tie.Need-trees-sound-requires
-trees-sound-requires c κs = rw (c .trees .ensures) (header-parts _ (sym (c .before .before .before .header-sound .ensures) ∙ not-false _ (c .before .before .if1 .left)) .2)
+trees-quick-requires : tie.Need-trees-quick-requires
+trees-quick-requires c κs = rw (c .trees .ensures) (header-parts _ (sym (c .before .before .before .header-sound .ensures) ∙ not-false _ (c .before .before .if1 .left)) .2)
 
 returns-2 : tie.Need-returns-2
-returns-2 c = sound-read _ (sym (c .before .before .before .before .header-sound .ensures) ∙ not-false _ (c .before .before .before .if1 .left)) (c .before .before .dimension .ensures) (c .before .trees .ensures) (c .trees-sound .ensures)
+returns-2 c = sound-read _ (sym (c .before .before .before .before .header-sound .ensures) ∙ not-false _ (c .before .before .before .if1 .left)) (c .before .before .dimension .ensures) (c .before .trees .ensures) (c .trees-quick .ensures)
 
 pub sound-spec : {M : Type 1} → statement M
 sound-spec =
@@ -35,5 +35,5 @@ sound-spec =
     returns
     dimension-requires
     trees-requires
-    trees-sound-requires
+    trees-quick-requires
     returns-2)

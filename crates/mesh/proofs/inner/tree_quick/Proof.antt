@@ -1,7 +1,7 @@
 use Rattle.mesh.proofs.Checking.{tree-read}
 use borrow.Author.Needs.{needs}
-use Rattle.mesh.proofs.inner.tree_sound.Statement.{statement}
-use Rattle.mesh.proofs.inner.tree_sound.Tie as tie
+use Rattle.mesh.proofs.inner.tree_quick.Statement.{statement}
+use Rattle.mesh.proofs.inner.tree_quick.Tie as tie
 
 tree-at-requires : tie.Need-tree-at-requires
 tree-at-requires c κs = search needs
@@ -21,14 +21,14 @@ dimension-of-requires c κs = search needs
 face-count-requires : tie.Need-face-count-requires
 face-count-requires c κs = search needs
 
-faces-sound-requires : tie.Need-faces-sound-requires
-faces-sound-requires c κs = search needs
+faces-quick-requires : tie.Need-faces-quick-requires
+faces-quick-requires c κs = search needs
 
 returns : tie.Need-returns
-returns c = tree-read _ _ _ (c .before .before .before .before .before .before .tree-at .ensures) _ (c .before .before .before .before .before .shape-of .ensures) (c .before .before .before .before .in-form .ensures) (c .before .before .before .number-of .ensures) (c .before .before .dimension-of .ensures) (c .before .face-count .ensures .0) (c .faces-sound .ensures)
+returns c = tree-read _ _ _ _ (c .before .before .before .before .before .before .tree-at .ensures) (c .before .before .before .before .before .shape-of .ensures) (c .before .before .before .before .in-form .ensures) (c .before .before .before .number-of .ensures) (c .before .before .dimension-of .ensures) (c .before .face-count .ensures .0) (c .faces-quick .ensures)
 
-pub tree-sound-spec : {M : Type 1} → statement M
-tree-sound-spec =
+pub tree-quick-spec : {M : Type 1} → statement M
+tree-quick-spec =
     tie.close
     (tie.spec
     tree-at-requires
@@ -37,5 +37,5 @@ tree-sound-spec =
     number-of-requires
     dimension-of-requires
     face-count-requires
-    faces-sound-requires
+    faces-quick-requires
     returns)

@@ -1,0 +1,42 @@
+use Rattle.mesh.specs.Mirror.{cornersQuick}
+use borrow.Author.Needs.{needs}
+use Rattle.mesh.proofs.inner.corners_quick.Statement.{statement}
+use Rattle.mesh.proofs.inner.corners_quick.Tie as tie
+
+code-of-requires : tie.Need-code-of-requires
+code-of-requires c κs = search needs
+
+shape-of-requires : tie.Need-shape-of-requires
+shape-of-requires c κs = search needs
+
+corners-in-requires : tie.Need-corners-in-requires
+corners-in-requires c κs = search needs
+
+shape-of-requires-2 : tie.Need-shape-of-requires-2
+shape-of-requires-2 c κs = search needs
+
+face-in-requires : tie.Need-face-in-requires
+face-in-requires c κs = search needs
+
+corners-in-requires-2 : tie.Need-corners-in-requires-2
+corners-in-requires-2 c κs = search needs
+
+orientation-in-requires : tie.Need-orientation-in-requires
+orientation-in-requires c κs = search needs
+
+returns : tie.Need-returns
+unfolding cornersQuick
+returns c = rw (c .orientation-in .ensures, c .before .before .before .before .corners-in .ensures, c .before .corners-in2 .ensures, c .before .before .before .before .before .shape-of .ensures, c .before .before .before .shape-of2 .ensures, c .before .before .face-in .ensures .0, c .before .before .before .before .before .before .code-of .ensures)
+
+pub corners-quick-spec : {M : Type 1} → statement M
+corners-quick-spec =
+    tie.close
+    (tie.spec
+    code-of-requires
+    shape-of-requires
+    corners-in-requires
+    shape-of-requires-2
+    face-in-requires
+    corners-in-requires-2
+    orientation-in-requires
+    returns)

@@ -217,6 +217,7 @@ module _ (mesh table : List ℕ) (rank : ℕ) (ok : Cuttable mesh table rank) (b
   fits : CutFits mesh table rank
   fits = cuttable-fits mesh table rank ok bytes
 
+  -- so the header can hold them
   pub header-fits : HeaderFits mesh table rank
   unfolding treeCount ghostCount ghostPosition
   header-fits =
@@ -274,6 +275,7 @@ module _ (mesh table : List ℕ) (rank : ℕ) (ok : Cuttable mesh table rank) (b
   unfolding treeCount
   cut-end = let f = fits in omega arith
 
+  -- the trees are among the K
   pub cut-within : firstTree table rank + treeCount table rank ≤ meshTrees mesh
   cut-within = let f = fits in let e = cut-end in omega arith
 
@@ -328,6 +330,7 @@ module _ (mesh table : List ℕ) (rank : ℕ) (ok : Cuttable mesh table rank) (b
       ∙ cores-at mesh table rank (ok .mesh-sound) (meshTrees mesh) (le-refl (meshTrees mesh)) j h
 
   module _ (k : ℕ) (below : k < meshTrees mesh) (ghostly : isGhost (meshCore mesh) table rank k ≡ true) where
+    -- its position is below the number of ghosts
     pub position-below : ghostPosition (meshCore mesh) table rank k < ghostCount mesh table rank
     unfolding ghostCount ghostPosition
     position-below = count-lt k (meshTrees mesh) (isGhost (meshCore mesh) table rank) below ghostly

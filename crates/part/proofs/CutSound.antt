@@ -28,18 +28,13 @@ use Rattle.part.specs.Part.{partDimension, partK, partFirst, partCount, 
 use Rattle.part.proofs.Cutting.{Cuttable, cut-length}
 use Rattle.part.proofs.Ghosts.{ghost-at, ghost-found, ghosts-ascend}
 use Rattle.part.proofs.CutRead.{cuttable-fits, cut-dimension, cut-K, cut-ranks, cut-rank, cut-first, cut-count, cut-ghosts, cut-zero, cut-end, cut-within, cut-tree, cut-data, cut-ghost, position-below, cut-ghost-at, cut-ghost-number}
-use Rattle.part.proofs.Views.{tree-link-make, ghost-link-make, TreeView, GhostView, view-make}
+use Rattle.part.proofs.Views.{link-same, tree-link-make, ghost-link-make, TreeView, GhostView, view-make}
 use Rattle.part.proofs.Renamed.{renamed-number, renamed-back}
 
 -- k is in the range
 pub holds-range : (table : List ℕ) (rank k : ℕ) → holds table rank k ≡ true → (firstTree table rank ≤ k) × (k < endTree table rank)
 unfolding holds
 holds-range table rank k e = (leb-true _ _ (and-fst (leb (firstTree table rank) k) _ e), ltb-true _ _ (and-snd (leb (firstTree table rank) k) _ e))
-
--- a link's rule reads the records at both its ends
-pub link-same : (a b : ℕ → List ℕ) (k f : ℕ) → a k ≡ b k → a (neighbourOf (b k) f) ≡ b (neighbourOf (b k) f) → linkOk a k f ≡ linkOk b k f
-unfolding linkOk
-link-same a b k f e h = rw (e, h)
 
 -- a link that obeys the rule has an orientation below the corners of its face
 orientation-of : (core : ℕ → List ℕ) (k f : ℕ) → linkOk core k f ≡ true → orientationOk (core k) f ≡ true
@@ -247,6 +242,12 @@ module _ (mesh table : List ℕ) (rank : ℕ) (ok : Cuttable mesh table rank) (m
   held-below k e =
       let h : (holds table rank k || (ltb k K && ghost k)) ≡ true = sym (holds-is k) ∙ e in
       either (holds table rank k) (local-below k) (λ q. ltb-true _ _ (and-fst (ltb k K) (ghost k) (rw q at h)))
+
+  -- the number of a record held, renamed to a local index and back, is itself
+  pub index-back : (k : ℕ) → partHolds (cutPart mesh table rank) k ≡ true → globalIndex (cutPart mesh table rank) (localIndex mesh table rank k) ≡ k
+  index-back k e =
+      let h : (holds table rank k || (ltb k K && ghost k)) ≡ true = sym (holds-is k) ∙ e in
+      either (holds table rank k) (index-tree k) (λ q. index-ghost k (held-below k e) q (and-snd (ltb k K) (ghost k) (rw q at h)))
 
   -- each record held is the mesh's
   pub cut-core : (k : ℕ) → partHolds (cutPart mesh table rank) k ≡ true → partCore (cutPart mesh table rank) k ≡ meshCore mesh k

@@ -1,28 +1,33 @@
 -- Laws of sound parts: what whoever reads one may take for granted.
-use Prim.Native.Nat.{ℕ, zero, suc, _+_, _-_, _*_, _≤_, _<_}
+use Prim.Native.Nat.{ℕ, _+_, _-_, _≤_, _<_}
+use native.Mathlib.Nat.{zero-add}
 use native.Mathlib.Omega.{arith}
-use mathlib.Core.Path.{_≡_, refl, sym, ap, ap₂, _∙_}
-use mathlib.Core.Bool.{Bool, true, false, cond, not, _&&_, _||_, and-false}
+use mathlib.Core.Path.{_≡_, sym, ap, fun-ext, _∙_}
+use mathlib.Core.Bool.{Bool, true, false, not, _&&_, and-false}
 use mathlib.Core.List.{List}
 use lib.Dec.{leb, ltb, eqb}
 use lib.ListN.{length}
-use borrow.Author.Tests.{ltb-true, leb-true, eqb-true, le-leb, lt-ltb, le-ltb, eq-eqb, ne-eqb, not-true}
-use Rattle.encoding.specs.Below.{allBelow, anyBelow, leastBelow}
+use borrow.Author.Tests.{ltb-true, eqb-true, lt-ltb, ne-eqb}
+use Rattle.encoding.specs.Below.{anyBelow}
 use Rattle.encoding.specs.Numbers.{u32At}
 use Rattle.encoding.specs.Pieces.{piece, Bytes}
-use Rattle.encoding.proofs.Below.{either, tests, clash, and-fst, and-snd, and-intro, iff-eq, all-same, any-at, any-intro, any-none, any-same, least-same, least-lt}
+use Rattle.encoding.proofs.Below.{either, tests, clash, and-fst, and-snd, and-intro, iff-eq, any-at, any-intro, any-none}
+use Rattle.encoding.proofs.Pieces.{piece-length}
 use Rattle.offsets.specs.Table.{ranks, ranksOk, trees, valid, firstTree, endTree, treeCount, holds}
-use Rattle.offsets.proofs.Tables.{first-le-end, end-trees, count-add}
+use Rattle.offsets.proofs.Tables.{end-trees, count-add}
 use Rattle.records.specs.Shape.{dimensionOf, faceCount, facesIn}
-use Rattle.records.specs.Record.{coreSize, numberOf, shapeOf, neighbourOf, faceOf, orientationOf, inForm}
+use Rattle.records.specs.Record.{coreSize, unused, numberOf, shapeOf, neighbourOf, faceOf, orientationOf, inForm}
+use Rattle.records.proofs.Forms.{at-piece}
 use Rattle.mesh.specs.Link.{orientationOk, linkOk}
 use Rattle.mesh.specs.Mesh.{dimensionOk, faceNeighbour}
 use Rattle.mesh.proofs.Soundness.{link-there, link-answered}
-use Rattle.part.specs.Layout.{partSize}
+use Rattle.part.specs.Layout.{partHeader, treePlace, ghostPlace, partSize}
 use Rattle.part.specs.Ghosts.{besideRank}
-use Rattle.part.specs.View.{isLocal, ghostIs, held, heldCore, viewSound}
+use Rattle.part.specs.Cut.{renamed}
+use Rattle.part.specs.View.{isLocal, ghostIs, viewSound}
 use Rattle.part.specs.Part.{partDimension, partK, partFirst, partCount, partGhostCount, storedTree, storedGhost, globalIndex, globalTree, partHolds, partCore, partHeaderSound, partSound}
-use Rattle.part.proofs.Views.{local-at, local-range, core-tree, core-ghost, held-cases, local-held, ghost-at-held, GhostView, view-ghosts, view-ascends, view-number, view-form, view-shape, view-link, view-neighbour, view-far, view-beside, view-below}
+use Rattle.part.proofs.Renamed.{renamed-length}
+use Rattle.part.proofs.Views.{local-at, local-range, core-tree, core-ghost, held-cases, local-held, ghost-at-held, view-ghosts, view-ascends, view-number, view-form, view-shape, view-link, view-neighbour, view-far, view-beside, view-below, view-same}
 
 -- ---- the header
 
@@ -36,6 +41,7 @@ pub record PartSays (part table : List ℕ) (rank : ℕ) : Type 0 where
   pub tree-count : partCount part ≡ treeCount table rank
   pub last-word : u32At part 28 ≡ 0
 
+-- a sound header says so
 pub part-says : (part table : List ℕ) (rank : ℕ) → partHeaderSound part table rank ≡ true → PartSays part table rank
 unfolding partHeaderSound
 part-says part table rank e0 =
@@ -84,6 +90,7 @@ module _ (part table : List ℕ) (rank : ℕ) (sound : partSound part table rank
   unfolding partSound
   part-length = eqb-true _ _ (and-snd (partHeaderSound part table rank) lengthOk (and-fst (partHeaderSound part table rank && lengthOk) _ sound))
 
+  -- and the records are sound
   pub part-view : viewSound (partFirst part) (partCount part) (partGhostCount part) (globalTree part) (storedGhost part) (partDimension part) (partK part) ≡ true
   unfolding partSound
   part-view = and-snd (partHeaderSound part table rank && lengthOk) _ sound
@@ -155,20 +162,38 @@ module _ (part table : List ℕ) (rank : ℕ) (sound : partSound part table rank
   unfolding partCore
   part-core-ghost j h = core-ghost _ _ _ _ _ _ _ part-view j h
 
+  -- it is held
   pub part-ghost-held : (j : ℕ) → j < partGhostCount part → partHolds part (numberOf (storedGhost part j)) ≡ true
   unfolding partHolds
   part-ghost-held j h = ghost-at-held _ _ _ _ _ j h
 
-  -- its number is below K and outside f(rank)
+  -- its number is below K
   pub part-ghost-below : (j : ℕ) → j < partGhostCount part → numberOf (storedGhost part j) < partK part
   part-ghost-below j h = view-ghosts _ _ _ _ _ _ _ part-view j h .below
 
+  -- and outside f(rank)
   pub part-outside : (j : ℕ) → j < partGhostCount part → holds table rank (numberOf (storedGhost part j)) ≡ false
   part-outside j h = sym (inside-is (numberOf (storedGhost part j))) ∙ view-ghosts _ _ _ _ _ _ _ part-view j h .outside
 
   -- ghosts ascend
   pub part-ascends : (i j : ℕ) → i < j → j < partGhostCount part → numberOf (storedGhost part i) < numberOf (storedGhost part j)
   part-ascends i j h l = view-ascends _ _ _ _ _ _ _ part-view i j h l
+
+  tree-long : (i : ℕ) → i < partCount part → length (globalTree part i) ≡ coreSize
+  unfolding globalTree storedTree
+  tree-long i h = renamed-length (globalIndex part) (facesIn (partDimension part)) _ (piece-length part (treePlace i) coreSize (omega (arith, part-length)))
+
+  ghost-long : (j : ℕ) → j < partGhostCount part → length (storedGhost part j) ≡ coreSize
+  unfolding storedGhost
+  ghost-long j h = piece-length part (ghostPlace (partCount part) j) coreSize (omega (arith, part-length))
+
+  -- each record held has 40 bytes
+  pub part-core-long : (k : ℕ) → partHolds part k ≡ true → length (partCore part k) ≡ coreSize
+  unfolding partHolds
+  part-core-long k e =
+      held-cases _ _ _ _ _ k e
+      (λ i h p. rw (p, part-core-tree i h) (tree-long i h))
+      (λ j h p o. rw (← p, part-core-ghost j h) (ghost-long j h))
 
   -- a record held is a tree of f(rank) or a ghost
   pub part-cases : {C : Type 0} (k : ℕ) → partHolds part k ≡ true → (holds table rank k ≡ true → C)
@@ -244,3 +269,58 @@ module _ (part table : List ℕ) (rank : ℕ) (sound : partSound part table rank
         let q : numberOf (storedGhost part (a .0)) ≡ k = eqb-true _ _ (a .2) in
         rw (lt-ltb k K (rw q at (part-ghost-below (a .0) (a .1)))) (outside-is k o))
         (λ p. let b : B ≡ false = sym (outside-is k o) ∙ p in rw (b, and-false) p)))
+
+-- ---- soundness reads the length, the header and the cores alone
+
+module _ (a b : List ℕ) (same-header : piece a 0 partHeader ≡ piece b 0 partHeader) where
+  word-same : (off : ℕ) → off + 4 ≤ partHeader → u32At a off ≡ u32At b off
+  word-same off h =
+      rw zero-add at (sym (at-piece 4 a 0 partHeader off h) ∙ ap (λ (p : List ℕ). u32At p off) same-header ∙ at-piece 4 b 0 partHeader off h)
+
+  dimension-same : partDimension a ≡ partDimension b
+  unfolding partDimension
+  dimension-same = word-same 0 (omega arith)
+
+  K-same : partK a ≡ partK b
+  unfolding partK
+  K-same = word-same 4 (omega arith)
+
+  first-same : partFirst a ≡ partFirst b
+  unfolding partFirst
+  first-same = word-same 16 (omega arith)
+
+  count-same : partCount a ≡ partCount b
+  unfolding partCount
+  count-same = word-same 20 (omega arith)
+
+  ghosts-same : partGhostCount a ≡ partGhostCount b
+  unfolding partGhostCount
+  ghosts-same = word-same 24 (omega arith)
+
+  header-same : (table : List ℕ) (rank : ℕ) → partHeaderSound a table rank ≡ partHeaderSound b table rank
+  unfolding partHeaderSound
+  header-same table rank = rw (dimension-same, K-same, word-same 8 (omega arith), word-same 12 (omega arith), first-same, count-same, word-same 28 (omega arith))
+
+  module _ (same-trees : (i : ℕ) → i < partCount a → storedTree a i ≡ storedTree b i) (same-ghosts : (j : ℕ) → j < partGhostCount a → storedGhost a j ≡ storedGhost b j) where
+    index-same : (j : ℕ) → globalIndex a j ≡ globalIndex b j
+    unfolding globalIndex
+    index-same j =
+        rw (← count-same, ← ghosts-same)
+        (either (eqb j unused) (λ p. rw p)
+        (λ p. rw p
+        (either (ltb j (partCount a)) (λ q. rw (q, same-trees j (ltb-true _ _ q)))
+        (λ q. rw q
+        (either (ltb j (partCount a + partGhostCount a)) (λ s. rw (s, same-ghosts (j - partCount a) (omega tests))) (λ s. rw s))))))
+
+    tree-same : (i : ℕ) → i < partCount a → globalTree a i ≡ globalTree b i
+    unfolding globalTree
+    tree-same i h =
+        rw (dimension-same, same-trees i h) (ap (λ (rename : ℕ → ℕ). renamed rename (facesIn (partDimension b)) (storedTree b i)) (fun-ext index-same))
+
+    -- two parts of the same length, header and cores are both sound or neither
+    pub part-cores : length a ≡ length b → (table : List ℕ) (rank : ℕ) → partSound a table rank ≡ partSound b table rank
+    unfolding partSound
+    part-cores l table rank =
+        let v : viewSound (partFirst a) (partCount a) (partGhostCount a) (globalTree a) (storedGhost a) (partDimension a) (partK a) ≡ viewSound (partFirst a) (partCount a) (partGhostCount a) (globalTree b) (storedGhost b) (partDimension a) (partK a) =
+        view-same (partFirst a) (partCount a) (partGhostCount a) (globalTree a) (globalTree b) (storedGhost a) (storedGhost b) tree-same same-ghosts (partDimension a) (partK a) in
+        rw (header-same table rank, l, v, first-same, count-same, ghosts-same, dimension-same, K-same)

@@ -1,14 +1,14 @@
 -- What soundness says of each record of a part, and the parts of it that others read.
 use Prim.Native.Nat.{ℕ, zero, suc, _+_, _-_, _≤_, _<_}
-use native.Mathlib.Nat.{add-sub-cancel-left, le-refl}
+use native.Mathlib.Nat.{add-sub-cancel-left}
 use native.Mathlib.Omega.{arith}
-use mathlib.Core.Path.{_≡_, refl, sym, ap, _∙_}
-use mathlib.Core.Bool.{Bool, true, false, cond, not, _&&_, _||_, or-true}
+use mathlib.Core.Path.{_≡_, refl, sym, ap, ap₂, _∙_}
+use mathlib.Core.Bool.{Bool, true, false, not, _&&_, _||_, or-true}
 use mathlib.Core.List.{List}
 use lib.Dec.{leb, ltb, eqb, eqb·suc-zero}
 use borrow.Author.Tests.{ltb-true, leb-true, eqb-true, le-leb, lt-ltb, eq-eqb, ne-eqb, not-true}
 use Rattle.encoding.specs.Below.{allBelow, anyBelow, leastBelow}
-use Rattle.encoding.proofs.Below.{either, tests, clash, below-suc, and-fst, and-snd, and-intro, iff-eq, all-at, all-intro, all-same, any-at, any-intro, any-same, least-is, least-lt, least-same}
+use Rattle.encoding.proofs.Below.{either, clash, below-suc, and-fst, and-snd, and-intro, iff-eq, all-at, all-intro, all-same, any-at, any-intro, any-same, least-is, least-lt, least-same}
 use Rattle.records.specs.Shape.{dimensionOf, faceCount}
 use Rattle.records.specs.Record.{numberOf, shapeOf, neighbourOf, faceOf, inForm}
 use Rattle.mesh.specs.Link.{orientationOk, linkOk}
@@ -16,9 +16,15 @@ use Rattle.mesh.specs.Mesh.{faceNeighbour}
 use Rattle.mesh.proofs.Soundness.{link-there, link-answered}
 use Rattle.part.specs.View.{isLocal, ghostIs, held, heldCore, treeLink, ghostLink, localSound, ghostAfter, ghostBeside, ghostSound, viewSound}
 
+-- a link's rule reads the records at both its ends
+pub link-same : (a b : ℕ → List ℕ) (k f : ℕ) → a k ≡ b k → a (neighbourOf (b k) f) ≡ b (neighbourOf (b k) f) → linkOk a k f ≡ linkOk b k f
+unfolding linkOk
+link-same a b k f e h = rw (e, h)
+
 module _ (first n g : ℕ) (tree ghostly : ℕ → List ℕ) where
   -- a link of record k
   module _ (k f : ℕ) where
+    -- a tree's leads to a record held and obeys the rule
     pub tree-link-held : treeLink first n g tree ghostly k f ≡ true → held first n g tree ghostly (neighbourOf (heldCore first n g tree ghostly k) f) ≡ true
     unfolding treeLink
     tree-link-held e = and-fst _ (linkOk (heldCore first n g tree ghostly) k f) e
@@ -32,10 +38,12 @@ module _ (first n g : ℕ) (tree ghostly : ℕ → List ℕ) where
     tree-link-make h e = rw (h, e)
 
     module _ (K : ℕ) where
+      -- a ghost's obeys the rule where it leads to a record held
       pub ghost-link-ok : ghostLink first n g tree ghostly K k f ≡ true → held first n g tree ghostly (neighbourOf (heldCore first n g tree ghostly k) f) ≡ true → linkOk (heldCore first n g tree ghostly) k f ≡ true
       unfolding ghostLink
       ghost-link-ok e h = rw h at e
 
+      -- and has a number below K and an orientation below the corners elsewhere
       pub ghost-link-far : ghostLink first n g tree ghostly K k f ≡ true → held first n g tree ghostly (neighbourOf (heldCore first n g tree ghostly k) f) ≡ false
           → (neighbourOf (heldCore first n g tree ghostly k) f < K) × (orientationOk (heldCore first n g tree ghostly k) f ≡ true)
       unfolding ghostLink
@@ -70,6 +78,7 @@ module _ (first n g : ℕ) (tree ghostly : ℕ → List ℕ) where
     abbrev faces : Bool
     faces = allBelow (faceCount (shapeOf (tree i))) (treeLink first n g tree ghostly (first + i))
 
+    -- what its soundness says, and back
     pub tree-view : localSound first n g tree ghostly dimension i ≡ true → TreeView dimension i
     unfolding localSound
     tree-view e =
@@ -89,6 +98,7 @@ module _ (first n g : ℕ) (tree ghostly : ℕ → List ℕ) where
         rw (v .form, eq-eqb _ _ (v .number), eq-eqb _ _ (v .shape)) (all-intro (faceCount (shapeOf (tree i))) (treeLink first n g tree ghostly (first + i)) (v .links))
 
   module _ (dimension K j : ℕ) where
+    -- what its soundness says, and back
     pub ghost-view : ghostSound first n g tree ghostly dimension K j ≡ true → GhostView dimension K j
     unfolding ghostSound
     ghost-view e =
@@ -149,7 +159,7 @@ module _ (first n g : ℕ) (tree ghostly : ℕ → List ℕ) where
   abbrev has : ℕ → Bool
   has = held first n g tree ghostly
 
-  -- k is one of the trees
+  -- the trees are those from first on
   pub local-at : (i : ℕ) → i < n → isLocal first n g tree ghostly (first + i) ≡ true
   unfolding isLocal
   local-at i h = and-intro (leb first (first + i)) _ (le-leb first (first + i) (omega arith)) (lt-ltb (first + i) (first + n) (omega arith))
@@ -158,6 +168,7 @@ module _ (first n g : ℕ) (tree ghostly : ℕ → List ℕ) where
   unfolding isLocal
   local-range k e = (leb-true _ _ (and-fst (leb first k) _ e), ltb-true _ _ (and-snd (leb first k) _ e))
 
+  -- trees and ghosts are held
   pub local-held : (k : ℕ) → isLocal first n g tree ghostly k ≡ true → held first n g tree ghostly k ≡ true
   unfolding held
   local-held k e = rw e
@@ -311,3 +322,86 @@ module _ (first n g : ℕ) (tree ghostly : ℕ → List ℕ) where
     -- every record held is below K, where the trees are
     pub view-below : first + n ≤ K → (k : ℕ) → held first n g tree ghostly k ≡ true → k < K
     view-below w k e = held-cases k e (λ i h p. omega arith) (λ j h p o. omega (arith, ghosts j h .below))
+
+-- ---- soundness reads the trees below n and the ghosts below g alone
+
+module _ (first n g : ℕ) (ta tb ga gb : ℕ → List ℕ) (same-trees : (i : ℕ) → i < n → ta i ≡ tb i) (same-ghosts : (j : ℕ) → j < g → ga j ≡ gb j) where
+  local-same : (k : ℕ) → isLocal first n g ta ga k ≡ isLocal first n g tb gb k
+  unfolding isLocal
+  local-same k = refl
+
+  is-same : (k j : ℕ) → j < g → ghostIs first n g ta ga k j ≡ ghostIs first n g tb gb k j
+  unfolding ghostIs
+  is-same k j h = rw (same-ghosts j h)
+
+  held-same : (k : ℕ) → held first n g ta ga k ≡ held first n g tb gb k
+  unfolding held
+  held-same k = ap₂ (λ (a b : Bool). a || b) (local-same k) (any-same g (ghostIs first n g ta ga k) (ghostIs first n g tb gb k) (is-same k))
+
+  core-same : (k : ℕ) → held first n g ta ga k ≡ true → heldCore first n g ta ga k ≡ heldCore first n g tb gb k
+  unfolding heldCore held
+  core-same k e =
+      either (isLocal first n g ta ga k)
+      (λ p. let r = local-range first n g ta ga k p in rw (p, sym (local-same k) ∙ p) (same-trees (k - first) (omega arith)))
+      (λ p.
+      let b : anyBelow g (ghostIs first n g ta ga k) ≡ true = rw p at e in
+      rw (p, sym (local-same k) ∙ p, ← least-same g (ghostIs first n g ta ga k) (ghostIs first n g tb gb k) (is-same k)) (same-ghosts (leastBelow g (ghostIs first n g ta ga k)) (least-lt g (ghostIs first n g ta ga k) b)))
+
+  abbrev ca : ℕ → List ℕ
+  ca = heldCore first n g ta ga
+
+  abbrev cb : ℕ → List ℕ
+  cb = heldCore first n g tb gb
+
+  module _ (k : ℕ) (has : held first n g ta ga k ≡ true) (f : ℕ) where
+    neighbour-same : neighbourOf (ca k) f ≡ neighbourOf (cb k) f
+    neighbour-same = ap (λ (r : List ℕ). neighbourOf r f) (core-same k has)
+
+    both-held : held first n g ta ga (neighbourOf (ca k) f) ≡ held first n g tb gb (neighbourOf (cb k) f)
+    both-held = held-same (neighbourOf (ca k) f) ∙ ap (held first n g tb gb) neighbour-same
+
+    links-same : held first n g ta ga (neighbourOf (ca k) f) ≡ true → linkOk ca k f ≡ linkOk cb k f
+    links-same p = link-same ca cb k f (core-same k has) (core-same (neighbourOf (cb k) f) (ap (held first n g ta ga) (sym neighbour-same) ∙ p))
+
+    tree-link-same : treeLink first n g ta ga k f ≡ treeLink first n g tb gb k f
+    unfolding treeLink
+    tree-link-same =
+        either (held first n g ta ga (neighbourOf (ca k) f))
+        (λ p. rw (p, sym both-held ∙ p, links-same p))
+        (λ p. rw (p, sym both-held ∙ p))
+
+    ghost-link-same : (K : ℕ) → ghostLink first n g ta ga K k f ≡ ghostLink first n g tb gb K k f
+    unfolding ghostLink
+    ghost-link-same K =
+        either (held first n g ta ga (neighbourOf (ca k) f))
+        (λ p. rw (p, sym both-held ∙ p, links-same p))
+        (λ p. rw (p, sym both-held ∙ p, core-same k has))
+
+  tree-same : (dimension i : ℕ) → i < n → localSound first n g ta ga dimension i ≡ localSound first n g tb gb dimension i
+  unfolding localSound
+  tree-same dimension i h =
+      rw (same-trees i h, all-same (faceCount (shapeOf (tb i))) (treeLink first n g ta ga (first + i)) (treeLink first n g tb gb (first + i)) (λ f p. tree-link-same (first + i) (local-held first n g ta ga (first + i) (local-at first n g ta ga i h)) f))
+
+  after-same : (j : ℕ) → j < g → ghostAfter first n g ta ga j ≡ ghostAfter first n g tb gb j
+  unfolding ghostAfter
+  after-same j h = rw (same-ghosts j h, same-ghosts (j - 1) (omega arith))
+
+  beside-same : (j : ℕ) → j < g → ghostBeside first n g ta ga j ≡ ghostBeside first n g tb gb j
+  unfolding ghostBeside isLocal
+  beside-same j h = rw (same-ghosts j h)
+
+  ghost-same : (dimension K j : ℕ) → j < g → ghostSound first n g ta ga dimension K j ≡ ghostSound first n g tb gb dimension K j
+  unfolding ghostSound
+  ghost-same dimension K j h =
+      let c : ga j ≡ gb j = same-ghosts j h in
+      let k : ℕ = numberOf (gb j) in
+      let t : held first n g ta ga k ≡ true = ap (λ (r : List ℕ). held first n g ta ga (numberOf r)) (sym c) ∙ ghost-at-held first n g ta ga j h in
+      rw (after-same j h, beside-same j h, c, local-same k, all-same (faceCount (shapeOf (gb j))) (ghostLink first n g ta ga K k) (ghostLink first n g tb gb K k) (λ f p. ghost-link-same k t f K))
+
+  -- so two views that agree there are both sound or neither
+  pub view-same : (dimension K : ℕ) → viewSound first n g ta ga dimension K ≡ viewSound first n g tb gb dimension K
+  unfolding viewSound
+  view-same dimension K =
+      ap₂ (λ (a b : Bool). a && b)
+      (all-same n (localSound first n g ta ga dimension) (localSound first n g tb gb dimension) (tree-same dimension))
+      (all-same g (ghostSound first n g ta ga dimension K) (ghostSound first n g tb gb dimension K) (ghost-same dimension K))

@@ -1,1 +1,2 @@
 -- Laws and theorems.
+pub mod Receive

@@ -1,5 +1,5 @@
 -- Lists of deliver and close calls on one area: what they do, by the contracts of deliver and close, and what the calls alone say.
-use Prim.Native.Nat.{ℕ, _<_}
+use Prim.Native.Nat.{ℕ, _+_, _<_}
 use mathlib.Core.Bool.{Bool, true, false, cond, _&&_, _||_}
 use mathlib.Core.Path.{_≡_}
 use mathlib.Core.List.{List, [], _∷_}
@@ -12,10 +12,12 @@ use Rattle.encoding.specs.declared.answer.Length.{Length}
 use Rattle.offsets.specs.Table.{ranks, trees}
 use Rattle.pattern.specs.Sender.{Tables}
 use Rattle.pattern.specs.Sets.{sendsTo, getsFrom}
-use Rattle.mesh.specs.Mesh.{meshTrees, meshSound}
+use Rattle.mesh.specs.Mesh.{meshDimension, meshTrees, meshSound}
 use Rattle.part.specs.Cut.{cutPart}
+use Rattle.message.specs.Layout.{messageTrees, messageGhosts, messageTree, messageGhost}
 use Rattle.message.specs.Build.{partMessage}
-use Rattle.assembly.specs.Deliver.{deliverOf}
+use Rattle.assembly.specs.Calls.{openAreaOf}
+use Rattle.assembly.specs.Deliver.{among, deliverOf}
 use Rattle.assembly.specs.Close.{closeOf}
 
 -- a call: deliver the message from rank p to rank q, or close into a buffer
@@ -27,6 +29,18 @@ pub data Call : Type 0 where
 pub data Answer : Type 0 where
   delivery : ℕ → Answer
   closing : Length × List ℕ → Answer
+
+-- how many elements of a list pass a test
+unfoldable pub countIn : {A : Type 0} → (A → Bool) → List A → ℕ
+countIn f [] = 0
+countIn f (x ∷ xs) = cond (f x) 1 0 + countIn f xs
+
+-- tree k came in a message if its number is among the trees there, a ghost if its number is among the ghosts there
+unfoldable pub treeIn : ℕ → List ℕ → Bool
+treeIn k m = among (messageTrees m) (messageTree m) k
+
+unfoldable pub ghostWith : ℕ → List ℕ → Bool
+ghostWith k m = among (messageGhosts m) (messageGhost m) k
 
 module _ (mesh old new : List ℕ) (rank epoch : ℕ) where
   -- what the theorem is about: two tables, a rank of theirs, a sound whole mesh with their K, and an epoch
@@ -71,6 +85,17 @@ module _ (mesh old new : List ℕ) (rank epoch : ℕ) where
   unfoldable pub answersOf : List ℕ → List Call → List Answer
   answersOf a [] = []
   answersOf a (c ∷ cs) = answerOf a c ∷ answersOf (areaAfter a c) cs
+
+  -- the messages that a list's calls accept, in their order
+  unfoldable pub acceptedBy : List ℕ → List Call → List (List ℕ)
+  acceptedBy a [] = []
+  acceptedBy a (deliver p q ∷ cs) =
+      cond (eqb (deliverOf a (messageOf p q) .0) 0) (messageOf p q ∷ acceptedBy (areaAfter a (deliver p q)) cs) (acceptedBy (areaAfter a (deliver p q)) cs)
+  acceptedBy a (close out ∷ cs) = acceptedBy a cs
+
+  -- the open call on a buffer, for the mesh's dimension: its answer, and the buffer after it
+  unfoldable pub opened : List ℕ → Length × List ℕ
+  opened buffer = openAreaOf old new rank (meshDimension mesh) epoch buffer
 
   -- who is heard after a call, and after a list: the senders whose messages for the rank were delivered
   unfoldable pub hears : (ℕ → Bool) → Call → ℕ → Bool

@@ -9,3 +9,4 @@ pub mod Parts
 pub mod Global
 pub mod Judging
 pub mod Checking
+pub mod Across

@@ -202,7 +202,7 @@ module _ (part table : List ℕ) (rank : ℕ) where
     head-true : partHeaderSound part table rank ≡ true
     head-true = and-fst (partHeaderSound part table rank) (eqb (length part) (partSize (partCount part) (partGhostCount part))) (sym is ∙ ok)
 
-    head-counts : (partK part ≡ trees table) × (partFirst part ≡ firstTree table rank) × (partCount part ≡ treeCount table rank)
+    pub head-counts : (partK part ≡ trees table) × (partFirst part ≡ firstTree table rank) × (partCount part ≡ treeCount table rank)
     unfolding partHeaderSound
     head-counts =
         let a : Bool = dimensionOk (partDimension part) in

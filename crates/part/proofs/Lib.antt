@@ -15,3 +15,4 @@ pub mod SoundParts
 pub mod Global
 pub mod Judging
 pub mod Checking
+pub mod Across

@@ -9,6 +9,8 @@ use Rattle.records.specs.Shape.{faceCount}
 use Rattle.records.specs.Record.{shapeOf, neighbourOf, faceOf, orientationOf, toItself}
 use Rattle.mesh.specs.Mesh.{meshCore}
 use Rattle.part.specs.declared.neighbour.Across.{Across}
+use Rattle.part.specs.declared.neighbour.Neighbour.{Neighbour}
+use Rattle.part.specs.declared.neighbour.NeighbourAnswer.{NeighbourAnswer}
 use Rattle.part.specs.declared.neighbour.Link.{Link}
 use Rattle.part.specs.declared.neighbour.Link.the-variants.{Boundary, Unused, Local, Ghost}
 use Rattle.part.specs.Ghosts.{ghostPosition}
@@ -50,3 +52,15 @@ meshLink mesh table rank i f =
     (cond (holds table rank (neighbourOf r f))
     (Local (across (neighbourOf r f - firstTree table rank) (faceOf r f) (orientationOf r f)))
     (Ghost (across (treeCount table rank + ghostPosition (meshCore mesh) table rank (neighbourOf r f)) (faceOf r f) (orientationOf r f)))))
+
+-- an answer as numbers alone
+abbrev pub flatAnswer : Neighbour → NeighbourAnswer
+flatAnswer n =
+    record {
+      refusal = n .refusal;
+      shape = n .shape;
+      kind = linkKind (n .link);
+      index = linkAcross (n .link) .index .0;
+      face = linkAcross (n .link) .face;
+      orientation = linkAcross (n .link) .orientation;
+    }

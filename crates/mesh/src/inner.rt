@@ -115,7 +115,11 @@ fn corners_quick(bs: &[u8], dimension: u32, at: usize, face: u32, to: usize) -> 
 {
     let code = records::code_of(bs, at, face);
     let own = corners_in(dimension, records::shape_of(bs, at), face);
-    let there = corners_in(dimension, records::shape_of(bs, to), face_in(dimension, code));
+    let there = corners_in(
+        dimension,
+        records::shape_of(bs, to),
+        face_in(dimension, code),
+    );
     (orientation_in(dimension, code) < own) & (own == there)
 }
 
@@ -127,7 +131,8 @@ fn answered_quick(bs: &[u8], dimension: u32, k: u32, at: usize, face: u32, to: u
     let code = records::code_of(bs, at, face);
     let there = face_in(dimension, code);
     (records::neighbour_of(bs, to, there) == k)
-        & ((records::code_of(bs, to, there) as u64) + (there as u64) == (code as u64) + (face as u64))
+        & ((records::code_of(bs, to, there) as u64) + (there as u64)
+            == (code as u64) + (face as u64))
 }
 
 // The neighbour's record is read only once its number is known to be below K.

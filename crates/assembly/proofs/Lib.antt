@@ -3,4 +3,6 @@ pub mod Examples
 pub mod Joined
 pub mod Heard
 pub mod Zones
+pub mod Kept
 pub mod Sound
+pub mod Again

@@ -6,3 +6,4 @@ pub mod Zones
 pub mod Kept
 pub mod Sound
 pub mod Again
+pub mod Delivered

@@ -2,4 +2,7 @@
 pub mod Joined
 pub mod Heard
 pub mod Zones
+pub mod Kept
 pub mod Sound
+pub mod Again
+pub mod Delivered

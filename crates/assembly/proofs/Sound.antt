@@ -13,7 +13,7 @@ use Rattle.encoding.specs.Words.{allZero}
 use Rattle.encoding.proofs.Below.{either, clash, and-snd, all-intro}
 use Rattle.encoding.proofs.Words.{zero-intro}
 use Rattle.offsets.specs.Limits.{rankCountOk}
-use Rattle.offsets.specs.Table.{tableLength, ranks, ranksOk, trees, firstTree, treeCount, holds}
+use Rattle.offsets.specs.Table.{tableLength, ranks, ranksOk, trees, firstTree, treeCount}
 use Rattle.records.specs.Shape.{facesIn}
 use Rattle.records.specs.Record.{coreSize, treeSize, numberOf, inForm}
 use Rattle.pattern.specs.Sender.{Tables, sender}
@@ -24,11 +24,8 @@ use Rattle.message.specs.Layout.{afterLast}
 use Rattle.assembly.specs.Layout.{heardWords, ghostBound, areaSize, ghostSlotsPlace, slotsPlace, wordsPlace, newPlace, areaWith}
 use Rattle.assembly.specs.Area.{ghostSlot, dueHeard, areaHeaderSound, bitSound, treeSlotSound, ghostHeldSound, areaBound, ghostSlotSound, areaSound}
 use Rattle.assembly.specs.Open.{freshArea}
+use Rattle.assembly.proofs.Kept.{ghostAt, Ghosts}
 use Rattle.assembly.proofs.Zones.{Zones, Reads, range-end, few-ranks, words-enough, area-reads}
-
--- ghost j of ghosts in a row
-abbrev pub ghostAt : List ℕ → ℕ → List ℕ
-ghostAt ghosts j = piece ghosts (coreSize * j) coreSize
 
 -- what the zones of a sound area hold: bits of the receive set, the trees of heard senders in form and in their slots, ghosts in form, below K, outside the new range, ascending
 pub record Held (old new : List ℕ) (rank : ℕ) (H : ℕ → Bool) (slot : ℕ → List ℕ) (g : ℕ) (ghosts : List ℕ) : Type 0 where
@@ -37,10 +34,7 @@ pub record Held (old new : List ℕ) (rank : ℕ) (H : ℕ → Bool) (slot : ℕ
   pub tree-form : (i : ℕ) → i < treeCount new rank → H (sender old (firstTree new rank + i) rank) ≡ true → inForm (firstTree new rank + i) (piece (slot i) 0 coreSize) ≡ true
   pub tree-number : (i : ℕ) → i < treeCount new rank → H (sender old (firstTree new rank + i) rank) ≡ true → numberOf (piece (slot i) 0 coreSize) ≡ firstTree new rank + i
   pub tree-zero : (i : ℕ) → i < treeCount new rank → H (sender old (firstTree new rank + i) rank) ≡ false → allZero (slot i) ≡ true
-  pub ghost-form : (j : ℕ) → j < g → inForm (numberOf (ghostAt ghosts j)) (ghostAt ghosts j) ≡ true
-  pub ghost-below : (j : ℕ) → j < g → numberOf (ghostAt ghosts j) < trees old
-  pub ghost-outside : (j : ℕ) → j < g → holds new rank (numberOf (ghostAt ghosts j)) ≡ false
-  pub ghost-ascends : (i j : ℕ) → i < j → j < g → numberOf (ghostAt ghosts i) < numberOf (ghostAt ghosts j)
+  pub ghosts-held : Ghosts (trees old) new rank g (ghostAt ghosts)
 
 -- zeros are all zero
 pub zeros-zero : (n : ℕ) → allZero (replicate n 0) ≡ true
@@ -105,13 +99,13 @@ module _ (a : List ℕ) (epoch dimension : ℕ) (old new : List ℕ) (rank : ℕ
     reads-after j h =
         either (eqb j 0) (λ e. rw e)
         (λ e. let z = eqb-false j 0 e in
-        rw (e, R .at-ghost (j - 1) (omega arith), R .at-ghost j h) (lt-ltb (numberOf (ghostAt ghosts (j - 1))) (numberOf (ghostAt ghosts j)) (held .ghost-ascends (j - 1) j (omega arith) h)))
+        rw (e, R .at-ghost (j - 1) (omega arith), R .at-ghost j h) (lt-ltb (numberOf (ghostAt ghosts (j - 1))) (numberOf (ghostAt ghosts j)) (held .ghosts-held .ascends (j - 1) j (omega arith) h)))
 
     reads-held : (j : ℕ) → j < g → ghostHeldSound a j ≡ true
     unfolding ghostHeldSound
     reads-held j h =
         rw (reads-after j h, R .at-ghost j h, R .at-K, R .at-new, R .at-rank)
-        (rw (held .ghost-form j h, lt-ltb (numberOf (ghostAt ghosts j)) (trees old) (held .ghost-below j h), held .ghost-outside j h))
+        (rw (held .ghosts-held .form j h, lt-ltb (numberOf (ghostAt ghosts j)) (trees old) (held .ghosts-held .below j h), held .ghosts-held .outside j h))
 
     reads-ghosts : allBelow bound (ghostSlotSound a) ≡ true
     unfolding ghostSlotSound
@@ -169,10 +163,7 @@ module _ (old new : List ℕ) (rank dimension epoch : ℕ) (T : Tables old new) 
         tree-form = λ i h t. clash t refl;
         tree-number = λ i h t. clash t refl;
         tree-zero = λ i h t. zeros-zero treeSize;
-        ghost-form = λ j h. absurd (omega arith);
-        ghost-below = λ j h. absurd (omega arith);
-        ghost-outside = λ j h. absurd (omega arith);
-        ghost-ascends = λ i j l h. absurd (omega arith);
+        ghosts-held = record { long = λ j h. absurd (omega arith); form = λ j h. absurd (omega arith); below = λ j h. absurd (omega arith); outside = λ j h. absurd (omega arith); ascends = λ i j l h. absurd (omega arith) };
       }
 
   -- the fresh area is sound, whatever stands behind it

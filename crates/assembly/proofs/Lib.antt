@@ -1,2 +1,4 @@
 -- Laws, for this crate's proofs and for the crates above.
+pub mod Copying
+pub mod Opening
 pub mod Examples

@@ -6,3 +6,5 @@ pub mod Kept
 pub mod Sound
 pub mod Again
 pub mod Delivered
+pub mod Copying
+pub mod Opening

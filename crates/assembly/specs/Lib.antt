@@ -5,3 +5,4 @@ pub mod Open
 pub mod Deliver
 pub mod Close
 pub mod Calls
+pub mod Mirror

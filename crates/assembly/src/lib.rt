@@ -1,5 +1,11 @@
 // The area in which a rank's new part is assembled.
 use encoding::answer::Length;
+ghost use mathlib.Core.Path.{_≡_};
+ghost use Rattle.assembly.specs.Calls.{areaLengthOf, openAreaOf};
+
+pub mod copy;
+pub mod open;
+pub mod place;
 
 // How many senders are heard and how many are due. When refused, `refusal` is 10 and the rest is 0.
 #[repr(C)]
@@ -7,4 +13,51 @@ pub struct Progress {
     pub refusal: u32,
     pub heard: u32,
     pub due: u32,
+}
+
+// How long the area of a rank is (2, 3, 4, 5).
+pub fn area_length(old: &[u8], new: &[u8], rank: u32, dimension: u32) -> Length
+    ensures { λ r. ⌜ r ≡ areaLengthOf (now (old .entry)) (now (new .entry)) rank dimension ⌝ }
+{
+    let refusal = open::refusal(old, new, rank, dimension);
+    if refusal != 0 {
+        return Length { refusal, length: 0 };
+    }
+    let ranks = offsets::inner::ranks(old);
+    let count = open::tree_count(new, rank as usize);
+    Length {
+        refusal: 0,
+        length: place::area_size(dimension, ranks, count) as u64,
+    }
+}
+
+// Open an area: write it for two tables, a rank, a dimension and an epoch, with no sender heard (2, 3, 4, 5, 22).
+pub fn open_area(
+    old: &[u8],
+    new: &[u8],
+    rank: u32,
+    dimension: u32,
+    epoch: u32,
+    out: &mut [u8],
+) -> Length
+    ensures { λ r. ⌜ (r, now (out .exit)) ≡ openAreaOf (now (old .entry)) (now (new .entry)) rank dimension epoch (now (out .entry)) ⌝ }
+{
+    let refusal = open::refusal(old, new, rank, dimension);
+    if refusal != 0 {
+        return Length { refusal, length: 0 };
+    }
+    let ranks = offsets::inner::ranks(old);
+    let count = open::tree_count(new, rank as usize);
+    let n = place::area_size(dimension, ranks, count);
+    if out.len() < n {
+        return Length {
+            refusal: 22,
+            length: 0,
+        };
+    }
+    open::write(old, new, rank, dimension, epoch, &mut *out);
+    Length {
+        refusal: 0,
+        length: n as u64,
+    }
 }

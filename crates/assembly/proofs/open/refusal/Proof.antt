@@ -1,0 +1,39 @@
+use Rattle.assembly.proofs.Opening.{fails-tables, fails-rank, fails-dimension, none-fails}
+use Rattle.pattern.proofs.Answers.{old-ranks}
+use borrow.Author.Tests.{not-true, not-false}
+use borrow.Author.Needs.{needs}
+use Rattle.assembly.proofs.open.refusal.Statement.{statement}
+use Rattle.assembly.proofs.open.refusal.Tie as tie
+
+tables-refusal-requires : tie.Need-tables-refusal-requires
+tables-refusal-requires c κs = search needs
+
+returns : tie.Need-returns
+returns c = fails-tables _ _ _ _ (c .before .tables-refusal .ensures) (c .if1 .taken)
+
+ranks-requires : tie.Need-ranks-requires
+ranks-requires c κs = old-ranks _ _ _ (c .before .tables-refusal .ensures) (λ i. c .before .before .before .shared-slice-known .given i .fits) (λ i. c .before .before .shared-slice-known2 .given i .fits) (c .if1 .left)
+
+returns-2 : tie.Need-returns-2
+returns-2 c = fails-rank _ _ _ _ (c .before .before .before .tables-refusal .ensures) (c .before .before .if1 .left) (c .before .ranks .ensures .0) (c .if2 .taken)
+
+dimension-ok-requires : tie.Need-dimension-ok-requires
+dimension-ok-requires c κs = search needs
+
+returns-3 : tie.Need-returns-3
+returns-3 c = fails-dimension _ _ _ _ (c .before .before .before .before .before .tables-refusal .ensures) (c .before .before .before .before .if1 .left) (c .before .before .before .ranks .ensures .0) (c .before .before .if2 .left) (c .before .dimension-ok .ensures) (not-true _ (c .if3 .taken))
+
+returns-4 : tie.Need-returns-4
+returns-4 c = none-fails _ _ _ _ (c .before .before .before .before .before .tables-refusal .ensures) (c .before .before .before .before .if1 .left) (c .before .before .before .ranks .ensures .0) (c .before .before .if2 .left) (c .before .dimension-ok .ensures) (not-false _ (c .if3 .left))
+
+pub refusal-spec : {M : Type 1} → statement M
+refusal-spec =
+    tie.close
+    (tie.spec
+    tables-refusal-requires
+    returns
+    ranks-requires
+    returns-2
+    dimension-ok-requires
+    returns-3
+    returns-4)

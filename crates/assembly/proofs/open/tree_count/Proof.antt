@@ -1,0 +1,23 @@
+use Rattle.assembly.proofs.Opening.{range-fits, count-read}
+use native.Mathlib.Omega.{arith}
+use Rattle.assembly.proofs.open.tree_count.Statement.{statement}
+use Rattle.assembly.proofs.open.tree_count.Tie as tie
+
+first-tree-requires : tie.Need-first-tree-requires
+first-tree-requires c κs = omega (arith, range-fits _ _ (λ i. c .shared-slice-known .given i .fits) (c .before .pre))
+
+end-tree-requires : tie.Need-end-tree-requires
+end-tree-requires c κs = omega (arith, range-fits _ _ (λ i. c .before .shared-slice-known .given i .fits) (c .before .before .pre))
+
+sub-result : tie.Need-sub-result
+sub-result c = omega (arith, range-fits _ _ (λ i. c .before .before .shared-slice-known .given i .fits) (c .before .before .before .pre), c .before .first-tree .ensures, c .end-tree .ensures)
+
+cast-result : tie.Need-cast-result
+cast-result c = omega (arith, range-fits _ _ (λ i. c .before .before .shared-slice-known .given i .fits) (c .before .before .before .pre), c .before .first-tree .ensures, c .end-tree .ensures)
+
+returns : tie.Need-returns
+returns c = count-read _ _ (range-fits _ _ (λ i. c .before .before .shared-slice-known .given i .fits) (c .before .before .before .pre)) (c .before .first-tree .ensures) (c .end-tree .ensures)
+
+pub tree-count-spec : {M : Type 1} → statement M
+tree-count-spec =
+    tie.close (tie.spec first-tree-requires end-tree-requires sub-result cast-result returns)

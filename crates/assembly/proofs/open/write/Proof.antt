@@ -1,0 +1,75 @@
+use Rattle.assembly.proofs.Opening.{open-fits, fresh-written}
+use Rattle.offsets.proofs.Tables.{trees-high}
+use native.Mathlib.Omega.{arith}
+use borrow.Author.Needs.{needs}
+use Rattle.assembly.proofs.open.write.Statement.{statement}
+use Rattle.assembly.proofs.open.write.Tie as tie
+
+ranks-requires : tie.Need-ranks-requires
+ranks-requires c κs = search needs
+
+trees-requires : tie.Need-trees-requires
+trees-requires c κs = search needs
+
+cast-trees : tie.Need-cast-trees
+cast-trees c = omega (arith, c .trees .ensures, trees-high _ (λ i. c .before .before .before .before .shared-slice-known .given i .fits) (c .before .before .before .before .before .pre .tables .oldRanks) (c .before .before .before .before .before .pre .tables .oldValid))
+
+tree-count-requires : tie.Need-tree-count-requires
+tree-count-requires c κs = search needs
+
+new-place-requires : tie.Need-new-place-requires
+new-place-requires c κs = search needs
+
+words-place-requires : tie.Need-words-place-requires
+words-place-requires c κs = search needs
+
+area-size-requires : tie.Need-area-size-requires
+area-size-requires c κs = search needs
+
+cast-write-header : tie.Need-cast-write-header
+cast-write-header c = search needs
+
+write-header-requires : tie.Need-write-header-requires
+write-header-requires c κs = omega (arith, open-fits (c .before .before .before .before .before .before .before .before .before .before .pre) (c .before .before .before .before .before .before .ranks .ensures .0) (c .before .before .before .before .tree-count .ensures .0) (c .before .area-size .ensures .0))
+
+add-copy-words : tie.Need-add-copy-words
+add-copy-words c = search needs
+
+copy-words-requires : tie.Need-copy-words-requires
+copy-words-requires c κs = let f = open-fits (c .before .before .before .before .before .before .before .before .before .before .before .before .before .before .pre) (c .before .before .before .before .before .before .before .before .before .before .ranks .ensures .0) (c .before .before .before .before .before .before .before .before .tree-count .ensures .0) (c .before .before .before .before .before .area-size .ensures .0) in record { whole = f .oldLong; room = omega (arith, f .zones, f .room) }
+
+add-copy-words-2 : tie.Need-add-copy-words-2
+add-copy-words-2 c = search needs
+
+copy-words-requires-2 : tie.Need-copy-words-requires-2
+copy-words-requires-2 c κs = let f = open-fits (c .before .before .before .before .before .before .before .before .before .before .before .before .before .before .before .before .before .before .pre) (c .before .before .before .before .before .before .before .before .before .before .before .before .before .before .ranks .ensures .0) (c .before .before .before .before .before .before .before .before .before .before .before .before .tree-count .ensures .0) (c .before .before .before .before .before .before .before .before .before .area-size .ensures .0) in record { whole = f .newLong; room = omega (arith, f .zones, f .room, c .before .before .before .before .before .before .before .before .before .before .before .new-place .ensures .1) }
+
+clear-requires : tie.Need-clear-requires
+clear-requires c κs = let f = open-fits (c .before .before .before .before .before .before .before .before .before .before .before .before .before .before .before .before .before .before .before .before .before .before .pre) (c .before .before .before .before .before .before .before .before .before .before .before .before .before .before .before .before .before .before .ranks .ensures .0) (c .before .before .before .before .before .before .before .before .before .before .before .before .before .before .before .before .tree-count .ensures .0) (c .before .before .before .before .before .before .before .before .before .before .before .before .before .area-size .ensures .0) in (omega (arith, f .zones, c .before .before .before .before .before .before .before .before .before .before .before .before .before .before .words-place .ensures .1), omega (arith, f .room))
+
+same-length : tie.Need-same-length
+same-length c = search needs
+
+returns : tie.Need-returns
+returns c = fresh-written _ _ _ _ _ (c .before .before .before .before .before .before .before .before .before .before .before .before .before .before .before .before .before .before .before .before .before .before .before .before .before .pre .tables) _ (c .before .before .before .before .before .before .before .before .before .before .before .before .before .before .before .before .before .before .before .before .before .before .before .before .before .pre .room) (c .before .before .before .before .before .before .before .before .before .before .before .before .before .before .before .before .before .before .before .before .before .ranks .ensures .0) (c .before .before .before .before .before .before .before .before .before .before .before .before .before .before .before .before .before .before .before .before .trees .ensures) (c .before .before .before .before .before .before .before .before .before .before .before .before .before .before .before .before .before .before .before .tree-count .ensures .0) (c .before .before .before .before .before .before .before .before .before .before .before .before .before .before .before .before .before .before .new-place .ensures .0) (c .before .before .before .before .before .before .before .before .before .before .before .before .before .before .before .before .before .words-place .ensures .0) (c .before .before .before .before .before .before .before .before .before .before .before .before .before .before .before .before .area-size .ensures .0) (c .before .before .before .before .before .before .before .before .before .before .before .before .before .before .write-header .ensures) (c .before .before .before .before .before .before .before .before .before .before .copy-words .ensures) (c .before .before .before .before .before .before .copy-words2 .ensures) (c .before .before .clear .ensures)
+
+pub write-spec : {M : Type 1} → statement M
+write-spec =
+    tie.close
+    (tie.spec
+    ranks-requires
+    trees-requires
+    cast-trees
+    tree-count-requires
+    new-place-requires
+    words-place-requires
+    area-size-requires
+    cast-write-header
+    write-header-requires
+    add-copy-words
+    copy-words-requires
+    add-copy-words-2
+    copy-words-requires-2
+    clear-requires
+    same-length
+    returns)

@@ -1,8 +1,8 @@
 /** \file vejgodat.h
  *
  * Repartitioning of coarse meshes for tree-based adaptive mesh refinement:
- * offset tables, the communication pattern between two of them, and the check
- * of a whole mesh.
+ * offset tables, the communication pattern between two of them, whole meshes,
+ * and the part of a mesh that a rank has.
  *
  * Link with libvejgodat.a, which `rt staticlib vejgodat` writes to
  * target/staticlib/. The library is proved to do what its definitions say for
@@ -76,6 +76,57 @@
  *
  * Two trees may meet at several faces, and a tree may meet itself.
  *
+ * ## Parts
+ *
+ * A ghost of rank p is a tree outside f(p) with a face neighbour in f(p). The
+ * part of p holds the records of p's n trees and g ghosts. It is bytes at any
+ * address, every number in it little-endian:
+ *
+ *     at 0          uint32_t   the dimension, 2 or 3
+ *     at 4          uint32_t   K
+ *     at 8          uint32_t   P
+ *     at 12         uint32_t   the rank p
+ *     at 16         uint32_t   the first tree of p
+ *     at 20         uint32_t   n
+ *     at 24         uint32_t   g
+ *     at 28         uint32_t   0
+ *     at 32         n records  the trees of f(p), tree records of 64 bytes
+ *     at 32 + 64 n  g records  the ghosts, core records of 40 bytes
+ *
+ * so 32 + 64 n + 40 g bytes in all, and never more than 32 + 64 K. Trees and
+ * ghosts each ascend by their numbers. The header of an empty rank has its
+ * first tree as \ref vejgodat_table_range gives it, and n and g are 0.
+ *
+ * A record's own number is global in both. So are the neighbours in a ghost's
+ * record, which is the one of the whole mesh without its tree data. In a tree
+ * record a neighbour is a local index instead:
+ *
+ *     i, below n        tree i of the part, whose number is first tree + i
+ *     n + j, j below g  ghost j of the part, whose number is in its record
+ *     4,294,967,295     none: the shape doesn't have this face
+ *
+ * and at the domain's boundary it is the tree's own local index. Everything
+ * else in a tree record is as in the whole mesh.
+ *
+ * A part is sound for a table and a rank p if
+ *
+ *  - the dimension is 2 or 3; K, P, the rank, its first tree and n are those of
+ *    the table and p; the last number of the header is 0; and the length is
+ *    32 + 64 n + 40 g;
+ *  - tree i has the number first tree + i; the ghosts' numbers ascend strictly
+ *    and are below K and outside f(p);
+ *  - each record has a shape of the dimension, its bytes that are to be zero
+ *    are, the faces that the shape doesn't have are marked so, and a face that
+ *    meets itself has orientation 0;
+ *  - every face that a tree's shape has meets a tree or a ghost of the part,
+ *    and every ghost meets a tree of it: the ghosts are exactly those of p;
+ *  - a link between two records of the part, or from one to itself, is as in a
+ *    whole mesh: an orientation below the number of corners, as many corners on
+ *    both sides, and answered with the same orientation;
+ *  - a ghost's link to a tree that the part doesn't hold has a number below K,
+ *    and an orientation below the number of corners of its own face. The face
+ *    that it meets there can't be looked at.
+ *
  * ## Refusals
  *
  * Each call checks its input itself and returns a refusal: 0, or the number of
@@ -83,7 +134,8 @@
  * numbers, and each is made of all arguments before the next one is made of
  * any: of two tables, a bad length (2) decides before bad entries (3),
  * whichever of the two has them. The numbers of this header's calls are those
- * of \ref VEJGODAT_OK and the names that follow it.
+ * of \ref VEJGODAT_OK and the names that follow it. \ref vejgodat_lookup alone
+ * has nothing to refuse.
  *
  * Where a call refuses, every other field of its result is 0 and every buffer
  * has the bytes that it had before. Where it accepts, it writes the beginning
@@ -97,7 +149,7 @@
  *    be written, for `out`). A null pointer goes with a count of 0 only.
  *  - A count of uint8_t is a number of bytes, one of uint32_t a number of
  *    entries and not of bytes. Lists of uint32_t are aligned as uint32_t;
- *    tables, buffers for tables, and meshes may be at any address.
+ *    everything that is bytes may be at any address.
  *  - A buffer that a call writes overlaps no other buffer of that call. Those
  *    that it only reads may overlap: the same table may be given as old and as
  *    new.
@@ -128,6 +180,9 @@ extern "C" {
 /** The bytes of a whole mesh of K trees. */
 #define VEJGODAT_MESH_BYTES(K) (8 + 64 * (size_t) (K))
 
+/** The bytes of a part with n trees and g ghosts. */
+#define VEJGODAT_PART_BYTES(n, g) (32 + 64 * (size_t) (n) + 40 * (size_t) (g))
+
 /** What the number `refusal` of a result means. */
 enum
 {
@@ -141,7 +196,8 @@ enum
   VEJGODAT_INDEX = 5,           /**< A rank is >= P, or a tree >= K. */
   VEJGODAT_PARTITION = 6,       /**< Ranges or leaf counts fit no table, or a
                                      limit isn't kept. */
-  VEJGODAT_MESH = 7,            /**< A whole mesh isn't sound. */
+  VEJGODAT_MESH = 7,            /**< A whole mesh isn't sound, or its K isn't
+                                     the table's. */
   VEJGODAT_BUFFER = 22          /**< A buffer is too short. */
 };
 
@@ -179,6 +235,24 @@ typedef struct
   uint64_t            length;   /**< The number of bytes. */
 }
 vejgodat_length;
+
+/** What the number `which` of a \ref vejgodat_found means. */
+enum
+{
+  VEJGODAT_FOUND_NONE = 0,      /**< No record has the number. */
+  VEJGODAT_FOUND_TREE = 1,      /**< A tree record has it. */
+  VEJGODAT_FOUND_GHOST = 2      /**< No tree record has it, and a ghost does. */
+};
+
+/** The place of a record. */
+typedef struct
+{
+  uint32_t            which;    /**< Where it is: \ref VEJGODAT_FOUND_NONE or
+                                     one of the names that follow it. */
+  uint64_t            offset;   /**< The byte of the trees or of the ghosts at
+                                     which it begins; 0 where there is none. */
+}
+vejgodat_found;
 
 /** \name Offset tables
  * @{ */
@@ -416,6 +490,85 @@ vejgodat_ranks      vejgodat_receive_set (const uint8_t * old_table,
  */
 uint32_t            vejgodat_check_mesh (const uint8_t * mesh,
                                          size_t mesh_len);
+
+/** @} */
+
+/** \name Parts
+ *
+ * The layout, local indices and what makes a part sound are above, under Parts.
+ * @{ */
+
+/** Compute the length of a rank's part of a mesh.
+ *
+ * Checks, in this order: those of \ref vejgodat_check_table (2, 3);
+ * \ref VEJGODAT_INDEX (5) if \a rank is not below P; \ref VEJGODAT_MESH (7) if
+ * the mesh isn't sound or its K isn't the table's.
+ * Cost: O(P) for the check of the table; then O(F K), for the check of the mesh
+ * and one more pass over its records, which counts the ghosts.
+ *
+ * \param [in] mesh       A whole mesh; any bytes. Not changed.
+ * \param [in] mesh_len   The number of its bytes.
+ * \param [in] table      Any bytes. Not changed.
+ * \param [in] table_len  The number of its bytes.
+ * \param [in] rank       A rank; any number.
+ * \return                32 + 64 n + 40 g, which \ref vejgodat_cut_part needs
+ *                        as buffer.
+ */
+vejgodat_length     vejgodat_part_length (const uint8_t * mesh,
+                                          size_t mesh_len,
+                                          const uint8_t * table,
+                                          size_t table_len, uint32_t rank);
+
+/** Cut a rank's part out of a mesh.
+ *
+ * Links are renamed to local indices; every other byte of a record is copied,
+ * tree data included. The part is sound for the table and the rank.
+ *
+ * Checks, in this order: 2, 3, 5 and 7 as \ref vejgodat_part_length;
+ * \ref VEJGODAT_BUFFER (22) if \a out_len is below the length of the part. A
+ * buffer of 32 + 64 K bytes is never too short.
+ * Cost: O(P) for the check of the table; O(F K) for the check of the mesh and
+ * two more passes over its records for the ghosts; then O(n F log g) for the
+ * trees, whose ghosts are searched by halves.
+ *
+ * \param [in] mesh       A whole mesh; any bytes. Not changed.
+ * \param [in] mesh_len   The number of its bytes.
+ * \param [in] table      Any bytes. Not changed.
+ * \param [in] table_len  The number of its bytes.
+ * \param [in] rank       A rank; any number.
+ * \param [out] out       Its first bytes become the part; the bytes behind them
+ *                        stay. When refused, all of them stay.
+ * \param [in] out_len    The number of bytes of \a out.
+ * \return                The bytes written, 32 + 64 n + 40 g.
+ */
+vejgodat_length     vejgodat_cut_part (const uint8_t * mesh, size_t mesh_len,
+                                       const uint8_t * table,
+                                       size_t table_len, uint32_t rank,
+                                       uint8_t * out, size_t out_len);
+
+/** Find a record by its global number.
+ *
+ * The records may be those of a part with n trees and g ghosts: the trees are
+ * its 64 n bytes from 32 on, the ghosts its 40 g bytes from 32 + 64 n on. But
+ * any bytes will do; of a record its number is read and nothing else, and a
+ * tail that is shorter than a record isn't read at all.
+ *
+ * Checks: none.
+ * Cost: one pass over the records up to the one found, O(n + g).
+ *
+ * \param [in] trees      Tree records of 64 bytes; any bytes. Not changed.
+ * \param [in] trees_len  The number of bytes, not records.
+ * \param [in] ghosts     Core records of 40 bytes; any bytes. Not changed.
+ * \param [in] ghosts_len The number of bytes, not records.
+ * \param [in] number     A global number; any number.
+ * \return                The place of the first tree record with that number;
+ *                        if there is none, of the first ghost with it. The
+ *                        whole record is in the bytes given: 64 bytes of
+ *                        \a trees or 40 of \a ghosts from the offset on.
+ */
+vejgodat_found      vejgodat_lookup (const uint8_t * trees, size_t trees_len,
+                                     const uint8_t * ghosts,
+                                     size_t ghosts_len, uint32_t number);
 
 /** @} */
 

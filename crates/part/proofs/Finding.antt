@@ -13,7 +13,8 @@ use Rattle.encoding.specs.Numbers.{u32At}
 use Rattle.encoding.specs.Pieces.{piece}
 use Rattle.encoding.proofs.Below.{either, any-false, least-none, least-lt, least-is}
 use Rattle.records.specs.Record.{coreSize, treeSize}
-use Rattle.part.specs.Lookup.{hasNumber, found, firstWith, lookupRecord}
+use Rattle.part.specs.declared.Found.{Found}
+use Rattle.part.specs.Lookup.{hasNumber, found, firstPlace, firstWith, lookupRecord, foundAt, foundRecord, foundPiece}
 
 -- one more that fails, after none that passes
 pub none-next : (i : ℕ) (f : ℕ → Bool) → anyBelow i f ≡ false → f i ≡ false → anyBelow (i + 1) f ≡ false
@@ -61,24 +62,73 @@ module _ (size : ℕ) (bs : List ℕ) where
           (λ p. absurd (omega (arith, least-lt (length bs / size) (hasNumber size bs number) p)))
           (λ p. p)
 
-      -- the part of the slice that the code lends
-      pub part-there : take (size * i + size - size * i) (drop (size * i) bs) ≡ firstWith size bs number
-      unfolding firstWith piece
-      part-there = rw (← least, add-sub-cancel-left (size * i) size)
+      -- where it is
+      pub place-there : size * i ≡ firstPlace size bs number
+      unfolding firstPlace
+      place-there = rw (← least)
 
-module _ (trees ghosts : List ℕ) (number i : ℕ) (least : i ≡ leastBelow (length trees / treeSize) (hasNumber treeSize trees number)) where
-  -- a tree has the number
-  pub tree-lent : i < length trees / treeSize → take (treeSize * i + treeSize - treeSize * i) (drop (treeSize * i) trees) ≡ lookupRecord trees ghosts number
-  unfolding lookupRecord
-  tree-lent h = rw (some-there treeSize trees number i least h) (part-there treeSize trees number i least)
+  -- the first with the number is a whole record of the slice
+  pub first-inside : (number : ℕ) → found size bs number ≡ true → firstPlace size bs number + size ≤ length bs
+  unfolding found firstPlace
+  first-inside number h = whole-fits _ (least-lt (length bs / size) (hasNumber size bs number) h)
 
-  module _ (past : length trees / treeSize ≤ i) (j : ℕ) (first : j ≡ leastBelow (length ghosts / coreSize) (hasNumber coreSize ghosts number)) where
-    -- no tree, and a ghost
-    pub ghost-lent : j < length ghosts / coreSize → take (coreSize * j + coreSize - coreSize * j) (drop (coreSize * j) ghosts) ≡ lookupRecord trees ghosts number
-    unfolding lookupRecord
-    ghost-lent h = rw (none-there treeSize trees number i least past, some-there coreSize ghosts number j first h) (part-there coreSize ghosts number j first)
+module _ (trees ghosts : List ℕ) (number : ℕ) where
+  module _ (i : ℕ) (least : i ≡ leastBelow (length trees / treeSize) (hasNumber treeSize trees number)) where
+    -- a tree has the number
+    pub tree-place : i < length trees / treeSize → foundAt 1 (treeSize * i) ≡ foundRecord trees ghosts number
+    unfolding foundRecord
+    tree-place h = rw (some-there treeSize trees number i least h, place-there treeSize trees number i least)
 
-    -- neither
-    pub none-lent : length ghosts / coreSize ≤ j → [] ≡ lookupRecord trees ghosts number
-    unfolding lookupRecord
-    none-lent h = rw (none-there treeSize trees number i least past, none-there coreSize ghosts number j first h)
+    module _ (past : length trees / treeSize ≤ i) (j : ℕ) (first : j ≡ leastBelow (length ghosts / coreSize) (hasNumber coreSize ghosts number)) where
+      -- no tree, and a ghost
+      pub ghost-place : j < length ghosts / coreSize → foundAt 2 (coreSize * j) ≡ foundRecord trees ghosts number
+      unfolding foundRecord
+      ghost-place h = rw (none-there treeSize trees number i least past, some-there coreSize ghosts number j first h, place-there coreSize ghosts number j first)
+
+      -- neither
+      pub none-place : length ghosts / coreSize ≤ j → foundAt 0 0 ≡ foundRecord trees ghosts number
+      unfolding foundRecord
+      none-place h = rw (none-there treeSize trees number i least past, none-there coreSize ghosts number j first h)
+
+  -- the record that the lookup lends is the piece that the place names
+  pub found-is : foundPiece trees ghosts (foundRecord trees ghosts number) ≡ lookupRecord trees ghosts number
+  unfolding foundRecord foundPiece lookupRecord firstWith
+  found-is =
+      either (found treeSize trees number) (λ t. rw t)
+      (λ t. either (found coreSize ghosts number) (λ g. rw (t, g)) (λ g. rw (t, g)))
+
+  -- a tree's place is that of a whole tree record, a ghost's that of a whole core record
+  pub tree-inside : foundRecord trees ghosts number .which ≡ 1 → foundRecord trees ghosts number .offset + treeSize ≤ length trees
+  unfolding foundRecord
+  tree-inside h =
+      either (found treeSize trees number) (λ t. rw t (first-inside treeSize trees number t))
+      (λ t. either (found coreSize ghosts number) (λ g. let w : 2 ≡ 1 = rw (t, g) at h in absurd (omega (arith, w))) (λ g. let w : 0 ≡ 1 = rw (t, g) at h in absurd (omega (arith, w))))
+
+  pub ghost-inside : foundRecord trees ghosts number .which ≡ 2 → foundRecord trees ghosts number .offset + coreSize ≤ length ghosts
+  unfolding foundRecord
+  ghost-inside h =
+      either (found treeSize trees number) (λ t. let w : 1 ≡ 2 = rw t at h in absurd (omega (arith, w)))
+      (λ t. either (found coreSize ghosts number) (λ g. rw (t, g) (first-inside coreSize ghosts number g)) (λ g. let w : 0 ≡ 2 = rw (t, g) at h in absurd (omega (arith, w))))
+
+  -- the part of a slice that the code lends
+  module _ (r : Found) (place : r ≡ foundRecord trees ghosts number) where
+    pub named-lent : foundPiece trees ghosts r ≡ lookupRecord trees ghosts number
+    named-lent = rw place found-is
+
+    pub tree-fits : r .which ≡ 1 → r .offset + treeSize ≤ length trees
+    tree-fits h = rw place (tree-inside (rw place at h))
+
+    pub tree-lent : r .which ≡ 1 → take (r .offset + treeSize - r .offset) (drop (r .offset) trees) ≡ lookupRecord trees ghosts number
+    unfolding foundPiece piece
+    tree-lent h = rw (← named-lent, h, add-sub-cancel-left (r .offset) treeSize)
+
+    pub ghost-fits : r .which ≡ 2 → r .offset + coreSize ≤ length ghosts
+    ghost-fits h = rw place (ghost-inside (rw place at h))
+
+    pub ghost-lent : r .which ≡ 2 → take (r .offset + coreSize - r .offset) (drop (r .offset) ghosts) ≡ lookupRecord trees ghosts number
+    unfolding foundPiece piece
+    ghost-lent h = rw (← named-lent, h, add-sub-cancel-left (r .offset) coreSize)
+
+    pub none-lent : (r .which ≡ 1 → ⊥) → (r .which ≡ 2 → ⊥) → [] ≡ lookupRecord trees ghosts number
+    unfolding foundPiece
+    none-lent h g = rw (← named-lent, ne-eqb _ _ h, ne-eqb _ _ g)

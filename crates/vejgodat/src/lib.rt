@@ -2,11 +2,15 @@
 ghost use mathlib.Core.Path.{_≡_};
 ghost use Rattle.offsets.specs.Calls.{tableRefusal, tableRange, tableLengthAnswer, writeTable, tableFromLeaves};
 ghost use Rattle.mesh.specs.Mesh.{meshRefusal};
+ghost use Rattle.part.specs.Calls.{partLengthOf, cutPartOf};
+ghost use Rattle.part.specs.Lookup.{foundRecord};
 ghost use Rattle.pattern.specs.Calls.{senderOf, treesSent, sendSetOf, receiveSetOf};
 use encoding::answer::Length;
 use offsets::Range;
+use part::Found;
 use pattern::Ranks;
 use pattern::SenderAnswer;
+use records::index::GlobalIndex;
 
 #[no_mangle]
 pub extern "C" fn vejgodat_check_table(table: &[u8]) -> u32
@@ -86,4 +90,25 @@ pub extern "C" fn vejgodat_check_mesh(mesh: &[u8]) -> u32
     ensures { λ r. ⌜ r ≡ meshRefusal (now (mesh .entry)) ⌝ }
 {
     mesh::check_mesh(mesh)
+}
+
+#[no_mangle]
+pub extern "C" fn vejgodat_part_length(mesh: &[u8], table: &[u8], rank: u32) -> Length
+    ensures { λ r. ⌜ r ≡ partLengthOf (now (mesh .entry)) (now (table .entry)) rank ⌝ }
+{
+    part::part_length(mesh, table, rank)
+}
+
+#[no_mangle]
+pub extern "C" fn vejgodat_cut_part(mesh: &[u8], table: &[u8], rank: u32, out: &mut [u8]) -> Length
+    ensures { λ r. ⌜ (r, now (out .exit)) ≡ cutPartOf (now (mesh .entry)) (now (table .entry)) rank (now (out .entry)) ⌝ }
+{
+    part::cut_part(mesh, table, rank, out)
+}
+
+#[no_mangle]
+pub extern "C" fn vejgodat_lookup(trees: &[u8], ghosts: &[u8], number: u32) -> Found
+    ensures { λ r. ⌜ r ≡ foundRecord (now (trees .entry)) (now (ghosts .entry)) number ⌝ }
+{
+    part::find_record(trees, ghosts, GlobalIndex(number))
 }

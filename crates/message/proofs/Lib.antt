@@ -1,2 +1,5 @@
 -- Laws, for this crate's proofs and for the crates above.
+pub mod Layouts
+pub mod Reading
+pub mod Checking
 pub mod Examples

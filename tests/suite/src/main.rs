@@ -1,11 +1,13 @@
 //! Tests of the C interface against a second implementation. Run: cargo run --release --offline [-- SEED [NAME]]
 //! The last line is 'N passed, M failed'; the exit status is 0 only where nothing failed.
+mod area_model;
 mod calls;
 mod cases;
 mod library;
 mod memory;
 mod mesh_cases;
 mod mesh_model;
+mod message_model;
 mod model;
 mod part_model;
 mod random;

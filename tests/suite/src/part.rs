@@ -8,6 +8,7 @@ use crate::model::{bytes_of, Answer, MAX_TREES};
 use crate::part_model::{self, header, Fault, Kind, Part, Share, GHOST, HEADER, TREE};
 use crate::random::Random;
 use crate::refusals::{expect_seen, first_of, kinds};
+use crate::second::triangles;
 use crate::{Run, Test};
 use std::cell::RefCell;
 use std::collections::{BTreeMap, BTreeSet};
@@ -192,16 +193,6 @@ impl Calls {
 }
 
 // ---- cases
-
-/// Face 0 of each meets face 1 of the next, after 2 comes 0; face 2 is the boundary; orientation 0.
-pub fn triangles() -> Vec<u8> {
-    let mut mesh = apart(&[1, 1, 1], 0);
-    for k in 0..3 {
-        join(&mut mesh, (k, 0), ((k + 1) % 3, 1), 0);
-        mesh[meshes::place(k) + 40..meshes::place(k + 1)].fill(0xA0 + k as u8);
-    }
-    mesh
-}
 
 /// A mesh, a table of its trees, a rank, and the part.
 pub struct Case {

@@ -2,6 +2,8 @@
  * It says what differs, and its exit status is 0 only where nothing did. */
 #include <vejgodat.h>
 
+/* A line '#define PARTS' here switches the calls for parts on. */
+
 #include <stdio.h>
 #include <string.h>
 
@@ -255,13 +257,13 @@ put_number (uint8_t * bytes, uint32_t number)
 
 /* Three triangles: face 0 of each meets face 1 of the next, face 2 is the boundary. */
 static void
-check_mesh (void)
+put_triangles (uint8_t * mesh)
 {
-  uint8_t             mesh[VEJGODAT_MESH_BYTES (3)], *record;
+  uint8_t            *record;
   uint32_t            k;
   int                 face;
 
-  memset (mesh, 0, sizeof mesh);
+  memset (mesh, 0, VEJGODAT_MESH_BYTES (3));
   put_number (mesh, 2);
   put_number (mesh + 4, 3);
   for (k = 0; k < 3; ++k) {
@@ -279,6 +281,14 @@ check_mesh (void)
     record[34] = 2;
     memset (record + 40, 0xa0 + (int) k, 24);
   }
+}
+
+static void
+check_mesh (void)
+{
+  uint8_t             mesh[VEJGODAT_MESH_BYTES (3)];
+
+  put_triangles (mesh);
   EXPECT (vejgodat_check_mesh (mesh, sizeof mesh) == VEJGODAT_OK);
 
   /* face 0 of tree 1 with another orientation than face 1 of tree 2 */
@@ -290,6 +300,95 @@ check_mesh (void)
   EXPECT (vejgodat_check_mesh (mesh, sizeof mesh - 1) == VEJGODAT_MESH);
   EXPECT (vejgodat_check_mesh (NULL, 0) == VEJGODAT_MESH);
 }
+
+#ifdef PARTS
+
+static int
+is_neighbour (vejgodat_neighbour got, uint32_t kind, uint32_t index,
+              uint32_t face)
+{
+  return got.refusal == VEJGODAT_OK && got.shape == 1 && got.kind == kind
+    && got.index == index && got.face == face && got.orientation == 0;
+}
+
+/* Rank 1 has trees 0 and 1 of the three triangles, and the ghost 2. */
+static void
+parts (void)
+{
+  static const int64_t entries[4] = { 0, -1, 2, 3 };
+  /* dimension, K, P, rank, first tree, trees, ghosts, 0 */
+  static const uint32_t words[8] = { 2, 3, 3, 1, 0, 2, 1, 0 };
+  uint8_t             mesh[VEJGODAT_MESH_BYTES (3)], table[32];
+  uint8_t             part[32 + 2 * 64 + 40 + 8], before[sizeof part];
+  const uint8_t      *trees = part + 32, *ghosts = part + 32 + 2 * 64;
+  const size_t        part_len = sizeof part - 8;
+  uint8_t             expected[32];
+  vejgodat_length     answer;
+  vejgodat_neighbour  there;
+  vejgodat_found      found;
+  uint32_t            k;
+  int                 i;
+
+  EXPECT (sizeof (vejgodat_neighbour) == 24);
+  EXPECT (sizeof (vejgodat_found) == 16);
+  EXPECT (offsetof (vejgodat_found, offset) == 8);
+
+  put_triangles (mesh);
+  put_table (table, 3, entries);
+  memset (part, 0x5a, sizeof part);
+  memset (before, 0x5a, sizeof before);
+
+  answer = vejgodat_part_length (mesh, sizeof mesh, table, 32, 1);
+  EXPECT (answer.refusal == VEJGODAT_OK && answer.length == part_len);
+  answer = vejgodat_part_length (mesh, sizeof mesh, table, 32, 3);
+  EXPECT (answer.refusal == VEJGODAT_INDEX && answer.length == 0);
+  answer = vejgodat_part_length (mesh, sizeof mesh - 1, table, 32, 1);
+  EXPECT (answer.refusal == VEJGODAT_MESH && answer.length == 0);
+  answer =
+    vejgodat_cut_part (mesh, sizeof mesh, table, 32, 1, part, part_len - 1);
+  EXPECT (answer.refusal == VEJGODAT_BUFFER && answer.length == 0);
+  EXPECT (memcmp (part, before, sizeof part) == 0);
+
+  answer =
+    vejgodat_cut_part (mesh, sizeof mesh, table, 32, 1, part, sizeof part);
+  EXPECT (answer.refusal == VEJGODAT_OK && answer.length == part_len);
+  EXPECT (memcmp (part + part_len, before, 8) == 0);
+  for (i = 0; i < 8; ++i) {
+    put_number (expected + 4 * i, words[i]);
+  }
+  EXPECT (memcmp (part, expected, 32) == 0);
+  /* local indices are the global numbers here: the ghost comes third */
+  EXPECT (memcmp (trees, mesh + 8, 2 * 64) == 0);
+  EXPECT (memcmp (ghosts, mesh + 8 + 2 * 64, 40) == 0);
+
+  EXPECT (vejgodat_check_part (part, part_len, table, 32, 1) == VEJGODAT_OK);
+  EXPECT (vejgodat_check_part (part, sizeof part, table, 32, 1) == 8);
+  EXPECT (vejgodat_check_part (part, part_len, table, 32, 0) == 8);
+  EXPECT (vejgodat_check_part (NULL, 0, table, 32, 0) == 8);
+
+  there = vejgodat_neighbour_of (part, part_len, table, 32, 1, 1, 0);
+  EXPECT (is_neighbour (there, 3, 2, 1));
+  there = vejgodat_neighbour_of (part, part_len, table, 32, 1, 1, 1);
+  EXPECT (is_neighbour (there, 2, 0, 0));
+  there = vejgodat_neighbour_of (part, part_len, table, 32, 1, 1, 2);
+  EXPECT (is_neighbour (there, 0, 1, 2));
+  there = vejgodat_neighbour_of (part, part_len, table, 32, 1, 1, 3);
+  EXPECT (is_neighbour (there, 1, 0, 0));
+  there = vejgodat_neighbour_of (part, part_len, table, 32, 1, 2, 0);
+  EXPECT (there.refusal == VEJGODAT_INDEX && there.shape == 0);
+  there = vejgodat_neighbour_of (part, part_len, table, 32, 1, 1, 6);
+  EXPECT (there.refusal == VEJGODAT_INDEX && there.shape == 0);
+
+  for (k = 0; k < 4; ++k) {
+    found = vejgodat_lookup (trees, 2 * 64, ghosts, 40, k);
+    EXPECT (found.which == (k < 2 ? 1 : k < 3 ? 2 : 0));
+    EXPECT (found.offset == (k < 2 ? 64 * k : 0));
+  }
+  found = vejgodat_lookup (trees, 2 * 64 - 1, ghosts, 39, 1);
+  EXPECT (found.which == 0 && found.offset == 0);
+}
+
+#endif
 
 int
 main (void)
@@ -303,5 +402,8 @@ main (void)
   plan ();
   empty_set ();
   check_mesh ();
+#ifdef PARTS
+  parts ();
+#endif
   return wrong == 0 ? 0 : 1;
 }

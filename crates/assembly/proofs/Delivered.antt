@@ -302,7 +302,7 @@ module _ (a m : List ℕ) (b : Bytes a) (A : Accepted a m) where
     unfolding sends
     due-sends = rw due-held
 
-    -- a tree of the message
+    -- the slot of a tree that came has the message's record, every other slot stays
     slot-came : eqb (sender old k rank) p ≡ true → slotAfter a m i ≡ piece m (messageTreePlace place) treeSize
     unfolding slotAfter areaFirst
     slot-came e = rw (due-sends, e)
@@ -311,6 +311,7 @@ module _ (a m : List ℕ) (b : Bytes a) (A : Accepted a m) where
     unfolding slotAfter areaFirst
     slot-stays e = rw (due-sends, e)
 
+    -- where that record stands in the message
     came-range : eqb (sender old k rank) p ≡ true → (sentFirst old new p rank ≤ k) × (k < sentFirst old new p rank + sentCount old new p rank)
     came-range e =
         range-true (sentFirst old new p rank) (sentFirst old new p rank + sentCount old new p rank) k
@@ -335,6 +336,7 @@ module _ (a m : List ℕ) (b : Bytes a) (A : Accepted a m) where
         (λ e. rw (slot-came e) (piece-length m (messageTreePlace place) treeSize (omega (arith, came-place e, laid .size))))
         (λ e. rw (slot-stays e) (sound-zones a b (A .area-ok) .slots-long i h))
 
+    -- whether its sender is heard after the delivery
     abbrev heard' : Bool
     heard' = heard a (sender old k rank) || eqb (sender old k rank) p
 

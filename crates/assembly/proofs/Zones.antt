@@ -138,13 +138,14 @@ module _ (epoch dimension : ℕ) (old new : List ℕ) (rank : ℕ) (H : ℕ → 
   abbrev area : List ℕ
   area = areaWith epoch dimension old new rank H slot g ghosts ++ tail
 
-  -- what stands behind each zone
   abbrev header : List ℕ
   header = areaHeaderBytes epoch dimension (trees old) (ranks old) rank (treeCount new rank) g
 
+  -- the ghost slots that hold nothing
   abbrev empty : List ℕ
   empty = replicate (coreSize * (bound - g)) 0
 
+  -- what stands behind the tree slots, the words and the new table
   abbrev behindSlots : List ℕ
   behindSlots = ghosts ++ (empty ++ tail)
 

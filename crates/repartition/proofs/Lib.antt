@@ -1,2 +1,3 @@
 -- Laws and theorems.
 pub mod Receive
+pub mod Counting

@@ -1,3 +1,4 @@
 -- Laws and theorems.
 pub mod Receive
 pub mod Counting
+pub mod Heard

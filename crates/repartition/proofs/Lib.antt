@@ -2,3 +2,4 @@
 pub mod Receive
 pub mod Counting
 pub mod Heard
+pub mod Delivering

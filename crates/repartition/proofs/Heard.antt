@@ -1,0 +1,295 @@
+-- The canonical area read back, sound, and a function of who is heard.
+use Prim.Native.Nat.{ℕ, zero, suc, _+_, _*_, _≤_, _<_}
+use native.Mathlib.Nat.{le-refl, add-zero}
+use native.Mathlib.Omega.{arith}
+use mathlib.Core.Path.{_≡_, refl, sym, ap, fun-ext, _∙_}
+use mathlib.Core.Bool.{Bool, true, false, not, and-false}
+use mathlib.Core.List.{List, [], _∷_, _++_, append-nil}
+use lib.Dec.{eqb}
+use lib.ListN.{length, getD, replicate, length-append, length-replicate, List·getD-append}
+use lib.Seq.{getD-at}
+use borrow.Author.Tests.{eqb-true, eq-eqb, not-true}
+use Rattle.encoding.specs.Below.{anyBelow, leastBelow, countBelow, keptBelow}
+use Rattle.encoding.specs.Pieces.{piece}
+use Rattle.encoding.specs.Words.{allZero}
+use Rattle.encoding.proofs.Below.{either, and-fst, iff-eq, below-suc, any-at, any-intro, least-lt, least-at, count-none, count-lt, kept-length, kept-at, kept-found, kept-ascends}
+use Rattle.encoding.proofs.Pieces.{piece-length}
+use Rattle.offsets.specs.Table.{ranks, firstTree, treeCount, holds}
+use Rattle.records.specs.Shape.{facesIn}
+use Rattle.records.specs.Record.{coreSize, treeSize, numberOf, inForm}
+use Rattle.records.proofs.Forms.{piece-piece}
+use Rattle.pattern.specs.Sender.{Tables, sender}
+use Rattle.pattern.proofs.Counting.{count-imp}
+use Rattle.mesh.specs.Mesh.{meshHeader, meshDimension, meshTrees, meshCore, meshRecord}
+use Rattle.mesh.proofs.Soundness.{header-parts, sound-header, sound-fits, sound-core, sound-form, sound-number}
+use Rattle.part.specs.Ghosts.{isGhost}
+use Rattle.assembly.specs.Layout.{heardWords, ghostBound}
+use Rattle.assembly.specs.Area.{areaGhosts, heard, ghostSlot, areaSound}
+use Rattle.assembly.specs.Open.{freshArea}
+use Rattle.assembly.specs.Deliver.{among, oneOf}
+use Rattle.assembly.proofs.Joined.{piece-first, piece-last}
+use Rattle.assembly.proofs.Zones.{Zones, Reads, words-enough, few-ranks, range-end, area-reads, area-same}
+use Rattle.assembly.proofs.Sound.{Held, ghostAt, zeros-zero, area-sound}
+use Rattle.repartition.specs.Canonical.{slotHeard, ghostHeard, ghostsHeard, canonical}
+use Rattle.repartition.specs.Lists.{Setting, nobody}
+use Rattle.repartition.proofs.Receive.{InReceive}
+use Rattle.repartition.proofs.Counting.{ghosts-fit}
+
+-- ---- cores in a row, found by number
+
+-- count records are the cores of the numbers below K that pass f, ascending; each core has its number
+pub record Kept (K : ℕ) (f : ℕ → Bool) (core : ℕ → List ℕ) (count : ℕ) (r : ℕ → List ℕ) : Type 0 where
+  pub many : count ≡ countBelow K f
+  pub at-place : (j : ℕ) → j < countBelow K f → r j ≡ core (getD (keptBelow K f) j 0)
+  pub number : (k : ℕ) → k < K → numberOf (core k) ≡ k
+
+module _ (K : ℕ) (f : ℕ → Bool) (core : ℕ → List ℕ) (count : ℕ) (r : ℕ → List ℕ) (kept : Kept K f core count r) where
+  kept-number : (j : ℕ) → j < countBelow K f → numberOf (r j) ≡ getD (keptBelow K f) j 0
+  kept-number j h = ap numberOf (kept .at-place j h) ∙ kept .number (getD (keptBelow K f) j 0) (kept-found K f j 0 h .0)
+
+  -- one of them has number k where k passes
+  pub among-kept : (k : ℕ) → k < K → among count r k ≡ f k
+  unfolding among
+  among-kept k h =
+      rw (kept .many)
+      (iff-eq (anyBelow (countBelow K f) (λ j. eqb (numberOf (r j)) k)) (f k)
+      (λ e. let a = any-at (countBelow K f) (λ j. eqb (numberOf (r j)) k) e in
+      let i : getD (keptBelow K f) (a .0) 0 ≡ k = sym (kept-number (a .0) (a .1)) ∙ eqb-true (numberOf (r (a .0))) k (a .2) in
+      rw i at (kept-found K f (a .0) 0 (a .1) .1))
+      (λ e. let l : countBelow k f < countBelow K f = count-lt k K f h e in
+      any-intro (countBelow K f) (λ j. eqb (numberOf (r j)) k) (countBelow k f) l
+      (eq-eqb (numberOf (r (countBelow k f))) k (kept-number (countBelow k f) l ∙ kept-at K f k h e 0))))
+
+  -- and that record is its core
+  pub one-kept : (k : ℕ) → k < K → f k ≡ true → oneOf count r k ≡ core k
+  unfolding oneOf among
+  one-kept k h e =
+      let t : anyBelow count (λ j. eqb (numberOf (r j)) k) ≡ true = among-kept k h ∙ e in
+      let j : ℕ = leastBelow count (λ j. eqb (numberOf (r j)) k) in
+      let l : j < countBelow K f = omega (arith, least-lt count (λ j. eqb (numberOf (r j)) k) t, kept .many) in
+      let i : getD (keptBelow K f) j 0 ≡ k = sym (kept-number j l) ∙ eqb-true (numberOf (r j)) k (least-at count (λ j. eqb (numberOf (r j)) k) t) in
+      kept .at-place j l ∙ ap core i
+
+-- ---- the canonical area
+
+module _ (mesh old new : List ℕ) (rank epoch : ℕ) where
+  -- the core of a tree's record
+  pub record-core : (k : ℕ) → piece (meshRecord mesh k) 0 coreSize ≡ meshCore mesh k
+  unfolding meshRecord meshCore
+  record-core k = piece-piece mesh (meshHeader + treeSize * k) treeSize 0 coreSize (omega arith) ∙ ap (λ (at : ℕ). piece mesh at coreSize) (add-zero (meshHeader + treeSize * k))
+
+  module _ (S : Setting mesh old new rank epoch) (H : ℕ → Bool) where
+    abbrev K : ℕ
+    K = meshTrees mesh
+
+    abbrev T : Tables old new
+    T = S .tables
+
+    abbrev slot : ℕ → List ℕ
+    slot = slotHeard mesh old new rank epoch H
+
+    abbrev test : ℕ → Bool
+    test = ghostHeard mesh old new rank epoch H
+
+    abbrev ghosts : ℕ → List ℕ
+    ghosts = ghostsHeard mesh old new rank epoch H
+
+    -- the trees of the rank are trees of the mesh
+    pub own-tree : (i : ℕ) → i < treeCount new rank → firstTree new rank + i < meshTrees mesh
+    own-tree i h = omega (arith, range-end old new rank T (S .rank-below), S .same-trees)
+
+    -- a tree's record has 64 bytes
+    pub record-long : (k : ℕ) → k < meshTrees mesh → length (meshRecord mesh k) ≡ treeSize
+    unfolding meshRecord
+    record-long k h = piece-length mesh (meshHeader + treeSize * k) treeSize (sound-fits mesh (S .mesh-sound) k h)
+
+    slot-long : (i : ℕ) → i < treeCount new rank → length (slot i) ≡ treeSize
+    unfolding slotHeard
+    slot-long i h =
+        either (H (sender old (firstTree new rank + i) rank))
+        (λ t. rw t (record-long (firstTree new rank + i) (own-tree i h)))
+        (λ t. rw t (length-replicate {A = ℕ} treeSize 0))
+
+    core-long : (k : ℕ) → k < K → length (meshCore mesh k) ≡ coreSize
+    core-long k h = sound-core mesh (S .mesh-sound) k h
+
+    -- the ghosts heard below k, of 40 bytes each
+    ghosts-length : (k : ℕ) → k ≤ K → length (ghosts k) ≡ coreSize * countBelow k test
+    unfolding ghostsHeard countBelow
+    ghosts-length zero h = refl
+    ghosts-length (suc k) h =
+        either (test k)
+        (λ t. rw (length-append, ghosts-length k (omega arith), t) (omega (arith, core-long k (omega arith))))
+        (λ t. rw (length-append, ghosts-length k (omega arith), t) (omega arith))
+
+    -- ghost j is the core of the one with j before it
+    ghosts-at : (k : ℕ) → k ≤ K → (j : ℕ) → j < countBelow k test → piece (ghosts k) (coreSize * j) coreSize ≡ meshCore mesh (getD (keptBelow k test) j 0)
+    unfolding ghostsHeard countBelow keptBelow
+    ghosts-at zero h j l = absurd (omega arith)
+    ghosts-at (suc k) h j l =
+        let G : List ℕ = ghosts k in
+        let n : ℕ = countBelow k test in
+        let lG : length G ≡ coreSize * n = ghosts-length k (omega arith) in
+        let lK : length (keptBelow k test) ≡ n = kept-length k test in
+        either (test k)
+        (λ t. let l' : j < n + 1 = rw t at l in
+        rw t
+        (below-suc j n (omega arith)
+        (λ a. piece-first G (meshCore mesh k) (coreSize * j) coreSize (omega arith) ∙ ghosts-at k (omega arith) j a
+        ∙ ap (meshCore mesh) (sym (List·getD-append (keptBelow k test) (k ∷ []) 0 j (omega arith))))
+        (λ e. piece-last G (meshCore mesh k) (coreSize * j) coreSize (rw e lG) (core-long k (omega arith))
+        ∙ ap (meshCore mesh) (sym (getD-at (keptBelow k test) k [] 0 j (omega arith))))))
+        (λ t. let l' : j < n = omega (arith, rw t at l) in
+        rw (t, append-nil G, append-nil (keptBelow k test)) (ghosts-at k (omega arith) j l'))
+
+    -- a ghost heard is a ghost of the rank
+    pub heard-ghost : (k : ℕ) → ghostHeard mesh old new rank epoch H k ≡ true → isGhost (meshCore mesh) new rank k ≡ true
+    unfolding ghostHeard
+    heard-ghost k e = and-fst (isGhost (meshCore mesh) new rank k) _ e
+
+    -- so there are slots for them
+    pub heard-fit : countBelow (meshTrees mesh) (ghostHeard mesh old new rank epoch H) ≤ ghostBound (facesIn (meshDimension mesh)) (treeCount new rank)
+    heard-fit = omega (arith, count-imp K test (isGhost (meshCore mesh) new rank) (λ k h. heard-ghost k), ghosts-fit mesh old new rank epoch S)
+
+    -- the zones of the canonical area
+    pub canonical-zones : Zones epoch (meshDimension mesh) old new rank (slotHeard mesh old new rank epoch H)
+        (countBelow (meshTrees mesh) (ghostHeard mesh old new rank epoch H)) (ghostsHeard mesh old new rank epoch H (meshTrees mesh))
+    canonical-zones =
+        record {
+          tables = T;
+          is-rank = S .rank-below;
+          is-dimension = header-parts mesh (sound-header mesh (S .mesh-sound)) .0;
+          small-epoch = S .epoch-word;
+          slots-long = slot-long;
+          ghosts-long = ghosts-length K (le-refl K);
+          ghosts-fit = heard-fit;
+        }
+
+    -- what is read from it, whatever stands behind it
+    pub canonical-reads : (tail : List ℕ) → Reads (canonical mesh old new rank epoch H ++ tail) epoch (meshDimension mesh) old new rank H (slotHeard mesh old new rank epoch H)
+        (countBelow (meshTrees mesh) (ghostHeard mesh old new rank epoch H)) (ghostsHeard mesh old new rank epoch H (meshTrees mesh)) tail
+    unfolding canonical
+    canonical-reads tail = area-reads epoch (meshDimension mesh) old new rank H slot (countBelow K test) (ghosts K) tail canonical-zones
+
+    -- a rank has a bit
+    pub rank-bit : (s : ℕ) → s < ranks old → s < 64 * heardWords (ranks old)
+    rank-bit s h = omega (arith, words-enough (ranks old) (few-ranks old new T))
+
+    -- its ghost slots hold the ghosts heard
+    pub heard-kept : (tail : List ℕ) → Kept (meshTrees mesh) (ghostHeard mesh old new rank epoch H) (meshCore mesh)
+        (areaGhosts (canonical mesh old new rank epoch H ++ tail)) (ghostSlot (canonical mesh old new rank epoch H ++ tail))
+    heard-kept tail =
+        record {
+          many = canonical-reads tail .at-ghosts;
+          at-place = λ j h. canonical-reads tail .at-ghost j h ∙ ghosts-at K (le-refl K) j h;
+          number = sound-number mesh (S .mesh-sound);
+        }
+
+    -- k is among them where it is a ghost heard
+    pub among-heard : (tail : List ℕ) (k : ℕ) → k < meshTrees mesh
+        → among (areaGhosts (canonical mesh old new rank epoch H ++ tail)) (ghostSlot (canonical mesh old new rank epoch H ++ tail)) k ≡ ghostHeard mesh old new rank epoch H k
+    among-heard tail k h =
+        let a : List ℕ = canonical mesh old new rank epoch H ++ tail in
+        among-kept K test (meshCore mesh) (areaGhosts a) (ghostSlot a) (heard-kept tail) k h
+
+    -- and then with its core
+    pub one-heard : (tail : List ℕ) (k : ℕ) → k < meshTrees mesh → ghostHeard mesh old new rank epoch H k ≡ true
+        → oneOf (areaGhosts (canonical mesh old new rank epoch H ++ tail)) (ghostSlot (canonical mesh old new rank epoch H ++ tail)) k ≡ meshCore mesh k
+    one-heard tail k h e =
+        let a : List ℕ = canonical mesh old new rank epoch H ++ tail in
+        one-kept K test (meshCore mesh) (areaGhosts a) (ghostSlot a) (heard-kept tail) k h e
+
+    -- ---- it is sound
+
+    slot-core : (i : ℕ) → H (sender old (firstTree new rank + i) rank) ≡ true → piece (slot i) 0 coreSize ≡ meshCore mesh (firstTree new rank + i)
+    unfolding slotHeard
+    slot-core i t = rw t (record-core (firstTree new rank + i))
+
+    slot-zero : (i : ℕ) → H (sender old (firstTree new rank + i) rank) ≡ false → allZero (slot i) ≡ true
+    unfolding slotHeard
+    slot-zero i t = rw t (zeros-zero treeSize)
+
+    abbrev at : ℕ → ℕ
+    at j = getD (keptBelow K test) j 0
+
+    ghost-number : (j : ℕ) → j < countBelow K test → numberOf (ghostAt (ghosts K) j) ≡ at j
+    ghost-number j h = ap numberOf (ghosts-at K (le-refl K) j h) ∙ sound-number mesh (S .mesh-sound) (at j) (kept-found K test j 0 h .0)
+
+    ghost-in-form : (j : ℕ) → j < countBelow K test → inForm (numberOf (ghostAt (ghosts K) j)) (ghostAt (ghosts K) j) ≡ true
+    ghost-in-form j h = rw (ghost-number j h, ghosts-at K (le-refl K) j h) (sound-form mesh (S .mesh-sound) (at j) (kept-found K test j 0 h .0))
+
+    ghost-out : (k : ℕ) → test k ≡ true → holds new rank k ≡ false
+    unfolding isGhost
+    ghost-out k e = not-true (holds new rank k) (and-fst (not (holds new rank k)) _ (heard-ghost k e))
+
+    canonical-held : InReceive old new rank H → Held old new rank H slot (countBelow K test) (ghosts K)
+    canonical-held r =
+        record {
+          bit-rank = λ s h t. r .below s t;
+          bit-due = λ s h t. r .due s t;
+          tree-form = λ i h t. rw (slot-core i t) (sound-form mesh (S .mesh-sound) (firstTree new rank + i) (own-tree i h));
+          tree-number = λ i h t. rw (slot-core i t) (sound-number mesh (S .mesh-sound) (firstTree new rank + i) (own-tree i h));
+          tree-zero = λ i h t. slot-zero i t;
+          ghost-form = ghost-in-form;
+          ghost-below = λ j h. omega (arith, ghost-number j h, kept-found K test j 0 h .0, S .same-trees);
+          ghost-outside = λ j h. rw (ghost-number j h) (ghost-out (at j) (kept-found K test j 0 h .1));
+          ghost-ascends = λ i j l h. rw (ghost-number i (omega arith), ghost-number j h) (kept-ascends K test i j 0 l h);
+        }
+
+    -- where only ranks of the receive set are heard, the area is sound
+    pub canonical-sound : (tail : List ℕ) → InReceive old new rank H → areaSound (canonical mesh old new rank epoch H ++ tail) ≡ true
+    unfolding canonical
+    canonical-sound tail r = area-sound epoch (meshDimension mesh) old new rank H slot (countBelow K test) (ghosts K) tail canonical-zones (canonical-held r)
+
+  -- ---- what it depends on
+
+  -- two heard sets of ranks of the receive set that agree below P are equal
+  heard-agree : (H₁ H₂ : ℕ → Bool) → InReceive old new rank H₁ → InReceive old new rank H₂ → ((s : ℕ) → s < ranks old → H₁ s ≡ H₂ s) → (s : ℕ) → H₁ s ≡ H₂ s
+  heard-agree H₁ H₂ r₁ r₂ e s =
+      iff-eq (H₁ s) (H₂ s) (λ t. sym (e s (r₁ .below s t)) ∙ t) (λ t. e s (r₂ .below s t) ∙ t)
+
+  -- equal heard sets give equal areas
+  pub canonical-agree : (H₁ H₂ : ℕ → Bool) → ((s : ℕ) → H₁ s ≡ H₂ s) → canonical mesh old new rank epoch H₁ ≡ canonical mesh old new rank epoch H₂
+  canonical-agree H₁ H₂ e = ap (canonical mesh old new rank epoch) (fun-ext e)
+
+  -- the area depends on the ranks below P
+  pub canonical-same : (H₁ H₂ : ℕ → Bool) → InReceive old new rank H₁ → InReceive old new rank H₂ → ((s : ℕ) → s < ranks old → H₁ s ≡ H₂ s)
+      → canonical mesh old new rank epoch H₁ ≡ canonical mesh old new rank epoch H₂
+  canonical-same H₁ H₂ r₁ r₂ e = canonical-agree H₁ H₂ (heard-agree H₁ H₂ r₁ r₂ e)
+
+  -- equal areas have heard the same ranks, whatever stands behind them
+  pub canonical-apart-behind : Setting mesh old new rank epoch → (H₁ H₂ : ℕ → Bool) (tail₁ tail₂ : List ℕ)
+      → canonical mesh old new rank epoch H₁ ++ tail₁ ≡ canonical mesh old new rank epoch H₂ ++ tail₂ → (s : ℕ) → s < ranks old → H₁ s ≡ H₂ s
+  canonical-apart-behind S H₁ H₂ tail₁ tail₂ e s h =
+      sym (canonical-reads S H₁ tail₁ .at-heard s (rank-bit S H₁ s h)) ∙ ap (λ (a : List ℕ). heard a s) e ∙ canonical-reads S H₂ tail₂ .at-heard s (rank-bit S H₂ s h)
+
+  pub canonical-apart : Setting mesh old new rank epoch → (H₁ H₂ : ℕ → Bool) → canonical mesh old new rank epoch H₁ ≡ canonical mesh old new rank epoch H₂
+      → (s : ℕ) → s < ranks old → H₁ s ≡ H₂ s
+  canonical-apart S H₁ H₂ e = canonical-apart-behind S H₁ H₂ [] [] (ap (λ (a : List ℕ). a ++ []) e)
+
+  -- ---- the fresh area
+
+  nobody-none : (s : ℕ) → false ≡ nobody mesh old new rank epoch s
+  unfolding nobody
+  nobody-none s = refl
+
+  nobody-ghost : (k : ℕ) → ghostHeard mesh old new rank epoch (nobody mesh old new rank epoch) k ≡ false
+  unfolding ghostHeard nobody
+  nobody-ghost k = and-false (isGhost (meshCore mesh) new rank k)
+
+  nobody-ghosts : (k : ℕ) → ghostsHeard mesh old new rank epoch (nobody mesh old new rank epoch) k ≡ []
+  unfolding ghostsHeard
+  nobody-ghosts zero = refl
+  nobody-ghosts (suc k) = rw (nobody-ghosts k, nobody-ghost k)
+
+  nobody-slot : (i : ℕ) → slotHeard mesh old new rank epoch (nobody mesh old new rank epoch) i ≡ replicate treeSize 0
+  unfolding slotHeard nobody
+  nobody-slot i = refl
+
+  -- in the fresh area nobody is heard
+  pub fresh-canonical : freshArea old new rank (meshDimension mesh) epoch ≡ canonical mesh old new rank epoch (nobody mesh old new rank epoch)
+  unfolding freshArea canonical
+  fresh-canonical =
+      rw (nobody-ghosts (meshTrees mesh), count-none (meshTrees mesh) (ghostHeard mesh old new rank epoch (nobody mesh old new rank epoch)) (λ k h. nobody-ghost k))
+      (area-same epoch (meshDimension mesh) old new rank (λ s. false) (nobody mesh old new rank epoch) (λ i. replicate treeSize 0) (slotHeard mesh old new rank epoch (nobody mesh old new rank epoch)) 0 []
+      (λ s h. nobody-none s) (λ i h. sym (nobody-slot i)))

@@ -29,7 +29,8 @@ use Rattle.assembly.specs.Open.{freshArea}
 use Rattle.assembly.specs.Deliver.{among, oneOf}
 use Rattle.assembly.proofs.Joined.{piece-first, piece-last}
 use Rattle.assembly.proofs.Zones.{Zones, Reads, words-enough, few-ranks, range-end, area-reads, area-same}
-use Rattle.assembly.proofs.Sound.{Held, ghostAt, zeros-zero, area-sound}
+use Rattle.assembly.proofs.Kept.{ghostAt}
+use Rattle.assembly.proofs.Sound.{Held, zeros-zero, area-sound}
 use Rattle.repartition.specs.Canonical.{slotHeard, ghostHeard, ghostsHeard, canonical}
 use Rattle.repartition.specs.Lists.{Setting, nobody}
 use Rattle.repartition.proofs.Receive.{InReceive}
@@ -230,10 +231,14 @@ module _ (mesh old new : List ℕ) (rank epoch : ℕ) where
           tree-form = λ i h t. rw (slot-core i t) (sound-form mesh (S .mesh-sound) (firstTree new rank + i) (own-tree i h));
           tree-number = λ i h t. rw (slot-core i t) (sound-number mesh (S .mesh-sound) (firstTree new rank + i) (own-tree i h));
           tree-zero = λ i h t. slot-zero i t;
-          ghost-form = ghost-in-form;
-          ghost-below = λ j h. omega (arith, ghost-number j h, kept-found K test j 0 h .0, S .same-trees);
-          ghost-outside = λ j h. rw (ghost-number j h) (ghost-out (at j) (kept-found K test j 0 h .1));
-          ghost-ascends = λ i j l h. rw (ghost-number i (omega arith), ghost-number j h) (kept-ascends K test i j 0 l h);
+          ghosts-held =
+              record {
+                long = λ j h. rw (ghosts-at K (le-refl K) j h) (core-long (at j) (kept-found K test j 0 h .0));
+                form = ghost-in-form;
+                below = λ j h. omega (arith, ghost-number j h, kept-found K test j 0 h .0, S .same-trees);
+                outside = λ j h. rw (ghost-number j h) (ghost-out (at j) (kept-found K test j 0 h .1));
+                ascends = λ i j l h. rw (ghost-number i (omega arith), ghost-number j h) (kept-ascends K test i j 0 l h);
+              };
         }
 
     -- where only ranks of the receive set are heard, the area is sound

@@ -4,3 +4,6 @@ pub mod Sequences
 pub mod Counting
 pub mod Heard
 pub mod Delivering
+pub mod Building
+pub mod Closing
+pub mod Demand

@@ -2,7 +2,7 @@
  * It says what differs, and its exit status is 0 only where nothing did. */
 #include <vejgodat.h>
 
-/* A line '#define PARTS' here switches the calls for parts on. */
+/* A line '#define PARTS', '#define MESSAGES' or '#define AREAS' here switches these calls on; each needs those before. */
 
 #include <stdio.h>
 #include <string.h>
@@ -390,6 +390,197 @@ parts (void)
 
 #endif
 
+#ifdef MESSAGES
+
+/* The example of document 01: who sends which of the three triangles and which ghosts to whom. */
+static void
+messages (void)
+{
+  static const int64_t old_entries[4] = { 0, 1, 3, 3 };
+  static const int64_t new_entries[4] = { 0, -1, 2, 3 };
+  /* sender, receiver, tree, number of ghosts, ghosts */
+  static const uint32_t expected[4][6] =
+    { {0, 0, 0, 2, 1, 2}, {0, 1, 0, 0, 9, 9}, {1, 1, 1, 1, 2, 9},
+  {1, 2, 2, 2, 0, 1}
+  };
+  uint8_t             mesh[VEJGODAT_MESH_BYTES (3)];
+  uint8_t             old_table[32], new_table[32], part[256];
+  uint8_t             message[32 + 64 + 2 * 40 + 8], bytes[sizeof message];
+  vejgodat_length     answer, length;
+  uint32_t            p, q, ghost, count = 0;
+  size_t              part_len, at;
+  int                 i;
+
+  put_triangles (mesh);
+  put_table (old_table, 3, old_entries);
+  put_table (new_table, 3, new_entries);
+  for (p = 0; p < 3; ++p) {
+    answer = vejgodat_cut_part (mesh, sizeof mesh, old_table, 32, p, part,
+                                sizeof part);
+    EXPECT (answer.refusal == VEJGODAT_OK);
+    part_len = (size_t) answer.length;
+    for (q = 0; q < 3; ++q) {
+      memset (message, 0x5a, sizeof message);
+      memset (bytes, 0x5a, sizeof bytes);
+      length = vejgodat_message_length (part, part_len, old_table, 32,
+                                        new_table, 32, p, q);
+      answer = vejgodat_build_message (part, part_len, old_table, 32,
+                                       new_table, 32, p, q, 7, message,
+                                       sizeof message);
+      EXPECT (answer.refusal == length.refusal);
+      EXPECT (answer.length == length.length);
+      for (i = 0; i < 4; ++i) {
+        if (expected[i][0] == p && expected[i][1] == q) {
+          break;
+        }
+      }
+      if (i == 4) {
+        /* no tree to send */
+        EXPECT (answer.refusal == 9 && answer.length == 0);
+        EXPECT (memcmp (message, bytes, sizeof message) == 0);
+        continue;
+      }
+      ++count;
+      /* epoch, dimension, K, P, sender, receiver, trees, ghosts */
+      put_number (bytes, 7);
+      put_number (bytes + 4, 2);
+      put_number (bytes + 8, 3);
+      put_number (bytes + 12, 3);
+      put_number (bytes + 16, p);
+      put_number (bytes + 20, q);
+      put_number (bytes + 24, 1);
+      put_number (bytes + 28, expected[i][3]);
+      memcpy (bytes + 32, mesh + VEJGODAT_MESH_BYTES (expected[i][2]), 64);
+      at = 32 + 64;
+      for (ghost = 0; ghost < expected[i][3]; ++ghost) {
+        memcpy (bytes + at,
+                mesh + VEJGODAT_MESH_BYTES (expected[i][4 + ghost]), 40);
+        at += 40;
+      }
+      EXPECT (answer.refusal == VEJGODAT_OK && answer.length == at);
+      EXPECT (memcmp (message, bytes, sizeof message) == 0);
+      EXPECT (vejgodat_check_message (message, at) == VEJGODAT_OK);
+      EXPECT (vejgodat_check_message (message, at + 1) == 11);
+
+      memset (message, 0x5a, sizeof message);
+      memset (bytes, 0x5a, sizeof bytes);
+      answer = vejgodat_build_message (part, part_len, old_table, 32,
+                                       new_table, 32, p, q, 7, message,
+                                       at - 1);
+      EXPECT (answer.refusal == VEJGODAT_BUFFER && answer.length == 0);
+      EXPECT (memcmp (message, bytes, sizeof message) == 0);
+      /* the part is that of the sender under the old table */
+      answer = vejgodat_build_message (part, part_len, old_table, 32,
+                                       new_table, 32, (p + 1) % 3, q, 7,
+                                       message, sizeof message);
+      EXPECT (answer.refusal == 8 && answer.length == 0);
+    }
+  }
+  EXPECT (count == 4);
+  EXPECT (vejgodat_check_message (NULL, 0) == 11);
+}
+
+#endif
+
+#ifdef AREAS
+
+/* Each rank gets its messages in every order, with one repeated and one of another rank; then it has its new part. */
+static void
+areas (void)
+{
+  static const int64_t old_entries[4] = { 0, 1, 3, 3 };
+  static const int64_t new_entries[4] = { 0, -1, 2, 3 };
+  /* how many senders each rank has, and who they are */
+  static const uint32_t due[3] = { 1, 2, 1 };
+  static const uint32_t senders[3][2] = { {0, 9}, {0, 1}, {1, 9} };
+  uint8_t             mesh[VEJGODAT_MESH_BYTES (3)];
+  uint8_t             old_table[32], new_table[32], parts[2][256];
+  uint8_t             messages[2][256], stray[256], part[256], joined[256];
+  uint8_t             area[1024], before[1024];
+  size_t              part_len[2], length[2], stray_len, area_len;
+  vejgodat_length     answer;
+  vejgodat_progress   progress;
+  uint32_t            p, q, i, order, other;
+
+  EXPECT (sizeof (vejgodat_progress) == 12);
+  put_triangles (mesh);
+  put_table (old_table, 3, old_entries);
+  put_table (new_table, 3, new_entries);
+  for (p = 0; p < 2; ++p) {
+    answer = vejgodat_cut_part (mesh, sizeof mesh, old_table, 32, p, parts[p],
+                                256);
+    part_len[p] = (size_t) answer.length;
+  }
+  for (q = 0; q < 3; ++q) {
+    for (i = 0; i < due[q]; ++i) {
+      p = senders[q][i];
+      answer = vejgodat_build_message (parts[p], part_len[p], old_table, 32,
+                                       new_table, 32, p, q, 7, messages[i],
+                                       256);
+      EXPECT (answer.refusal == VEJGODAT_OK);
+      length[i] = (size_t) answer.length;
+    }
+    other = q == 1 ? 2 : 1;
+    answer = vejgodat_build_message (parts[1], part_len[1], old_table, 32,
+                                     new_table, 32, 1, other, 7, stray, 256);
+    EXPECT (answer.refusal == VEJGODAT_OK);
+    stray_len = (size_t) answer.length;
+    answer = vejgodat_area_length (old_table, 32, new_table, 32, q, 2);
+    EXPECT (answer.refusal == VEJGODAT_OK);
+    area_len = (size_t) answer.length;
+    EXPECT (area_len == 32 + 2 * 32 + 16 * 8 + (64 + 4 * 40) * due[q]);
+
+    for (order = 0; order < due[q]; ++order) {
+      memset (area, 0x5a, sizeof area);
+      answer = vejgodat_open_area (old_table, 32, new_table, 32, q, 2, 7,
+                                   area, area_len - 1);
+      EXPECT (answer.refusal == VEJGODAT_BUFFER && area[0] == 0x5a);
+      answer = vejgodat_open_area (old_table, 32, new_table, 32, q, 4, 7,
+                                   area, sizeof area);
+      EXPECT (answer.refusal == VEJGODAT_INDEX && area[0] == 0x5a);
+      answer = vejgodat_open_area (old_table, 32, new_table, 32, q, 2, 7,
+                                   area, sizeof area);
+      EXPECT (answer.refusal == VEJGODAT_OK && answer.length == area_len);
+      EXPECT (area[area_len] == 0x5a);
+      for (i = 0; i < due[q]; ++i) {
+        p = (order + i) % due[q];
+        progress = vejgodat_progress_of (area, area_len);
+        EXPECT (progress.refusal == VEJGODAT_OK);
+        EXPECT (progress.heard == i && progress.due == due[q]);
+        memcpy (before, area, sizeof area);
+        EXPECT (vejgodat_deliver (area, area_len, stray, stray_len) == 13);
+        EXPECT (vejgodat_deliver (area, area_len, stray, 31) == 11);
+        EXPECT (vejgodat_deliver (area, 31, stray, 31) == 10);
+        answer = vejgodat_close_area (area, area_len, joined, 256);
+        EXPECT (answer.refusal == 20 && answer.length == 0);
+        EXPECT (memcmp (area, before, sizeof area) == 0);
+        EXPECT (vejgodat_deliver (area, area_len, messages[p], length[p])
+                == VEJGODAT_OK);
+        memcpy (before, area, sizeof area);
+        EXPECT (vejgodat_deliver (area, area_len, messages[p], length[p])
+                == 15);
+        EXPECT (memcmp (area, before, sizeof area) == 0);
+      }
+      answer = vejgodat_cut_part (mesh, sizeof mesh, new_table, 32, q, part,
+                                  256);
+      EXPECT (answer.refusal == VEJGODAT_OK);
+      memset (joined + answer.length, 0, 256 - (size_t) answer.length);
+      memset (part + answer.length, 0, 256 - (size_t) answer.length);
+      EXPECT (vejgodat_part_of_area_length (area, area_len).length
+              == answer.length);
+      EXPECT (vejgodat_close_area (area, area_len, joined,
+                                   (size_t) answer.length - 1).refusal
+              == VEJGODAT_BUFFER);
+      EXPECT (vejgodat_close_area (area, area_len, joined, 256).length
+              == answer.length);
+      EXPECT (memcmp (joined, part, 256) == 0);
+      EXPECT (memcmp (area, before, sizeof area) == 0);
+    }
+  }
+}
+
+#endif
+
 int
 main (void)
 {
@@ -404,6 +595,12 @@ main (void)
   check_mesh ();
 #ifdef PARTS
   parts ();
+#endif
+#ifdef MESSAGES
+  messages ();
+#endif
+#ifdef AREAS
+  areas ();
 #endif
   return wrong == 0 ? 0 : 1;
 }

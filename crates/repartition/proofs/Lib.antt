@@ -7,3 +7,4 @@ pub mod Delivering
 pub mod Building
 pub mod Closing
 pub mod Demand
+pub mod Examples

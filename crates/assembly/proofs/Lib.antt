@@ -1,4 +1,7 @@
 -- Laws, for this crate's proofs and for the crates above.
 pub mod Copying
 pub mod Opening
+pub mod Headers
+pub mod Slots
+pub mod Checking
 pub mod Examples

@@ -8,3 +8,6 @@ pub mod Again
 pub mod Delivered
 pub mod Copying
 pub mod Opening
+pub mod Headers
+pub mod Slots
+pub mod Checking

@@ -76,6 +76,10 @@ pub count-read : (t : List ℕ) (p : ℕ) {first end : ℕ} → RangeFits t p �
 unfolding treeCount
 count-read t p f e d = (rw (e, d), omega (arith, f .most))
 
+pub count-high : {t : List ℕ} {p : ℕ} → RangeFits t p → treeCount t p ≤ maxTrees
+unfolding treeCount
+count-high f = omega (arith, f .most)
+
 -- a rank of two tables is one of the new table
 pub rank-in : {old new : List ℕ} {p : ℕ} → Tables old new → p < ranks old → RankIn new p
 rank-in T h = record { ranksFit = T .newRanks; isValid = T .newValid; rankBelow = omega (arith, T .sameRanks) }

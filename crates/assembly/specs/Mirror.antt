@@ -1,12 +1,24 @@
 -- What inner functions require, and values that mirror their code. Each value is proved equal to what the public definitions say.
-use Prim.Native.Nat.{ℕ, _+_, _*_, _≤_, _<_}
+use Prim.Native.Nat.{ℕ, _+_, _-_, _*_, _≤_, _<_}
 use mathlib.Core.Path.{_≡_}
-use mathlib.Core.Bool.{true}
+use mathlib.Core.Bool.{Bool, true, cond, not, _&&_}
 use mathlib.Core.List.{List}
+use lib.Dec.{leb, ltb, eqb}
 use lib.ListN.{length}
-use Rattle.offsets.specs.Table.{ranks, ranksOk, valid, treeCount}
-use Rattle.pattern.specs.Sender.{Tables}
-use Rattle.assembly.specs.Layout.{areaSize}
+use Rattle.encoding.specs.Below.{allBelow, countBelow, sumBelow}
+use Rattle.encoding.specs.Numbers.{u64At}
+use Rattle.encoding.specs.Pieces.{piece}
+use Rattle.encoding.specs.Words.{allZero}
+use Rattle.offsets.specs.Limits.{maxRanks, maxTrees, rankCountOk}
+use Rattle.offsets.specs.Table.{ranks, ranksOk, valid, trees, treeCount}
+use Rattle.pattern.specs.Sender.{Tables, sentFirst, sentCount}
+use Rattle.bits.specs.Bits.{bitOf}
+use Rattle.records.specs.Record.{coreSize, treeSize, numberOf, inForm}
+use Rattle.message.specs.Layout.{afterLast}
+use Rattle.assembly.specs.Layout.{wordsPlace, slotsPlace, areaSize}
+use Rattle.assembly.specs.Area.{areaDimension, areaK, areaP, areaRank, areaCount, areaOld, areaNew, areaFirst, areaBound, heard}
+
+-- ---- opening an area
 
 -- a valid table and a rank of it
 pub record RankIn (t : List ℕ) (p : ℕ) : Type 0 where
@@ -24,3 +36,74 @@ pub record AreaRoom (old new : List ℕ) (rank dimension : ℕ) (out : List ℕ)
   pub tables : Tables old new
   pub rankBelow : rank < ranks old
   pub room : areaSize dimension (ranks old) (treeCount new rank) ≤ length out
+
+-- ---- the header of an area
+
+-- an area that is long enough, and what stands where its tables are
+pub record SizedArea (a old new : List ℕ) : Type 0 where
+  pub ranksFit : rankCountOk (areaP a) ≡ true
+  pub long : areaSize (areaDimension a) (areaP a) (areaCount a) ≤ length a
+  pub isOld : old ≡ areaOld a
+  pub isNew : new ≡ areaNew a
+
+-- the tests of the tables before a count is read from them
+unfoldable pub tablesFit : List ℕ → Bool
+tablesFit a =
+    valid (areaOld a) && valid (areaNew a) && eqb (trees (areaOld a)) (areaK a) && eqb (trees (areaNew a)) (areaK a) && ltb (areaRank a) (areaP a)
+
+-- what a sound header tells
+pub record HeaderHolds (a : List ℕ) : Type 0 where
+  pub tables : Tables (areaOld a) (areaNew a)
+  pub ranksAre : ranks (areaOld a) ≡ areaP a
+  pub treesAre : trees (areaOld a) ≡ areaK a
+  pub rankBelow : areaRank a < areaP a
+  pub countIs : areaCount a ≡ treeCount (areaNew a) (areaRank a)
+  pub ranksHigh : areaP a ≤ maxRanks
+  pub countHigh : areaCount a ≤ maxTrees
+  pub long : 176 + 16 * areaP a + treeSize * areaCount a + coreSize * areaBound a ≤ length a
+
+-- an area with a sound header, and its tables
+pub record Tabled (a old new : List ℕ) : Type 0 where
+  pub header : HeaderHolds a
+  pub isOld : old ≡ areaOld a
+  pub isNew : new ≡ areaNew a
+
+-- ---- its slots
+
+-- the record at byte `at` is in form and has number k
+unfoldable pub slotHeld : List ℕ → ℕ → ℕ → Bool
+slotHeld a at k = inForm k (piece a at coreSize) && eqb (numberOf (piece a at coreSize)) k
+
+module _ (a : List ℕ) where
+  -- the trees due from sender s: the first, how many, and where the first slot begins
+  abbrev pub fromFirst : ℕ → ℕ
+  fromFirst s = sentFirst (areaOld a) (areaNew a) s (areaRank a)
+
+  abbrev pub fromCount : ℕ → ℕ
+  fromCount s = sentCount (areaOld a) (areaNew a) s (areaRank a)
+
+  unfoldable pub fromPlace : ℕ → ℕ
+  fromPlace s = slotsPlace (areaP a) + treeSize * (fromFirst s - areaFirst a)
+
+  -- the slots of the trees due from s: held where s is heard, else zero
+  unfoldable pub rangeSound : ℕ → Bool
+  rangeSound s =
+      cond (eqb (fromCount s) 0) true
+      (cond (heard a s) (allBelow (fromCount s) (λ j. slotHeld a (fromPlace s + treeSize * j) (fromFirst s + j)))
+      (allZero (piece a (fromPlace s) (treeSize * fromCount s))))
+
+-- core record j from byte `at` on
+unfoldable pub coreAt : List ℕ → ℕ → ℕ → List ℕ
+coreAt a at j = piece a (at + coreSize * j) coreSize
+
+-- ghost j from byte `at` on: in form, below K, outside the range from first to end, after the ghost before it
+unfoldable pub ghostHeldAt : List ℕ → ℕ → ℕ → ℕ → ℕ → ℕ → Bool
+ghostHeldAt a at K first end j =
+    inForm (numberOf (coreAt a at j)) (coreAt a at j) && ltb (numberOf (coreAt a at j)) K
+    && not (leb first (numberOf (coreAt a at j)) && ltb (numberOf (coreAt a at j)) end) && afterLast (coreAt a at) j
+
+-- ---- progress
+
+-- the ones in the first n words of heard senders
+unfoldable pub heardOnes : List ℕ → ℕ → ℕ
+heardOnes a n = sumBelow n (λ w. countBelow 64 (bitOf (u64At a (wordsPlace (areaP a) + 8 * w))))

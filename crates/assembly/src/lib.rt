@@ -3,6 +3,7 @@ use encoding::answer::Length;
 ghost use mathlib.Core.Path.{_≡_};
 ghost use Rattle.assembly.specs.Calls.{areaLengthOf, openAreaOf};
 
+pub mod area;
 pub mod copy;
 pub mod open;
 pub mod place;

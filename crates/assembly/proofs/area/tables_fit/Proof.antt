@@ -1,0 +1,46 @@
+use Rattle.assembly.proofs.Headers.{sized-long, sized-old, sized-new, fit-read}
+use native.Mathlib.Omega.{arith}
+use borrow.Author.Needs.{needs}
+use Rattle.assembly.proofs.area.tables_fit.Statement.{statement}
+use Rattle.assembly.proofs.area.tables_fit.Tie as tie
+
+trees-requires : tie.Need-trees-requires
+trees-requires c κs = omega (arith, sized-long (c .before .before .before .pre))
+
+cast-k : tie.Need-cast-k
+cast-k c = search needs
+
+valid-requires : tie.Need-valid-requires
+valid-requires c κs = sized-old (c .before .before .before .before .pre) .1
+
+valid-requires-2 : tie.Need-valid-requires-2
+valid-requires-2 c κs = sized-new (c .before .before .before .before .before .pre) .1
+
+trees-requires-2 : tie.Need-trees-requires-2
+trees-requires-2 c κs = sized-old (c .before .before .before .before .before .before .pre) .1
+
+trees-requires-3 : tie.Need-trees-requires-3
+trees-requires-3 c κs = sized-new (c .before .before .before .before .before .before .before .pre) .1
+
+rank-requires : tie.Need-rank-requires
+rank-requires c κs = omega (arith, sized-long (c .before .before .before .before .before .before .before .before .pre))
+
+ranks-requires : tie.Need-ranks-requires
+ranks-requires c κs = omega (arith, sized-long (c .before .before .before .before .before .before .before .before .before .pre))
+
+returns : tie.Need-returns
+returns c = fit-read (c .before .before .before .before .before .before .before .before .before .before .pre) (c .before .before .before .before .before .before .trees .ensures) (c .before .before .before .before .before .valid .ensures) (c .before .before .before .before .valid2 .ensures) (c .before .before .before .trees2 .ensures) (c .before .before .trees3 .ensures) (c .before .rank .ensures) (c .ranks .ensures)
+
+pub tables-fit-spec : {M : Type 1} → statement M
+tables-fit-spec =
+    tie.close
+    (tie.spec
+    trees-requires
+    cast-k
+    valid-requires
+    valid-requires-2
+    trees-requires-2
+    trees-requires-3
+    rank-requires
+    ranks-requires
+    returns)

@@ -6,3 +6,7 @@ pub mod Cutting
 pub mod Writing
 pub mod Trees
 pub mod Parts
+pub mod Global
+pub mod Judging
+pub mod Checking
+pub mod Across

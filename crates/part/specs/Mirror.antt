@@ -1,18 +1,23 @@
--- As the code tests and writes ghosts: by the first tree of the range and one past its last. Laws in proofs/ say that this is the definition.
+-- As the code tests and writes ghosts: by the first tree of the range and one past its last; and as it checks a part: over the records as they stand. Laws in proofs/ say that this is the definition.
 use Prim.Native.Nat.{ℕ, zero, suc, _+_, _-_, _*_, _≤_, _<_}
-use mathlib.Core.Bool.{Bool, cond, not, _&&_}
+use mathlib.Core.Bool.{Bool, true, false, cond, not, _&&_}
 use mathlib.Core.Path.{_≡_}
 use mathlib.Core.List.{List, [], _∷_, _++_}
 use lib.Dec.{leb, ltb, eqb}
 use lib.ListN.{length, getD}
 use Rattle.encoding.specs.Numbers.{u32At}
-use Rattle.encoding.specs.Pieces.{splice}
-use Rattle.encoding.specs.Below.{anyBelow, countBelow}
-use Rattle.records.specs.Shape.{faceCount, facesIn}
-use Rattle.records.specs.Record.{coreSize, treeSize, unused, numberOf, shapeOf, neighbourOf}
+use Rattle.encoding.specs.Pieces.{piece, splice}
+use Rattle.encoding.specs.Below.{allBelow, anyBelow, countBelow, leastBelow}
+use Rattle.offsets.specs.Limits.{maxTrees}
+use Rattle.offsets.specs.Table.{ranks, ranksOk, valid}
+use Rattle.records.specs.Shape.{dimensionOf, faceCount, facesIn}
+use Rattle.records.specs.Record.{coreSize, treeSize, unused, numberOf, shapeOf, neighbourOf, inForm}
+use Rattle.mesh.specs.Link.{orientationOk, sameCorners, answered}
 use Rattle.mesh.specs.Mesh.{meshHeader, meshDimension, meshCore, meshRecord}
-use Rattle.part.specs.Layout.{partHeader, headerBytes}
+use Rattle.part.specs.Layout.{partHeader, ghostPlace, partSize, headerBytes}
 use Rattle.part.specs.Cut.{renamed}
+use Rattle.part.specs.View.{ghostIs, ghostAfter}
+use Rattle.part.specs.Part.{storedTree}
 
 -- k is in the range
 unfoldable pub inRange : ℕ → ℕ → ℕ → Bool
@@ -98,3 +103,79 @@ partWith mesh K P rank first end out at count =
     headerBytes (meshDimension mesh) K P rank first (end - first) count
     ++ (treesWith (localRead (splice out at (ghostCores (meshCore mesh) first end K)) at count first end) (facesIn (meshDimension mesh)) mesh first (end - first)
     ++ ghostCores (meshCore mesh) first end K)
+
+-- ghost j of a part with n trees
+unfoldable pub ghostCore : List ℕ → ℕ → ℕ → List ℕ
+ghostCore part n j = piece part (ghostPlace n j) coreSize
+
+-- the rule of a link between two records; the neighbour's link leads back to this number, as it stands there
+unfoldable pub linkBetween : ℕ → List ℕ → ℕ → List ℕ → Bool
+linkBetween back r f s = orientationOk r f && sameCorners r f s && answered back r f s
+
+-- the trees of a part as they stand, their neighbours as local indices
+module _ (n g : ℕ) (tree ghostly : ℕ → List ℕ) where
+  -- the link of face f of tree i to local index j: a tree's link leads back to the local index i, a ghost's to the tree's number
+  unfoldable pub treeTo : ℕ → ℕ → ℕ → Bool
+  treeTo i f j =
+      cond (ltb j n) (linkBetween i (tree i) f (tree j))
+      (cond (ltb (j - n) g) (linkBetween (numberOf (tree i)) (tree i) f (ghostly (j - n))) false)
+
+  unfoldable pub treeFace : ℕ → ℕ → Bool
+  treeFace i f = treeTo i f (neighbourOf (tree i) f)
+
+  -- tree i, its number apart
+  unfoldable pub treeStored : ℕ → ℕ → Bool
+  treeStored dimension i =
+      inForm i (tree i) && eqb (dimensionOf (shapeOf (tree i))) dimension && allBelow (faceCount (shapeOf (tree i))) (treeFace i)
+
+-- the numbers of a part, its ghosts, and all its records
+module _ (first n g : ℕ) (tree ghostly : ℕ → List ℕ) where
+  -- tree i has its number
+  unfoldable pub treeNumbered : ℕ → Bool
+  treeNumbered i = eqb (numberOf (tree i)) (first + i)
+
+  -- ghost j has a number below K, outside the range, above that of the ghost before it
+  unfoldable pub ghostNumbered : ℕ → ℕ → Bool
+  ghostNumbered K j =
+      ltb (numberOf (ghostly j)) K && not (inRange first (first + n) (numberOf (ghostly j))) && ghostAfter first n g tree ghostly j
+
+  -- every number
+  unfoldable pub numbersSound : ℕ → Bool
+  numbersSound K = allBelow n treeNumbered && allBelow g (ghostNumbered K)
+
+  -- the link of face f of ghost j to tree k: one of the range leads back to the ghost's local index, another ghost to its number; or k isn't held
+  unfoldable pub ghostTo : ℕ → ℕ → ℕ → ℕ → Bool
+  ghostTo K j f k =
+      cond (inRange first (first + n) k) (linkBetween (n + j) (ghostly j) f (tree (k - first)))
+      (cond (anyBelow g (ghostIs first n g tree ghostly k)) (linkBetween (numberOf (ghostly j)) (ghostly j) f (ghostly (leastBelow g (ghostIs first n g tree ghostly k))))
+      (ltb k K && orientationOk (ghostly j) f))
+
+  unfoldable pub ghostFace : ℕ → ℕ → ℕ → Bool
+  ghostFace K j f = ghostTo K j f (neighbourOf (ghostly j) f)
+
+  -- ghost j, its number apart
+  unfoldable pub ghostStored : ℕ → ℕ → ℕ → Bool
+  ghostStored dimension K j =
+      inForm (numberOf (ghostly j)) (ghostly j) && eqb (dimensionOf (shapeOf (ghostly j))) dimension
+      && anyBelow (faceCount (shapeOf (ghostly j))) (neighbourIn first (first + n) (ghostly j)) && allBelow (faceCount (shapeOf (ghostly j))) (ghostFace K j)
+
+  -- all records: first every number, by which the links are then looked up
+  unfoldable pub recordsSound : ℕ → ℕ → Bool
+  recordsSound dimension K = numbersSound K && (allBelow n (treeStored n g tree ghostly dimension) && allBelow g (ghostStored dimension K))
+
+-- a valid table and a rank of it
+pub record RankKnown (table : List ℕ) (rank : ℕ) : Type 0 where
+  pub counted : ranksOk table ≡ true
+  pub checked : valid table ≡ true
+  pub below : rank < ranks table
+
+-- a part of n trees from the first on and g ghosts, by its length and header
+pub record PartLaid (part : List ℕ) (first n g K : ℕ) : Type 0 where
+  pub long : length part ≡ partSize n g
+  pub within : first + n ≤ K
+  pub most : K ≤ maxTrees
+
+-- and its numbers are sound
+pub record PartNumbered (part : List ℕ) (first n g K : ℕ) : Type 0 where
+  pub laid : PartLaid part first n g K
+  pub numbers : numbersSound first n g (storedTree part) (ghostCore part n) K ≡ true

@@ -7,6 +7,8 @@ use Rattle.records.specs.declared.index.LocalIndex.{LocalIndex}
 use Rattle.records.specs.Shape.{faceCount}
 use Rattle.records.specs.Record.{shapeOf, neighbourOf, faceOf, orientationOf, toItself}
 use Rattle.part.specs.declared.neighbour.Across.{Across}
+use Rattle.part.specs.declared.neighbour.Neighbour.{Neighbour}
+use Rattle.part.specs.declared.neighbour.NeighbourAnswer.{NeighbourAnswer}
 use Rattle.part.specs.declared.neighbour.Link.{Link}
 use Rattle.part.specs.declared.neighbour.Link.the-variants.{Boundary, Unused, Local, Ghost}
 use Rattle.part.specs.Part.{partCount, storedTree}
@@ -36,3 +38,15 @@ linkOf part i f =
     (cond (ltb (neighbourOf (storedTree part i) f) (partCount part))
     (Local (across (neighbourOf (storedTree part i) f) (faceOf (storedTree part i) f) (orientationOf (storedTree part i) f)))
     (Ghost (across (neighbourOf (storedTree part i) f) (faceOf (storedTree part i) f) (orientationOf (storedTree part i) f)))))
+
+-- an answer as numbers alone
+abbrev pub flatAnswer : Neighbour → NeighbourAnswer
+flatAnswer n =
+    record {
+      refusal = n .refusal;
+      shape = n .shape;
+      kind = linkKind (n .link);
+      index = linkAcross (n .link) .index .0;
+      face = linkAcross (n .link) .face;
+      orientation = linkAcross (n .link) .orientation;
+    }

@@ -8,11 +8,11 @@ ghost use Rattle.encoding.specs.Refusal.{firstFailed};
 ghost use Rattle.records.specs.Record.{coreSize, treeSize};
 ghost use Rattle.mesh.specs.Mesh.{meshHeader, meshCore};
 ghost use Rattle.part.specs.Mirror.{inRange, neighbourIn, ghostIn};
-ghost use Rattle.part.specs.Calls.{cutChecks};
+ghost use Rattle.part.specs.Calls.{rankChecks, cutChecks};
 
-// The checks of a mesh, a table and a rank (2, 3, 5, 7): 0 or the refusal.
-pub fn cut_refusal(mesh: &[u8], table: &[u8], rank: u32) -> u32
-    ensures { λ r. ⌜ r ≡ firstFailed (cutChecks (now (mesh .entry)) (now (table .entry)) rank) ⌝ }
+// The checks of a table and a rank (2, 3, 5): 0 or the refusal.
+pub fn rank_refusal(table: &[u8], rank: u32) -> u32
+    ensures { λ r. ⌜ r ≡ firstFailed (rankChecks (now (table .entry)) rank) ⌝ }
 {
     if !offsets::inner::ranks_ok(table) {
         return 2;
@@ -24,10 +24,21 @@ pub fn cut_refusal(mesh: &[u8], table: &[u8], rank: u32) -> u32
     if ranks <= rank as usize {
         return 5;
     }
+    0
+}
+
+// The checks of a mesh, a table and a rank (2, 3, 5, 7): 0 or the refusal.
+pub fn cut_refusal(mesh: &[u8], table: &[u8], rank: u32) -> u32
+    ensures { λ r. ⌜ r ≡ firstFailed (cutChecks (now (mesh .entry)) (now (table .entry)) rank) ⌝ }
+{
+    let refusal = rank_refusal(table, rank);
+    if refusal != 0 {
+        return refusal;
+    }
     if !mesh::inner::sound(mesh) {
         return 7;
     }
-    if mesh::inner::trees(mesh) as u64 != offsets::inner::entry(table, ranks) {
+    if mesh::inner::trees(mesh) as u64 != offsets::inner::trees(table) {
         return 7;
     }
     0

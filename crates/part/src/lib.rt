@@ -3,14 +3,17 @@ ghost use mathlib.Core.Path.{_≡_};
 ghost use Prim.Native.Nat.{_/_, _≤_};
 ghost use lib.ListN.{length};
 ghost use Rattle.encoding.specs.Below.{leastBelow};
-ghost use Rattle.part.specs.Calls.{partLengthOf, cutPartOf};
+ghost use Rattle.part.specs.Calls.{partLengthOf, cutPartOf, partRefusal, neighbourAnswer};
 ghost use Rattle.part.specs.Lookup.{hasNumber, lookupRecord, foundRecord};
 use encoding::answer::Length;
+use neighbour::Neighbour;
 use records::index::GlobalIndex;
+use records::index::LocalIndex;
 
 pub mod cut;
 pub mod inner;
 pub mod neighbour;
+pub mod sound;
 
 // How long the part of a whole mesh for a table and a rank is (2, 3, 5, 7).
 pub fn part_length(mesh: &[u8], table: &[u8], rank: u32) -> Length
@@ -54,6 +57,49 @@ pub fn cut_part(mesh: &[u8], table: &[u8], rank: u32, out: &mut [u8]) -> Length
     Length {
         refusal: 0,
         length: n as u64,
+    }
+}
+
+// Check a part for a table and a rank (2, 3, 5, 8): 0 or the refusal.
+pub fn check_part(part: &[u8], table: &[u8], rank: u32) -> u32
+    ensures { λ r. ⌜ r ≡ partRefusal (now (part .entry)) (now (table .entry)) rank ⌝ }
+{
+    let refusal = inner::rank_refusal(table, rank);
+    if refusal != 0 {
+        return refusal;
+    }
+    if !sound::part_sound(part, table, rank) {
+        return 8;
+    }
+    0
+}
+
+// What stands across a face of the tree with a local index (2, 3, 5, 8).
+pub fn neighbour_of(part: &[u8], table: &[u8], rank: u32, local: LocalIndex, face: u32) -> Neighbour
+    ensures { λ r. ⌜ r ≡ neighbourAnswer (now (part .entry)) (now (table .entry)) rank (local .0) face ⌝ }
+{
+    let i = local.0;
+    let refusal = inner::rank_refusal(table, rank);
+    if refusal != 0 {
+        return neighbour::refused(refusal);
+    }
+    let first = offsets::inner::first_tree(table, rank as usize);
+    let end = offsets::inner::end_tree(table, rank as usize);
+    if end - first <= i as u64 {
+        return neighbour::refused(5);
+    }
+    if 6 <= face {
+        return neighbour::refused(5);
+    }
+    if !sound::part_sound(part, table, rank) {
+        return neighbour::refused(8);
+    }
+    let shape = records::shape_of(part, sound::tree_at(i));
+    let link = neighbour::link_of(part, i, face);
+    Neighbour {
+        refusal: 0,
+        shape,
+        link,
     }
 }
 

@@ -1,65 +1,64 @@
-use Rattle.part.proofs.Checks.{fails-ranks, fails-valid, fails-rank, fails-sound, fails-trees, none-fails}
-use Rattle.mesh.proofs.Soundness.{sound-length}
-use borrow.Author.Tests.{not-true, not-false}
-use mathlib.Core.Path.{sym, _∙_}
 use native.Mathlib.Omega.{arith}
+use mathlib.Core.Path.{sym, _∙_}
+use borrow.Author.Tests.{not-true, not-false}
+use Rattle.mesh.proofs.Soundness.{sound-length}
+use Rattle.part.proofs.Checks.{cut-rank, rank-known, fails-sound, fails-trees, none-fails}
 use borrow.Author.Needs.{needs}
 use Rattle.part.proofs.inner.cut_refusal.Statement.{statement}
 use Rattle.part.proofs.inner.cut_refusal.Tie as tie
+use Rattle.part.proofs.inner.cut_refusal.Reads as reads
+use Rattle.part.proofs.inner.cut_refusal.Lts as lts
+use Rattle.mesh.proofs.inner.sound.Reads as sound-reads
+use Rattle.mesh.proofs.inner.trees.Reads as inner-trees-reads
+use Rattle.offsets.proofs.inner.trees.Reads as inner-trees-reads′
+use Rattle.part.proofs.inner.rank_refusal.Reads as rank-refusal-reads
 
-ranks-ok-requires : tie.Need-ranks-ok-requires
-ranks-ok-requires c κs = search needs
+-- src/inner.rt:34:9
+rank-refusal-requires : tie.Need-rank-refusal-requires
+rank-refusal-requires c κs = search needs
 
+-- src/inner.rt:36:9
 returns : tie.Need-returns
-returns c = fails-ranks _ _ _ (c .before .ranks-ok .ensures) (not-true _ (c .if1 .taken))
+returns c = cut-rank _ _ (c .before .rank-refusal .ensures) _ (c .if1 .taken)
 
-valid-requires : tie.Need-valid-requires
-valid-requires c κs = sym (c .before .ranks-ok .ensures) ∙ not-false _ (c .if1 .left)
-
-returns-2 : tie.Need-returns-2
-returns-2 c = fails-valid _ _ _ (c .before .before .before .ranks-ok .ensures) (not-false _ (c .before .before .if1 .left)) (c .before .valid .ensures) (not-true _ (c .if2 .taken))
-
-ranks-requires : tie.Need-ranks-requires
-ranks-requires c κs = sym (c .before .before .before .ranks-ok .ensures) ∙ not-false _ (c .before .before .if1 .left)
-
-returns-3 : tie.Need-returns-3
-returns-3 c = fails-rank _ _ _ (c .before .before .before .before .before .ranks-ok .ensures) (not-false _ (c .before .before .before .before .if1 .left)) (c .before .before .before .valid .ensures) (not-false _ (c .before .before .if2 .left)) (c .before .ranks .ensures .0) (c .if3 .taken)
-
+-- src/inner.rt:38:9
 sound-requires : tie.Need-sound-requires
 sound-requires c κs = search needs
 
-returns-4 : tie.Need-returns-4
-returns-4 c = fails-sound _ _ _ (c .before .before .before .before .before .before .before .ranks-ok .ensures) (not-false _ (c .before .before .before .before .before .before .if1 .left)) (c .before .before .before .before .before .valid .ensures) (not-false _ (c .before .before .before .before .if2 .left)) (c .before .before .before .ranks .ensures .0) (c .before .before .if3 .left) (c .before .sound .ensures) (not-true _ (c .if4 .taken))
+-- src/inner.rt:39:9
+returns-2 : tie.Need-returns-2
+returns-2 c = fails-sound _ _ (c .before .before .before .rank-refusal .ensures) _ (c .before .before .if1 .left) (c .before .sound .ensures) (not-true _ (c .if2 .taken))
 
+-- src/inner.rt:41:8
 trees-requires : tie.Need-trees-requires
-trees-requires c κs = omega (arith, sound-length _ (sym (c .before .sound .ensures) ∙ not-false _ (c .if4 .left)))
+trees-requires c κs = omega (arith, sound-length _ (sym (c .before .sound .ensures) ∙ not-false _ (c .if2 .left)))
 
-cast-if5 : tie.Need-cast-if5
-cast-if5 c = search needs
+-- src/inner.rt:41:8
+cast-if3 : tie.Need-cast-if3
+cast-if3 c = search needs
 
-entry-requires : tie.Need-entry-requires
-entry-requires c κs = search needs
+-- src/inner.rt:41:43
+trees-requires-2 : tie.Need-trees-requires-2
+trees-requires-2 c κs = rank-known _ _ (c .before .before .before .before .rank-refusal .ensures) (c .before .before .before .if1 .left) .counted
 
-returns-5 : tie.Need-returns-5
-returns-5 c = fails-trees _ _ _ (c .before .before .before .before .before .before .before .before .before .before .ranks-ok .ensures) (not-false _ (c .before .before .before .before .before .before .before .before .before .if1 .left)) (c .before .before .before .before .before .before .before .before .valid .ensures) (not-false _ (c .before .before .before .before .before .before .before .if2 .left)) (c .before .before .before .before .before .before .ranks .ensures .0) (c .before .before .before .before .before .if3 .left) (c .before .before .before .before .sound .ensures) (not-false _ (c .before .before .before .if4 .left)) (c .before .before .trees .ensures) (c .before .entry .ensures) (c .if5 .taken)
+-- src/inner.rt:42:9
+returns-3 : tie.Need-returns-3
+returns-3 c = fails-trees _ _ (c .before .before .before .before .before .before .rank-refusal .ensures) _ (c .before .before .before .before .before .if1 .left) (c .before .before .before .before .sound .ensures) (not-false _ (c .before .before .before .if2 .left)) (c .before .before .trees .ensures) (c .before .trees2 .ensures) (c .if3 .taken)
 
-returns-6 : tie.Need-returns-6
-returns-6 c = none-fails _ _ _ (c .before .before .before .before .before .before .before .before .before .before .ranks-ok .ensures) (not-false _ (c .before .before .before .before .before .before .before .before .before .if1 .left)) (c .before .before .before .before .before .before .before .before .valid .ensures) (not-false _ (c .before .before .before .before .before .before .before .if2 .left)) (c .before .before .before .before .before .before .ranks .ensures .0) (c .before .before .before .before .before .if3 .left) (c .before .before .before .before .sound .ensures) (not-false _ (c .before .before .before .if4 .left)) (c .before .before .trees .ensures) (c .before .entry .ensures) (c .if5 .left)
+-- src/inner.rt:31:1
+returns-4 : tie.Need-returns-4
+returns-4 c = none-fails _ _ (c .before .before .before .before .before .before .rank-refusal .ensures) _ (c .before .before .before .before .before .if1 .left) (c .before .before .before .before .sound .ensures) (not-false _ (c .before .before .before .if2 .left)) (c .before .before .trees .ensures) (c .before .trees2 .ensures) (c .if3 .left)
 
 pub cut-refusal-spec : {M : Type 1} → statement M
 cut-refusal-spec =
     tie.close
     (tie.spec
-    ranks-ok-requires
+    rank-refusal-requires
     returns
-    valid-requires
-    returns-2
-    ranks-requires
-    returns-3
     sound-requires
-    returns-4
+    returns-2
     trees-requires
-    cast-if5
-    entry-requires
-    returns-5
-    returns-6)
+    cast-if3
+    trees-requires-2
+    returns-3
+    returns-4)

@@ -1,0 +1,75 @@
+use Rattle.part.proofs.Checking.{range-last, index-word, link-local, link-held, link-free}
+use Rattle.part.proofs.Writing.{range-first}
+use native.Mathlib.Omega.{arith}
+use borrow.Author.Needs.{needs}
+use Rattle.part.proofs.sound.ghost_face.Statement.{statement}
+use Rattle.part.proofs.sound.ghost_face.Tie as tie
+
+ghost-at-requires : tie.Need-ghost-at-requires
+ghost-at-requires c κs = search needs
+
+neighbour-of-requires : tie.Need-neighbour-of-requires
+neighbour-of-requires c κs = search needs
+
+add-in-range : tie.Need-add-in-range
+add-in-range c = search needs
+
+in-range-requires : tie.Need-in-range-requires
+in-range-requires c κs = search needs
+
+to-local-requires : tie.Need-to-local-requires
+to-local-requires c κs = range-first _ _ _ (c .before .in-range .ensures) (c .if1 .taken)
+
+ghost-index-requires : tie.Need-ghost-index-requires
+ghost-index-requires c κs = index-word _ _ _ _ _ (c .before .before .before .before .before .before .pre .0) _ (c .before .before .before .before .before .before .pre .1)
+
+tree-at-requires : tie.Need-tree-at-requires
+tree-at-requires c κs = search needs
+
+link-ok-requires : tie.Need-link-ok-requires
+link-ok-requires c κs = (omega arith, c .before .before .before .before .before .before .before .before .pre .2, omega (arith, range-last _ _ _ (c .before .before .before .before .in-range .ensures) (c .before .before .before .if1 .taken), c .before .before .to-local .ensures, c .tree-at .ensures))
+
+returns : tie.Need-returns
+returns c = link-local _ _ _ _ _ _ _ (c .before .before .before .before .before .before .before .ghost-at .ensures) (c .before .before .before .before .before .before .neighbour-of .ensures) (c .before .before .before .before .before .in-range .ensures) _ (c .before .before .before .before .if1 .taken) (c .before .before .before .to-local .ensures) (c .before .before .ghost-index .ensures) (c .before .tree-at .ensures) (c .link-ok .ensures)
+
+ghost-with-requires : tie.Need-ghost-with-requires
+ghost-with-requires c κs = search needs
+
+number-of-requires : tie.Need-number-of-requires
+number-of-requires c κs = search needs
+
+ghost-at-requires-2 : tie.Need-ghost-at-requires-2
+ghost-at-requires-2 c κs = search needs
+
+link-ok-requires-2 : tie.Need-link-ok-requires-2
+link-ok-requires-2 c κs = search needs
+
+returns-2 : tie.Need-returns-2
+returns-2 c = link-held _ _ _ _ _ _ _ (c .before .before .before .before .before .before .before .before .ghost-at .ensures) (c .before .before .before .before .before .before .before .neighbour-of .ensures) (c .before .before .before .before .before .before .in-range .ensures) (c .before .before .before .before .before .if1 .left) (c .before .before .before .before .ghost-with .ensures) (c .before .before .before .if2 .taken) (c .before .before .number-of .ensures) (c .before .ghost-at2 .ensures) (c .link-ok2 .ensures)
+
+orientation-ok-requires : tie.Need-orientation-ok-requires
+orientation-ok-requires c κs = search needs
+
+returns-3 : tie.Need-returns-3
+returns-3 c = link-free _ _ _ _ _ _ _ (c .before .before .before .before .before .before .ghost-at .ensures) (c .before .before .before .before .before .neighbour-of .ensures) (c .before .before .before .before .in-range .ensures) (c .before .before .before .if1 .left) (c .before .before .ghost-with .ensures) (c .before .if2 .left) (c .orientation-ok .ensures)
+
+pub ghost-face-spec : {M : Type 1} → statement M
+ghost-face-spec =
+    tie.close
+    (tie.spec
+    ghost-at-requires
+    neighbour-of-requires
+    add-in-range
+    in-range-requires
+    to-local-requires
+    ghost-index-requires
+    tree-at-requires
+    link-ok-requires
+    returns
+    ghost-with-requires
+    number-of-requires
+    ghost-at-requires-2
+    link-ok-requires-2
+    returns-2
+    orientation-ok-requires
+    returns-3)

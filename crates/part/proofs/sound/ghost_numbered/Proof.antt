@@ -1,0 +1,33 @@
+use Rattle.part.proofs.Checking.{ghost-numbered-is}
+use borrow.Author.Needs.{needs}
+use Rattle.part.proofs.sound.ghost_numbered.Statement.{statement}
+use Rattle.part.proofs.sound.ghost_numbered.Tie as tie
+
+ghost-at-requires : tie.Need-ghost-at-requires
+ghost-at-requires c κs = search needs
+
+number-of-requires : tie.Need-number-of-requires
+number-of-requires c κs = search needs
+
+add-in-range : tie.Need-add-in-range
+add-in-range c = search needs
+
+in-range-requires : tie.Need-in-range-requires
+in-range-requires c κs = search needs
+
+ghost-after-requires : tie.Need-ghost-after-requires
+ghost-after-requires c κs = search needs
+
+returns : tie.Need-returns
+returns c = ghost-numbered-is _ _ _ _ _ (c .before .before .before .ghost-at .ensures) (c .before .before .number-of .ensures) _ (c .before .in-range .ensures) (c .ghost-after .ensures)
+
+pub ghost-numbered-spec : {M : Type 1} → statement M
+ghost-numbered-spec =
+    tie.close
+    (tie.spec
+    ghost-at-requires
+    number-of-requires
+    add-in-range
+    in-range-requires
+    ghost-after-requires
+    returns)

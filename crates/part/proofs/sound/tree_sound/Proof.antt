@@ -1,0 +1,37 @@
+use Rattle.part.proofs.Checking.{tree-read}
+use borrow.Author.Needs.{needs}
+use Rattle.part.proofs.sound.tree_sound.Statement.{statement}
+use Rattle.part.proofs.sound.tree_sound.Tie as tie
+
+tree-at-requires : tie.Need-tree-at-requires
+tree-at-requires c κs = search needs
+
+shape-of-requires : tie.Need-shape-of-requires
+shape-of-requires c κs = search needs
+
+in-form-requires : tie.Need-in-form-requires
+in-form-requires c κs = search needs
+
+dimension-of-requires : tie.Need-dimension-of-requires
+dimension-of-requires c κs = search needs
+
+face-count-requires : tie.Need-face-count-requires
+face-count-requires c κs = search needs
+
+tree-faces-requires : tie.Need-tree-faces-requires
+tree-faces-requires c κs = search needs
+
+returns : tie.Need-returns
+returns c = tree-read _ _ _ _ (c .before .before .before .before .before .tree-at .ensures) _ (c .before .before .before .before .shape-of .ensures) (c .before .before .before .in-form .ensures) (c .before .before .dimension-of .ensures) (c .before .face-count .ensures .0) (c .tree-faces .ensures)
+
+pub tree-sound-spec : {M : Type 1} → statement M
+tree-sound-spec =
+    tie.close
+    (tie.spec
+    tree-at-requires
+    shape-of-requires
+    in-form-requires
+    dimension-of-requires
+    face-count-requires
+    tree-faces-requires
+    returns)

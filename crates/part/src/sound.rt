@@ -1,0 +1,365 @@
+// Whether a part is sound. Its tree records hold local indices, its ghosts global numbers: each link is followed by what stands in the record.
+use crate::cut::find_ghost;
+use crate::inner::beside;
+use crate::inner::in_range;
+use records::index::GlobalIndex;
+use records::index::ghost_index;
+use records::index::to_local;
+ghost use mathlib.Core.Path.{_≡_};
+ghost use mathlib.Core.Bool.{_&&_};
+ghost use Prim.Native.Nat.{_+_, _≤_, _<_};
+ghost use lib.Dec.{eqb};
+ghost use lib.ListN.{length};
+ghost use Rattle.encoding.specs.Below.{allBelow, leastBelow};
+ghost use Rattle.encoding.specs.Pieces.{piece};
+ghost use Rattle.records.specs.Record.{coreSize};
+ghost use Rattle.part.specs.Layout.{partHeader, treePlace, ghostPlace, partSize};
+ghost use Rattle.part.specs.View.{ghostIs, ghostAfter};
+ghost use Rattle.part.specs.Part.{partDimension, partK, partFirst, partCount, partGhostCount, storedTree, partHeaderSound, partSound};
+ghost use Rattle.part.specs.Mirror.{ghostCore, linkBetween, treeFace, treeStored, treeNumbered, ghostNumbered, numbersSound, ghostFace, ghostStored, recordsSound, RankKnown, PartLaid, PartNumbered};
+
+// Where the record of tree i begins.
+pub fn tree_at(i: u32) -> usize
+    ensures { λ r. ⌜ r ≡ treePlace i ⌝ }
+{
+    32 + 64 * (i as usize)
+}
+
+// Where ghost j of a part with `count` trees begins.
+pub fn ghost_at(count: u32, j: u32) -> usize
+    ensures { λ r. ⌜ r ≡ ghostPlace count j ⌝ }
+{
+    32 + (64 * (count as usize) + 40 * (j as usize))
+}
+
+pub fn dimension(part: &[u8]) -> u32
+    requires { ⌜ partHeader ≤ length (now part) ⌝ }
+    ensures { λ r. ⌜ r ≡ partDimension (now (part .entry)) ⌝ }
+{
+    encoding::read_u32(part, 0)
+}
+
+// K.
+pub fn trees(part: &[u8]) -> u32
+    requires { ⌜ partHeader ≤ length (now part) ⌝ }
+    ensures { λ r. ⌜ r ≡ partK (now (part .entry)) ⌝ }
+{
+    encoding::read_u32(part, 4)
+}
+
+pub fn first_tree(part: &[u8]) -> u32
+    requires { ⌜ partHeader ≤ length (now part) ⌝ }
+    ensures { λ r. ⌜ r ≡ partFirst (now (part .entry)) ⌝ }
+{
+    encoding::read_u32(part, 16)
+}
+
+// n.
+pub fn tree_count(part: &[u8]) -> u32
+    requires { ⌜ partHeader ≤ length (now part) ⌝ }
+    ensures { λ r. ⌜ r ≡ partCount (now (part .entry)) ⌝ }
+{
+    encoding::read_u32(part, 20)
+}
+
+// g.
+pub fn ghost_count(part: &[u8]) -> u32
+    requires { ⌜ partHeader ≤ length (now part) ⌝ }
+    ensures { λ r. ⌜ r ≡ partGhostCount (now (part .entry)) ⌝ }
+{
+    encoding::read_u32(part, 24)
+}
+
+// Whether the header is as table and rank say, and the length as the header says.
+fn header_sound(part: &[u8], table: &[u8], rank: u32) -> bool
+    requires { ⌜ RankKnown (now table) rank ⌝ }
+    ensures { λ r. ⌜ r ≡ (partHeaderSound (now (part .entry)) (now (table .entry)) rank && eqb (length (now (part .entry))) (partSize (partCount (now (part .entry))) (partGhostCount (now (part .entry))))) ⌝ }
+{
+    if part.len() < 32 {
+        return false;
+    }
+    let ranks = offsets::inner::ranks(table);
+    let first = offsets::inner::first_tree(table, rank as usize);
+    let end = offsets::inner::end_tree(table, rank as usize);
+    let count = tree_count(part);
+    mesh::inner::dimension_ok(dimension(part))
+        & (trees(part) as u64 == offsets::inner::entry(table, ranks))
+        & (encoding::read_u32(part, 8) as usize == ranks)
+        & (encoding::read_u32(part, 12) == rank)
+        & (first_tree(part) as u64 == first)
+        & (count as u64 == end - first)
+        & (encoding::read_u32(part, 28) == 0)
+        & (part.len() == ghost_at(count, ghost_count(part)))
+}
+
+// The rule of a link between two records. The neighbour's link leads back to `back`, as it is stored there.
+fn link_ok(part: &[u8], back: u32, at: usize, face: u32, to: usize) -> bool
+    requires { ⌜ (at + coreSize ≤ length (now part)) × (face < 6) × (to + coreSize ≤ length (now part)) ⌝ }
+    ensures { λ r. ⌜ r ≡ linkBetween back (piece (now (part .entry)) at coreSize) face (piece (now (part .entry)) to coreSize) ⌝ }
+{
+    mesh::inner::orientation_ok(part, at, face)
+        & mesh::inner::same_corners(part, at, face, to)
+        & mesh::inner::answered(part, back, at, face, to)
+}
+
+// ---- numbers
+
+fn tree_numbers(part: &[u8], first: u32, count: u32, ghosts: u32, trees: u32) -> bool
+    requires { ⌜ PartLaid (now part) first count ghosts trees ⌝ }
+    ensures { λ r. ⌜ r ≡ allBelow count (treeNumbered first count ghosts (storedTree (now (part .entry))) (ghostCore (now (part .entry)) count)) ⌝ }
+{
+    let mut i = 0;
+    while i < count {
+        if records::number_of(part, tree_at(i)) != first + i {
+            return false;
+        }
+        i += 1;
+    }
+    true
+}
+
+fn ghost_after(part: &[u8], first: u32, count: u32, ghosts: u32, j: u32) -> bool
+    requires { ⌜ (length (now part) ≡ partSize count ghosts) × (j < ghosts) ⌝ }
+    ensures { λ r. ⌜ r ≡ ghostAfter first count ghosts (storedTree (now (part .entry))) (ghostCore (now (part .entry)) count) j ⌝ }
+{
+    if j == 0 {
+        return true;
+    }
+    records::number_of(part, ghost_at(count, j - 1)) < records::number_of(part, ghost_at(count, j))
+}
+
+fn ghost_numbered(part: &[u8], first: u32, count: u32, ghosts: u32, trees: u32, j: u32) -> bool
+    requires { ⌜ PartLaid (now part) first count ghosts trees × (j < ghosts) ⌝ }
+    ensures { λ r. ⌜ r ≡ ghostNumbered first count ghosts (storedTree (now (part .entry))) (ghostCore (now (part .entry)) count) trees j ⌝ }
+{
+    let number = records::number_of(part, ghost_at(count, j));
+    (number < trees)
+        & !in_range(first, first + count, number)
+        & ghost_after(part, first, count, ghosts, j)
+}
+
+fn ghost_numbers(part: &[u8], first: u32, count: u32, ghosts: u32, trees: u32) -> bool
+    requires { ⌜ PartLaid (now part) first count ghosts trees ⌝ }
+    ensures { λ r. ⌜ r ≡ allBelow ghosts (ghostNumbered first count ghosts (storedTree (now (part .entry))) (ghostCore (now (part .entry)) count) trees) ⌝ }
+{
+    let mut j = 0;
+    while j < ghosts {
+        if !ghost_numbered(part, first, count, ghosts, trees, j) {
+            return false;
+        }
+        j += 1;
+    }
+    true
+}
+
+// Whether trees and ghosts have the numbers that they are to have. The links are looked at only then.
+fn numbers_sound(part: &[u8], first: u32, count: u32, ghosts: u32, trees: u32) -> bool
+    requires { ⌜ PartLaid (now part) first count ghosts trees ⌝ }
+    ensures { λ r. ⌜ r ≡ numbersSound first count ghosts (storedTree (now (part .entry))) (ghostCore (now (part .entry)) count) trees ⌝ }
+{
+    tree_numbers(part, first, count, ghosts, trees)
+        & ghost_numbers(part, first, count, ghosts, trees)
+}
+
+// ---- trees
+
+// A tree's link leads back to the local index, a ghost's to the global number.
+fn tree_face(part: &[u8], count: u32, ghosts: u32, i: u32, face: u32) -> bool
+    requires { ⌜ (length (now part) ≡ partSize count ghosts) × (i < count) × (face < 6) ⌝ }
+    ensures { λ r. ⌜ r ≡ treeFace count ghosts (storedTree (now (part .entry))) (ghostCore (now (part .entry)) count) i face ⌝ }
+{
+    let at = tree_at(i);
+    let j = records::neighbour_of(part, at, face);
+    if j < count {
+        return link_ok(part, i, at, face, tree_at(j));
+    }
+    if j - count < ghosts {
+        let number = records::number_of(part, at);
+        return link_ok(part, number, at, face, ghost_at(count, j - count));
+    }
+    false
+}
+
+fn tree_faces(part: &[u8], count: u32, ghosts: u32, i: u32, faces: u32) -> bool
+    requires { ⌜ (length (now part) ≡ partSize count ghosts) × (i < count) × (faces ≤ 6) ⌝ }
+    ensures { λ r. ⌜ r ≡ allBelow faces (treeFace count ghosts (storedTree (now (part .entry))) (ghostCore (now (part .entry)) count) i) ⌝ }
+{
+    let mut face = 0;
+    while face < faces {
+        if !tree_face(part, count, ghosts, i, face) {
+            return false;
+        }
+        face += 1;
+    }
+    true
+}
+
+fn tree_sound(part: &[u8], count: u32, ghosts: u32, dimension: u32, i: u32) -> bool
+    requires { ⌜ (length (now part) ≡ partSize count ghosts) × (i < count) ⌝ }
+    ensures { λ r. ⌜ r ≡ treeStored count ghosts (storedTree (now (part .entry))) (ghostCore (now (part .entry)) count) dimension i ⌝ }
+{
+    let at = tree_at(i);
+    let shape = records::shape_of(part, at);
+    records::in_form(part, at, i)
+        & (records::dimension_of(shape) == dimension)
+        & tree_faces(part, count, ghosts, i, records::face_count(shape))
+}
+
+fn trees_sound(part: &[u8], count: u32, ghosts: u32, dimension: u32) -> bool
+    requires { ⌜ length (now part) ≡ partSize count ghosts ⌝ }
+    ensures { λ r. ⌜ r ≡ allBelow count (treeStored count ghosts (storedTree (now (part .entry))) (ghostCore (now (part .entry)) count) dimension) ⌝ }
+{
+    let mut i = 0;
+    while i < count {
+        if !tree_sound(part, count, ghosts, dimension, i) {
+            return false;
+        }
+        i += 1;
+    }
+    true
+}
+
+// ---- ghosts
+
+// The position of the ghost with the number, or how many ghosts there are.
+fn ghost_with(part: &[u8], first: u32, count: u32, ghosts: u32, trees: u32, number: u32) -> u32
+    requires { ⌜ PartNumbered (now part) first count ghosts trees ⌝ }
+    ensures { λ r. ⌜ r ≡ leastBelow ghosts (ghostIs first count ghosts (storedTree (now (part .entry))) (ghostCore (now (part .entry)) count) number) ⌝ }
+{
+    let position = find_ghost(part, ghost_at(count, 0), ghosts, number);
+    if ghosts <= position {
+        return ghosts;
+    }
+    if records::number_of(part, ghost_at(count, position)) != number {
+        return ghosts;
+    }
+    position
+}
+
+// The neighbour is a tree of the range, another ghost, or not held.
+fn ghost_face(
+    part: &[u8],
+    first: u32,
+    count: u32,
+    ghosts: u32,
+    trees: u32,
+    j: u32,
+    face: u32,
+) -> bool
+    requires { ⌜ PartNumbered (now part) first count ghosts trees × (j < ghosts) × (face < 6) ⌝ }
+    ensures { λ r. ⌜ r ≡ ghostFace first count ghosts (storedTree (now (part .entry))) (ghostCore (now (part .entry)) count) trees j face ⌝ }
+{
+    let at = ghost_at(count, j);
+    let k = records::neighbour_of(part, at, face);
+    if in_range(first, first + count, k) {
+        let tree = to_local(GlobalIndex(k), GlobalIndex(first));
+        let own = ghost_index(count, j);
+        return link_ok(part, own.0, at, face, tree_at(tree.0));
+    }
+    let position = ghost_with(part, first, count, ghosts, trees, k);
+    if position < ghosts {
+        let number = records::number_of(part, at);
+        return link_ok(part, number, at, face, ghost_at(count, position));
+    }
+    (k < trees) & mesh::inner::orientation_ok(part, at, face)
+}
+
+fn ghost_faces(
+    part: &[u8],
+    first: u32,
+    count: u32,
+    ghosts: u32,
+    trees: u32,
+    j: u32,
+    faces: u32,
+) -> bool
+    requires { ⌜ PartNumbered (now part) first count ghosts trees × (j < ghosts) × (faces ≤ 6) ⌝ }
+    ensures { λ r. ⌜ r ≡ allBelow faces (ghostFace first count ghosts (storedTree (now (part .entry))) (ghostCore (now (part .entry)) count) trees j) ⌝ }
+{
+    let mut face = 0;
+    while face < faces {
+        if !ghost_face(part, first, count, ghosts, trees, j, face) {
+            return false;
+        }
+        face += 1;
+    }
+    true
+}
+
+fn ghost_sound(
+    part: &[u8],
+    first: u32,
+    count: u32,
+    ghosts: u32,
+    dimension: u32,
+    trees: u32,
+    j: u32,
+) -> bool
+    requires { ⌜ PartNumbered (now part) first count ghosts trees × (j < ghosts) ⌝ }
+    ensures { λ r. ⌜ r ≡ ghostStored first count ghosts (storedTree (now (part .entry))) (ghostCore (now (part .entry)) count) dimension trees j ⌝ }
+{
+    let at = ghost_at(count, j);
+    let shape = records::shape_of(part, at);
+    let faces = records::face_count(shape);
+    records::in_form(part, at, records::number_of(part, at))
+        & (records::dimension_of(shape) == dimension)
+        & beside(part, at, faces, first, first + count)
+        & ghost_faces(part, first, count, ghosts, trees, j, faces)
+}
+
+fn ghosts_sound(
+    part: &[u8],
+    first: u32,
+    count: u32,
+    ghosts: u32,
+    dimension: u32,
+    trees: u32,
+) -> bool
+    requires { ⌜ PartNumbered (now part) first count ghosts trees ⌝ }
+    ensures { λ r. ⌜ r ≡ allBelow ghosts (ghostStored first count ghosts (storedTree (now (part .entry))) (ghostCore (now (part .entry)) count) dimension trees) ⌝ }
+{
+    let mut j = 0;
+    while j < ghosts {
+        if !ghost_sound(part, first, count, ghosts, dimension, trees, j) {
+            return false;
+        }
+        j += 1;
+    }
+    true
+}
+
+fn records_sound(
+    part: &[u8],
+    first: u32,
+    count: u32,
+    ghosts: u32,
+    dimension: u32,
+    trees: u32,
+) -> bool
+    requires { ⌜ PartLaid (now part) first count ghosts trees ⌝ }
+    ensures { λ r. ⌜ r ≡ recordsSound first count ghosts (storedTree (now (part .entry))) (ghostCore (now (part .entry)) count) dimension trees ⌝ }
+{
+    if !numbers_sound(part, first, count, ghosts, trees) {
+        return false;
+    }
+    trees_sound(part, count, ghosts, dimension)
+        & ghosts_sound(part, first, count, ghosts, dimension, trees)
+}
+
+// Whether the part is sound for a valid table and a rank of it.
+pub fn part_sound(part: &[u8], table: &[u8], rank: u32) -> bool
+    requires { ⌜ RankKnown (now table) rank ⌝ }
+    ensures { λ r. ⌜ r ≡ partSound (now (part .entry)) (now (table .entry)) rank ⌝ }
+{
+    if !header_sound(part, table, rank) {
+        return false;
+    }
+    records_sound(
+        part,
+        first_tree(part),
+        tree_count(part),
+        ghost_count(part),
+        dimension(part),
+        trees(part),
+    )
+}

@@ -193,11 +193,14 @@ enum
                                      from 1 to 1,024. */
   VEJGODAT_TABLE = 3,           /**< A table isn't valid. */
   VEJGODAT_DIFFER = 4,          /**< Old and new table differ in P or K. */
-  VEJGODAT_INDEX = 5,           /**< A rank is >= P, or a tree >= K. */
+  VEJGODAT_INDEX = 5,           /**< A rank is >= P, a tree >= K, a local index
+                                     >= the table's count for the rank, or a
+                                     face >= 6. */
   VEJGODAT_PARTITION = 6,       /**< Ranges or leaf counts fit no table, or a
                                      limit isn't kept. */
   VEJGODAT_MESH = 7,            /**< A whole mesh isn't sound, or its K isn't
                                      the table's. */
+  VEJGODAT_PART = 8,            /**< A part isn't sound for table and rank. */
   VEJGODAT_BUFFER = 22          /**< A buffer is too short. */
 };
 
@@ -235,6 +238,34 @@ typedef struct
   uint64_t            length;   /**< The number of bytes. */
 }
 vejgodat_length;
+
+/** What the number `kind` of a \ref vejgodat_neighbour means. */
+enum
+{
+  VEJGODAT_KIND_BOUNDARY = 0,   /**< The face is at the domain's boundary. */
+  VEJGODAT_KIND_UNUSED = 1,     /**< The shape doesn't have this face. */
+  VEJGODAT_KIND_LOCAL = 2,      /**< The neighbour is a tree of the part. */
+  VEJGODAT_KIND_GHOST = 3       /**< The neighbour is a ghost of the part. */
+};
+
+/** What is across a face of a part's tree. */
+typedef struct
+{
+  uint32_t            refusal;  /**< 0, or why the call declined. */
+  uint32_t            shape;    /**< The shape of the tree itself. */
+  uint32_t            kind;     /**< \ref VEJGODAT_KIND_BOUNDARY or one of the
+                                     names that follow it. A refused call has
+                                     0 here too: look at \a refusal first. */
+  uint32_t            index;    /**< The neighbour's local index: below n for
+                                     a tree, n plus its position for a ghost,
+                                     the tree's own at the boundary, 0 where
+                                     unused. */
+  uint32_t            face;     /**< The neighbour's face: the face itself at
+                                     the boundary, 0 where unused. */
+  uint32_t            orientation; /**< The orientation: 0 at the boundary and
+                                        where unused. */
+}
+vejgodat_neighbour;
 
 /** What the number `which` of a \ref vejgodat_found means. */
 enum
@@ -545,6 +576,52 @@ vejgodat_length     vejgodat_cut_part (const uint8_t * mesh, size_t mesh_len,
                                        const uint8_t * table,
                                        size_t table_len, uint32_t rank,
                                        uint8_t * out, size_t out_len);
+
+/** Check whether bytes are a sound part for a table and a rank.
+ *
+ * Checks, in this order: those of \ref vejgodat_check_table (2, 3);
+ * \ref VEJGODAT_INDEX (5) if \a rank is not below P; \ref VEJGODAT_PART (8) if
+ * the part isn't sound, for whatever reason.
+ * Cost: O(P) for the check of the table; then O(F (n + g log g)), since a
+ * ghost's neighbours are searched by halves among the ghosts. Constant after
+ * the table where header or length is wrong.
+ *
+ * \param [in] part       Any bytes. Not changed.
+ * \param [in] part_len   The number of its bytes.
+ * \param [in] table      Any bytes. Not changed.
+ * \param [in] table_len  The number of its bytes.
+ * \param [in] rank       A rank; any number.
+ * \return                0 if the part is sound, else the refusal.
+ */
+uint32_t            vejgodat_check_part (const uint8_t * part,
+                                         size_t part_len,
+                                         const uint8_t * table,
+                                         size_t table_len, uint32_t rank);
+
+/** Find what is across a face of a part's tree.
+ *
+ * Checks, in this order: those of \ref vejgodat_check_table (2, 3);
+ * \ref VEJGODAT_INDEX (5) if \a rank is not below P, \a local not below the
+ * table's count of trees for the rank, or \a face not below 6, also where the
+ * shape has fewer faces; \ref VEJGODAT_PART (8) if the part isn't sound.
+ * Cost: that of \ref vejgodat_check_part, since each call checks the whole part
+ * anew; the answer itself takes constant time.
+ *
+ * \param [in] part       Any bytes. Not changed.
+ * \param [in] part_len   The number of its bytes.
+ * \param [in] table      Any bytes. Not changed.
+ * \param [in] table_len  The number of its bytes.
+ * \param [in] rank       A rank; any number.
+ * \param [in] local      The local index of a tree, from 0; any number.
+ * \param [in] face       A face, 0 to 5; any number. One that the tree's shape
+ *                        doesn't have is accepted, and unused.
+ * \return                The tree's shape, and what is across its face.
+ */
+vejgodat_neighbour  vejgodat_neighbour_of (const uint8_t * part,
+                                           size_t part_len,
+                                           const uint8_t * table,
+                                           size_t table_len, uint32_t rank,
+                                           uint32_t local, uint32_t face);
 
 /** Find a record by its global number.
  *

@@ -2,15 +2,18 @@
 ghost use mathlib.Core.Path.{_≡_};
 ghost use Rattle.offsets.specs.Calls.{tableRefusal, tableRange, tableLengthAnswer, writeTable, tableFromLeaves};
 ghost use Rattle.mesh.specs.Mesh.{meshRefusal};
-ghost use Rattle.part.specs.Calls.{partLengthOf, cutPartOf};
+ghost use Rattle.part.specs.Calls.{partLengthOf, cutPartOf, partRefusal, neighbourAnswer};
 ghost use Rattle.part.specs.Lookup.{foundRecord};
+ghost use Rattle.part.specs.Neighbour.{flatAnswer};
 ghost use Rattle.pattern.specs.Calls.{senderOf, treesSent, sendSetOf, receiveSetOf};
 use encoding::answer::Length;
 use offsets::Range;
 use part::Found;
+use part::neighbour::NeighbourAnswer;
 use pattern::Ranks;
 use pattern::SenderAnswer;
 use records::index::GlobalIndex;
+use records::index::LocalIndex;
 
 #[no_mangle]
 pub extern "C" fn vejgodat_check_table(table: &[u8]) -> u32
@@ -104,6 +107,26 @@ pub extern "C" fn vejgodat_cut_part(mesh: &[u8], table: &[u8], rank: u32, out: &
     ensures { λ r. ⌜ (r, now (out .exit)) ≡ cutPartOf (now (mesh .entry)) (now (table .entry)) rank (now (out .entry)) ⌝ }
 {
     part::cut_part(mesh, table, rank, out)
+}
+
+#[no_mangle]
+pub extern "C" fn vejgodat_check_part(part: &[u8], table: &[u8], rank: u32) -> u32
+    ensures { λ r. ⌜ r ≡ partRefusal (now (part .entry)) (now (table .entry)) rank ⌝ }
+{
+    part::check_part(part, table, rank)
+}
+
+#[no_mangle]
+pub extern "C" fn vejgodat_neighbour_of(
+    part: &[u8],
+    table: &[u8],
+    rank: u32,
+    local: u32,
+    face: u32,
+) -> NeighbourAnswer
+    ensures { λ r. ⌜ r ≡ flatAnswer (neighbourAnswer (now (part .entry)) (now (table .entry)) rank local face) ⌝ }
+{
+    part::neighbour::flat(part::neighbour_of(part, table, rank, LocalIndex(local), face))
 }
 
 #[no_mangle]

@@ -1,1 +1,3 @@
 -- Laws, for this crate's proofs and for the crates above.
+pub mod Bits
+pub mod Scanning

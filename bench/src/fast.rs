@@ -4,7 +4,7 @@
 pub const MAX_TREES: i64 = 1_048_576;
 const MAX_LEAVES: u32 = 16_777_216;
 
-fn entry(table: &[u8], p: usize) -> i64 {
+pub fn entry(table: &[u8], p: usize) -> i64 {
     i64::from_le_bytes(table[8 * p..8 * p + 8].try_into().unwrap())
 }
 
@@ -13,7 +13,7 @@ fn entries(table: &[u8]) -> impl Iterator<Item = i64> + '_ {
 }
 
 /// O[p] or -O[p] - 1.
-fn first(entry: i64) -> i64 {
+pub fn first(entry: i64) -> i64 {
     entry ^ (entry >> 63)
 }
 
@@ -136,7 +136,7 @@ pub fn send_set<const CHECKS: bool>(old: &[u8], new: &[u8], rank: u32, out: &mut
 }
 
 /// The corners of each face of each shape; 0 where it has no such face.
-const CORNERS: [[u8; 8]; 6] = [
+pub const CORNERS: [[u8; 8]; 6] = [
     [2, 2, 2, 2, 0, 0, 0, 0],
     [2, 2, 2, 0, 0, 0, 0, 0],
     [4, 4, 4, 4, 4, 4, 0, 0],
@@ -144,9 +144,9 @@ const CORNERS: [[u8; 8]; 6] = [
     [4, 4, 4, 3, 3, 0, 0, 0],
     [3, 3, 3, 3, 4, 0, 0, 0],
 ];
-const FACES: [usize; 6] = [4, 3, 6, 4, 5, 5];
+pub const FACES: [usize; 6] = [4, 3, 6, 4, 5, 5];
 
-fn number(bytes: &[u8], at: usize) -> u32 {
+pub fn number(bytes: &[u8], at: usize) -> u32 {
     u32::from_le_bytes(bytes[at..at + 4].try_into().unwrap())
 }
 

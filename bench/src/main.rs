@@ -7,6 +7,21 @@ mod library;
 
 use std::hint::black_box;
 
+/// Declares the modules of further rows, and prints these in order.
+macro_rules! groups {
+    ($($group:ident)*) => {
+        $(mod $group;)*
+
+        fn group_rows() {
+            $($group::rows();)*
+        }
+    };
+}
+
+groups! {
+    // a line 'part', 'message' or 'area' here switches a group on; each needs those before it
+}
+
 const RANKS: i64 = 1_024;
 
 extern "C" {
@@ -218,4 +233,5 @@ fn main() {
     for power in [14, 16, 18, 20] {
         mesh_check("tetrahedra, random links", power, tangle(power));
     }
+    group_rows();
 }

@@ -2,6 +2,8 @@
  * It says what differs, and its exit status is 0 only where nothing did. */
 #include <vejgodat.h>
 
+/* A line '#define PARTS', '#define MESSAGES' or '#define AREAS' here switches these calls on; each needs those before. */
+
 #include <stdio.h>
 #include <string.h>
 
@@ -255,13 +257,13 @@ put_number (uint8_t * bytes, uint32_t number)
 
 /* Three triangles: face 0 of each meets face 1 of the next, face 2 is the boundary. */
 static void
-check_mesh (void)
+put_triangles (uint8_t * mesh)
 {
-  uint8_t             mesh[VEJGODAT_MESH_BYTES (3)], *record;
+  uint8_t            *record;
   uint32_t            k;
   int                 face;
 
-  memset (mesh, 0, sizeof mesh);
+  memset (mesh, 0, VEJGODAT_MESH_BYTES (3));
   put_number (mesh, 2);
   put_number (mesh + 4, 3);
   for (k = 0; k < 3; ++k) {
@@ -279,6 +281,14 @@ check_mesh (void)
     record[34] = 2;
     memset (record + 40, 0xa0 + (int) k, 24);
   }
+}
+
+static void
+check_mesh (void)
+{
+  uint8_t             mesh[VEJGODAT_MESH_BYTES (3)];
+
+  put_triangles (mesh);
   EXPECT (vejgodat_check_mesh (mesh, sizeof mesh) == VEJGODAT_OK);
 
   /* face 0 of tree 1 with another orientation than face 1 of tree 2 */
@@ -290,6 +300,286 @@ check_mesh (void)
   EXPECT (vejgodat_check_mesh (mesh, sizeof mesh - 1) == VEJGODAT_MESH);
   EXPECT (vejgodat_check_mesh (NULL, 0) == VEJGODAT_MESH);
 }
+
+#ifdef PARTS
+
+static int
+is_neighbour (vejgodat_neighbour got, uint32_t kind, uint32_t index,
+              uint32_t face)
+{
+  return got.refusal == VEJGODAT_OK && got.shape == 1 && got.kind == kind
+    && got.index == index && got.face == face && got.orientation == 0;
+}
+
+/* Rank 1 has trees 0 and 1 of the three triangles, and the ghost 2. */
+static void
+parts (void)
+{
+  static const int64_t entries[4] = { 0, -1, 2, 3 };
+  /* dimension, K, P, rank, first tree, trees, ghosts, 0 */
+  static const uint32_t words[8] = { 2, 3, 3, 1, 0, 2, 1, 0 };
+  uint8_t             mesh[VEJGODAT_MESH_BYTES (3)], table[32];
+  uint8_t             part[32 + 2 * 64 + 40 + 8], before[sizeof part];
+  const uint8_t      *trees = part + 32, *ghosts = part + 32 + 2 * 64;
+  const size_t        part_len = sizeof part - 8;
+  uint8_t             expected[32];
+  vejgodat_length     answer;
+  vejgodat_neighbour  there;
+  vejgodat_found      found;
+  uint32_t            k;
+  int                 i;
+
+  EXPECT (sizeof (vejgodat_neighbour) == 24);
+  EXPECT (sizeof (vejgodat_found) == 16);
+  EXPECT (offsetof (vejgodat_found, offset) == 8);
+
+  put_triangles (mesh);
+  put_table (table, 3, entries);
+  memset (part, 0x5a, sizeof part);
+  memset (before, 0x5a, sizeof before);
+
+  answer = vejgodat_part_length (mesh, sizeof mesh, table, 32, 1);
+  EXPECT (answer.refusal == VEJGODAT_OK && answer.length == part_len);
+  answer = vejgodat_part_length (mesh, sizeof mesh, table, 32, 3);
+  EXPECT (answer.refusal == VEJGODAT_INDEX && answer.length == 0);
+  answer = vejgodat_part_length (mesh, sizeof mesh - 1, table, 32, 1);
+  EXPECT (answer.refusal == VEJGODAT_MESH && answer.length == 0);
+  answer =
+    vejgodat_cut_part (mesh, sizeof mesh, table, 32, 1, part, part_len - 1);
+  EXPECT (answer.refusal == VEJGODAT_BUFFER && answer.length == 0);
+  EXPECT (memcmp (part, before, sizeof part) == 0);
+
+  answer =
+    vejgodat_cut_part (mesh, sizeof mesh, table, 32, 1, part, sizeof part);
+  EXPECT (answer.refusal == VEJGODAT_OK && answer.length == part_len);
+  EXPECT (memcmp (part + part_len, before, 8) == 0);
+  for (i = 0; i < 8; ++i) {
+    put_number (expected + 4 * i, words[i]);
+  }
+  EXPECT (memcmp (part, expected, 32) == 0);
+  /* local indices are the global numbers here: the ghost comes third */
+  EXPECT (memcmp (trees, mesh + 8, 2 * 64) == 0);
+  EXPECT (memcmp (ghosts, mesh + 8 + 2 * 64, 40) == 0);
+
+  EXPECT (vejgodat_check_part (part, part_len, table, 32, 1) == VEJGODAT_OK);
+  EXPECT (vejgodat_check_part (part, sizeof part, table, 32, 1) == 8);
+  EXPECT (vejgodat_check_part (part, part_len, table, 32, 0) == 8);
+  EXPECT (vejgodat_check_part (NULL, 0, table, 32, 0) == 8);
+
+  there = vejgodat_neighbour_of (part, part_len, table, 32, 1, 1, 0);
+  EXPECT (is_neighbour (there, 3, 2, 1));
+  there = vejgodat_neighbour_of (part, part_len, table, 32, 1, 1, 1);
+  EXPECT (is_neighbour (there, 2, 0, 0));
+  there = vejgodat_neighbour_of (part, part_len, table, 32, 1, 1, 2);
+  EXPECT (is_neighbour (there, 0, 1, 2));
+  there = vejgodat_neighbour_of (part, part_len, table, 32, 1, 1, 3);
+  EXPECT (is_neighbour (there, 1, 0, 0));
+  there = vejgodat_neighbour_of (part, part_len, table, 32, 1, 2, 0);
+  EXPECT (there.refusal == VEJGODAT_INDEX && there.shape == 0);
+  there = vejgodat_neighbour_of (part, part_len, table, 32, 1, 1, 6);
+  EXPECT (there.refusal == VEJGODAT_INDEX && there.shape == 0);
+
+  for (k = 0; k < 4; ++k) {
+    found = vejgodat_lookup (trees, 2 * 64, ghosts, 40, k);
+    EXPECT (found.which == (k < 2 ? 1 : k < 3 ? 2 : 0));
+    EXPECT (found.offset == (k < 2 ? 64 * k : 0));
+  }
+  found = vejgodat_lookup (trees, 2 * 64 - 1, ghosts, 39, 1);
+  EXPECT (found.which == 0 && found.offset == 0);
+}
+
+#endif
+
+#ifdef MESSAGES
+
+/* The example of document 01: who sends which of the three triangles and which ghosts to whom. */
+static void
+messages (void)
+{
+  static const int64_t old_entries[4] = { 0, 1, 3, 3 };
+  static const int64_t new_entries[4] = { 0, -1, 2, 3 };
+  /* sender, receiver, tree, number of ghosts, ghosts */
+  static const uint32_t expected[4][6] =
+    { {0, 0, 0, 2, 1, 2}, {0, 1, 0, 0, 9, 9}, {1, 1, 1, 1, 2, 9},
+  {1, 2, 2, 2, 0, 1}
+  };
+  uint8_t             mesh[VEJGODAT_MESH_BYTES (3)];
+  uint8_t             old_table[32], new_table[32], part[256];
+  uint8_t             message[32 + 64 + 2 * 40 + 8], bytes[sizeof message];
+  vejgodat_length     answer, length;
+  uint32_t            p, q, ghost, count = 0;
+  size_t              part_len, at;
+  int                 i;
+
+  put_triangles (mesh);
+  put_table (old_table, 3, old_entries);
+  put_table (new_table, 3, new_entries);
+  for (p = 0; p < 3; ++p) {
+    answer = vejgodat_cut_part (mesh, sizeof mesh, old_table, 32, p, part,
+                                sizeof part);
+    EXPECT (answer.refusal == VEJGODAT_OK);
+    part_len = (size_t) answer.length;
+    for (q = 0; q < 3; ++q) {
+      memset (message, 0x5a, sizeof message);
+      memset (bytes, 0x5a, sizeof bytes);
+      length = vejgodat_message_length (part, part_len, old_table, 32,
+                                        new_table, 32, p, q);
+      answer = vejgodat_build_message (part, part_len, old_table, 32,
+                                       new_table, 32, p, q, 7, message,
+                                       sizeof message);
+      EXPECT (answer.refusal == length.refusal);
+      EXPECT (answer.length == length.length);
+      for (i = 0; i < 4; ++i) {
+        if (expected[i][0] == p && expected[i][1] == q) {
+          break;
+        }
+      }
+      if (i == 4) {
+        /* no tree to send */
+        EXPECT (answer.refusal == 9 && answer.length == 0);
+        EXPECT (memcmp (message, bytes, sizeof message) == 0);
+        continue;
+      }
+      ++count;
+      /* epoch, dimension, K, P, sender, receiver, trees, ghosts */
+      put_number (bytes, 7);
+      put_number (bytes + 4, 2);
+      put_number (bytes + 8, 3);
+      put_number (bytes + 12, 3);
+      put_number (bytes + 16, p);
+      put_number (bytes + 20, q);
+      put_number (bytes + 24, 1);
+      put_number (bytes + 28, expected[i][3]);
+      memcpy (bytes + 32, mesh + VEJGODAT_MESH_BYTES (expected[i][2]), 64);
+      at = 32 + 64;
+      for (ghost = 0; ghost < expected[i][3]; ++ghost) {
+        memcpy (bytes + at,
+                mesh + VEJGODAT_MESH_BYTES (expected[i][4 + ghost]), 40);
+        at += 40;
+      }
+      EXPECT (answer.refusal == VEJGODAT_OK && answer.length == at);
+      EXPECT (memcmp (message, bytes, sizeof message) == 0);
+      EXPECT (vejgodat_check_message (message, at) == VEJGODAT_OK);
+      EXPECT (vejgodat_check_message (message, at + 1) == 11);
+
+      memset (message, 0x5a, sizeof message);
+      memset (bytes, 0x5a, sizeof bytes);
+      answer = vejgodat_build_message (part, part_len, old_table, 32,
+                                       new_table, 32, p, q, 7, message,
+                                       at - 1);
+      EXPECT (answer.refusal == VEJGODAT_BUFFER && answer.length == 0);
+      EXPECT (memcmp (message, bytes, sizeof message) == 0);
+      /* the part is that of the sender under the old table */
+      answer = vejgodat_build_message (part, part_len, old_table, 32,
+                                       new_table, 32, (p + 1) % 3, q, 7,
+                                       message, sizeof message);
+      EXPECT (answer.refusal == 8 && answer.length == 0);
+    }
+  }
+  EXPECT (count == 4);
+  EXPECT (vejgodat_check_message (NULL, 0) == 11);
+}
+
+#endif
+
+#ifdef AREAS
+
+/* Each rank gets its messages in every order, with one repeated and one of another rank; then it has its new part. */
+static void
+areas (void)
+{
+  static const int64_t old_entries[4] = { 0, 1, 3, 3 };
+  static const int64_t new_entries[4] = { 0, -1, 2, 3 };
+  /* how many senders each rank has, and who they are */
+  static const uint32_t due[3] = { 1, 2, 1 };
+  static const uint32_t senders[3][2] = { {0, 9}, {0, 1}, {1, 9} };
+  uint8_t             mesh[VEJGODAT_MESH_BYTES (3)];
+  uint8_t             old_table[32], new_table[32], parts[2][256];
+  uint8_t             messages[2][256], stray[256], part[256], joined[256];
+  uint8_t             area[1024], before[1024];
+  size_t              part_len[2], length[2], stray_len, area_len;
+  vejgodat_length     answer;
+  vejgodat_progress   progress;
+  uint32_t            p, q, i, order, other;
+
+  EXPECT (sizeof (vejgodat_progress) == 12);
+  put_triangles (mesh);
+  put_table (old_table, 3, old_entries);
+  put_table (new_table, 3, new_entries);
+  for (p = 0; p < 2; ++p) {
+    answer = vejgodat_cut_part (mesh, sizeof mesh, old_table, 32, p, parts[p],
+                                256);
+    part_len[p] = (size_t) answer.length;
+  }
+  for (q = 0; q < 3; ++q) {
+    for (i = 0; i < due[q]; ++i) {
+      p = senders[q][i];
+      answer = vejgodat_build_message (parts[p], part_len[p], old_table, 32,
+                                       new_table, 32, p, q, 7, messages[i],
+                                       256);
+      EXPECT (answer.refusal == VEJGODAT_OK);
+      length[i] = (size_t) answer.length;
+    }
+    other = q == 1 ? 2 : 1;
+    answer = vejgodat_build_message (parts[1], part_len[1], old_table, 32,
+                                     new_table, 32, 1, other, 7, stray, 256);
+    EXPECT (answer.refusal == VEJGODAT_OK);
+    stray_len = (size_t) answer.length;
+    answer = vejgodat_area_length (old_table, 32, new_table, 32, q, 2);
+    EXPECT (answer.refusal == VEJGODAT_OK);
+    area_len = (size_t) answer.length;
+    EXPECT (area_len == 32 + 2 * 32 + 16 * 8 + (64 + 4 * 40) * due[q]);
+
+    for (order = 0; order < due[q]; ++order) {
+      memset (area, 0x5a, sizeof area);
+      answer = vejgodat_open_area (old_table, 32, new_table, 32, q, 2, 7,
+                                   area, area_len - 1);
+      EXPECT (answer.refusal == VEJGODAT_BUFFER && area[0] == 0x5a);
+      answer = vejgodat_open_area (old_table, 32, new_table, 32, q, 4, 7,
+                                   area, sizeof area);
+      EXPECT (answer.refusal == VEJGODAT_INDEX && area[0] == 0x5a);
+      answer = vejgodat_open_area (old_table, 32, new_table, 32, q, 2, 7,
+                                   area, sizeof area);
+      EXPECT (answer.refusal == VEJGODAT_OK && answer.length == area_len);
+      EXPECT (area[area_len] == 0x5a);
+      for (i = 0; i < due[q]; ++i) {
+        p = (order + i) % due[q];
+        progress = vejgodat_progress_of (area, area_len);
+        EXPECT (progress.refusal == VEJGODAT_OK);
+        EXPECT (progress.heard == i && progress.due == due[q]);
+        memcpy (before, area, sizeof area);
+        EXPECT (vejgodat_deliver (area, area_len, stray, stray_len) == 13);
+        EXPECT (vejgodat_deliver (area, area_len, stray, 31) == 11);
+        EXPECT (vejgodat_deliver (area, 31, stray, 31) == 10);
+        answer = vejgodat_close_area (area, area_len, joined, 256);
+        EXPECT (answer.refusal == 20 && answer.length == 0);
+        EXPECT (memcmp (area, before, sizeof area) == 0);
+        EXPECT (vejgodat_deliver (area, area_len, messages[p], length[p])
+                == VEJGODAT_OK);
+        memcpy (before, area, sizeof area);
+        EXPECT (vejgodat_deliver (area, area_len, messages[p], length[p])
+                == 15);
+        EXPECT (memcmp (area, before, sizeof area) == 0);
+      }
+      answer = vejgodat_cut_part (mesh, sizeof mesh, new_table, 32, q, part,
+                                  256);
+      EXPECT (answer.refusal == VEJGODAT_OK);
+      memset (joined + answer.length, 0, 256 - (size_t) answer.length);
+      memset (part + answer.length, 0, 256 - (size_t) answer.length);
+      EXPECT (vejgodat_part_of_area_length (area, area_len).length
+              == answer.length);
+      EXPECT (vejgodat_close_area (area, area_len, joined,
+                                   (size_t) answer.length - 1).refusal
+              == VEJGODAT_BUFFER);
+      EXPECT (vejgodat_close_area (area, area_len, joined, 256).length
+              == answer.length);
+      EXPECT (memcmp (joined, part, 256) == 0);
+      EXPECT (memcmp (area, before, sizeof area) == 0);
+    }
+  }
+}
+
+#endif
 
 int
 main (void)
@@ -303,5 +593,14 @@ main (void)
   plan ();
   empty_set ();
   check_mesh ();
+#ifdef PARTS
+  parts ();
+#endif
+#ifdef MESSAGES
+  messages ();
+#endif
+#ifdef AREAS
+  areas ();
+#endif
   return wrong == 0 ? 0 : 1;
 }

@@ -13,6 +13,8 @@ type State = u32;
 #[derive(Default)]
 pub struct Seen {
     pub refusals: BTreeMap<&'static str, BTreeSet<u32>>,
+    /// the calls of which a test knows what they can give
+    pub listed: BTreeSet<&'static str>,
     /// for the calls with two tables: what the old and the new one are by themselves
     pub tables: BTreeMap<&'static str, BTreeSet<(State, State)>>,
     /// how often a mesh broke exactly these sentences; none is a sound one
@@ -20,15 +22,19 @@ pub struct Seen {
     pub calls: u64,
 }
 
+/// Room for the largest part.
+const LARGEST: usize = 112 << 20;
+
 pub struct Calls {
     pub seen: Seen,
     random: Random,
-    old: Arena,
-    new: Arena,
-    list: Arena,
+    pub old: Arena,
+    pub new: Arena,
+    pub list: Arena,
     other_list: Arena,
-    out: Arena,
-    mesh: Arena,
+    pub out: Arena,
+    /// a mesh, a part, a message or an area
+    pub object: Arena,
 }
 
 /// An old and a new table, and what the model thinks of them.
@@ -70,7 +76,7 @@ pub fn show(bytes: &[u8]) -> String {
     cut(text)
 }
 
-fn cut(text: String) -> String {
+pub fn cut(text: String) -> String {
     if text.len() <= 600 {
         return text;
     }
@@ -78,7 +84,7 @@ fn cut(text: String) -> String {
 }
 
 /// The buffer after an accepted call that writes at its beginning, or as it was.
-fn written<T: Copy>(before: &[T], answer: &Answer<Vec<T>>) -> Vec<T> {
+pub fn written<T: Copy>(before: &[T], answer: &Answer<Vec<T>>) -> Vec<T> {
     let mut after = before.to_vec();
     if let Ok(values) = answer {
         after[..values.len()].copy_from_slice(values);
@@ -97,8 +103,8 @@ impl Calls {
             new: tables(),
             list: list(),
             other_list: list(),
-            out: tables(),
-            mesh: Arena::new(64 * model::MAX_TREES + 8_192),
+            out: Arena::new(LARGEST),
+            object: Arena::new(LARGEST),
         }
     }
 
@@ -107,7 +113,7 @@ impl Calls {
         self.random = Random::new(seed, test, u64::MAX);
     }
 
-    fn place(&mut self) -> Place {
+    pub fn place(&mut self) -> Place {
         match self.random.below(4) {
             0 => Place::Front,
             1 | 2 => Place::Back,
@@ -115,7 +121,7 @@ impl Calls {
         }
     }
 
-    fn put_tables(&mut self, tables: &Tables) -> (*const u8, usize, *const u8, usize) {
+    pub fn put_tables(&mut self, tables: &Tables) -> (*const u8, usize, *const u8, usize) {
         let (a, b) = (self.place(), self.place());
         let old = self.old.put(&tables.old, a);
         let mut new = self.new.put(&tables.new, b);
@@ -126,12 +132,12 @@ impl Calls {
         (old, tables.old.len(), new, tables.new.len())
     }
 
-    fn note(&mut self, call: &'static str, refusal: u32) {
+    pub fn note(&mut self, call: &'static str, refusal: u32) {
         self.seen.refusals.entry(call).or_default().insert(refusal);
         self.seen.calls += 1;
     }
 
-    fn note_tables(&mut self, call: &'static str, refusal: u32, tables: &Tables) {
+    pub fn note_tables(&mut self, call: &'static str, refusal: u32, tables: &Tables) {
         assert_eq!(self.old.bytes(), tables.old, "{call} changed the old table");
         assert_eq!(self.new.bytes(), tables.new, "{call} changed the new table");
         self.note(call, refusal);
@@ -286,30 +292,30 @@ impl Calls {
         let faults = mesh_model::faults(mesh);
         let expected = if faults.is_empty() { 0 } else { 7 };
         let place = self.place();
-        let at = self.mesh.put(mesh, place);
+        let at = self.object.put(mesh, place);
         let got = unsafe { library::vejgodat_check_mesh(at, mesh.len()) };
         let said = || cut(format!("{faults:?} of {} bytes {:?}", mesh.len(), &mesh[..mesh.len().min(200)]));
         assert_eq!(got, expected, "check_mesh {}", said());
-        assert!(self.mesh.bytes() == mesh, "check_mesh changed the mesh: {}", said());
+        assert!(self.object.bytes() == mesh, "check_mesh changed the mesh: {}", said());
         self.note("check_mesh", got);
         *self.seen.faults.entry(faults).or_default() += 1;
         got
     }
 }
 
-fn shown(tables: &Tables) -> String {
+pub fn shown(tables: &Tables) -> String {
     format!("old {} new {}", show(&tables.old), show(&tables.new))
 }
 
 /// How many bytes an accepted call writes.
-fn bytes_written(answer: &Answer<Vec<u8>>) -> Answer<u64> {
+pub fn bytes_written(answer: &Answer<Vec<u8>>) -> Answer<u64> {
     match answer {
         Ok(bytes) => Ok(bytes.len() as u64),
         Err(refusal) => Err(*refusal),
     }
 }
 
-fn length(answer: Answer<u64>) -> Length {
+pub fn length(answer: Answer<u64>) -> Length {
     match answer {
         Ok(length) => Length { refusal: 0, length },
         Err(refusal) => Length { refusal, length: 0 },

@@ -51,7 +51,7 @@ pub struct Link {
     pub orientation: u32,
 }
 
-#[derive(Clone, Debug)]
+#[derive(Clone, Debug, PartialEq, Eq)]
 pub struct Record {
     pub number: u32,
     pub shape: u8,
@@ -73,11 +73,18 @@ impl Record {
         Record { number: number_at(bytes, 0), shape: bytes[4], zeros, neighbours, codes }
     }
 
-    pub fn encode(&self, data: &[u8]) -> Vec<u8> {
+    /// The 40 bytes of a core record.
+    pub fn core(&self) -> Vec<u8> {
         let neighbours: Vec<u8> = self.neighbours.iter().flat_map(|number| number.to_le_bytes()).collect();
         let number = self.number.to_le_bytes();
-        let bytes =
-            [&number, &[self.shape][..], &self.zeros[..3], &neighbours, &self.codes, &self.zeros[3..], data].concat();
+        let bytes = [&number, &[self.shape][..], &self.zeros[..3], &neighbours, &self.codes, &self.zeros[3..]].concat();
+        assert_eq!(bytes.len(), 40);
+        bytes
+    }
+
+    /// The 64 bytes of a tree record.
+    pub fn encode(&self, data: &[u8]) -> Vec<u8> {
+        let bytes = [&self.core(), data].concat();
         assert_eq!(bytes.len(), 64);
         bytes
     }
@@ -94,6 +101,11 @@ impl Record {
         } else {
             6
         }
+    }
+
+    /// The neighbours across the faces that the shape has.
+    pub fn met(&self) -> &[u32] {
+        &self.neighbours[..self.faces().len()]
     }
 
     pub fn link(&self, face: usize) -> Link {

@@ -3,6 +3,7 @@ use crate::calls::Tables;
 use crate::mesh_model::Fault;
 use crate::model::{bytes_of, MAX_LEAVES};
 use crate::{Run, Test};
+use std::collections::BTreeSet;
 
 pub const TESTS: &[Test] = &[
     ("refusals: two tables, in both orders, with ranks and buffers", two_tables),
@@ -15,12 +16,12 @@ pub const TESTS: &[Test] = &[
 ];
 
 /// The smallest of the numbers of the checks that fail.
-fn first_of(failing: &[u32]) -> u32 {
+pub fn first_of(failing: &[u32]) -> u32 {
     failing.iter().copied().filter(|&number| number > 0).min().unwrap_or(0)
 }
 
 /// Tables of every kind, with the check that each fails by itself.
-fn kinds() -> Vec<(Vec<u8>, u32)> {
+pub fn kinds() -> Vec<(Vec<u8>, u32)> {
     let valid: [&[i64]; 3] = [&[0, -2, 3, 5], &[0, -3, -4, 5], &[0, 0, 0, 5]];
     let other_ranks: [&[i64]; 2] = [&[0, 5], &[0, 1, 2, 3, 5]];
     let other_trees: [&[i64]; 2] = [&[0, 1, 2, 4], &[0, 1, 2, 6]];
@@ -121,7 +122,7 @@ fn leaves(run: &mut Run) {
 }
 
 fn seen_refusals(run: &mut Run) {
-    let can_give: [(&str, &[u32]); 10] = [
+    let can_give: [(&'static str, &[u32]); 10] = [
         ("check_table", &[2, 3]),
         ("table_length", &[2]),
         ("table_range", &[2, 3, 5]),
@@ -133,12 +134,18 @@ fn seen_refusals(run: &mut Run) {
         ("receive_set", &[2, 3, 4, 5, 22]),
         ("check_mesh", &[7]),
     ];
-    let seen = &run.calls.seen.refusals;
+    expect_seen(run, &can_give);
+    let seen: BTreeSet<&str> = run.calls.seen.refusals.keys().copied().collect();
+    assert_eq!(run.calls.seen.listed, seen, "the calls of all groups");
+}
+
+/// Of each call exactly these refusals were seen, and that it accepts.
+pub fn expect_seen(run: &mut Run, can_give: &[(&'static str, &[u32])]) {
     for (call, numbers) in can_give {
-        let expected = [0].iter().chain(numbers).copied().collect();
-        assert_eq!(seen.get(call), Some(&expected), "{call}");
+        let expected = [0].iter().chain(*numbers).copied().collect();
+        assert_eq!(run.calls.seen.refusals.get(call), Some(&expected), "{call}");
+        run.calls.seen.listed.insert(call);
     }
-    assert_eq!(seen.len(), can_give.len());
 }
 
 fn seen_orders(run: &mut Run) {

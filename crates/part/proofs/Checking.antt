@@ -1,28 +1,27 @@
 -- What the functions that check a part find is what the definitions say.
 use Prim.Native.Nat.{ℕ, _+_, _-_, _*_, _≤_, _<_}
-use native.Mathlib.Nat.{add-sub-cancel-left}
 use native.Mathlib.Omega.{arith}
-use mathlib.Core.Path.{_≡_, refl, sym, ap, _∙_}
+use mathlib.Core.Path.{_≡_, sym, ap, _∙_}
 use mathlib.Core.Bool.{Bool, true, false, not, _&&_, and-false}
 use mathlib.Core.List.{List}
 use lib.Dec.{leb, ltb, eqb}
 use lib.ListN.{length}
-use borrow.Author.Tests.{lt-ltb, le-ltb, eq-eqb, ne-eqb, eqb-true, ltb-true, leb-true}
-use Rattle.encoding.specs.Below.{allBelow, anyBelow, countBelow, leastBelow}
+use borrow.Author.Tests.{lt-ltb, le-ltb, eq-eqb, ne-eqb, eqb-true, ltb-true}
+use Rattle.encoding.specs.Below.{allBelow, anyBelow, leastBelow}
 use Rattle.encoding.specs.Numbers.{u32At}
 use Rattle.encoding.specs.Pieces.{piece, Bytes}
-use Rattle.encoding.proofs.Below.{tests, either, and-fst, and-snd, any-at, any-none, any-false, count-initial, least-is, least-none, least-lt}
+use Rattle.encoding.proofs.Below.{tests, either, and-fst, and-snd, any-none, count-initial, least-is, least-none, least-lt}
 use Rattle.records.specs.Shape.{dimensionOf, faceCount}
-use Rattle.records.specs.Record.{coreSize, treeSize, numberOf, shapeOf, neighbourOf, inForm}
+use Rattle.records.specs.Record.{coreSize, numberOf, shapeOf, neighbourOf, inForm}
 use Rattle.records.proofs.Forms.{number-at}
 use Rattle.mesh.specs.Link.{orientationOk}
 use Rattle.mesh.specs.Mesh.{dimensionOk}
-use Rattle.offsets.specs.Table.{ranks, ranksOk, entry, trees, valid, firstTree, endTree, treeCount}
+use Rattle.offsets.specs.Table.{ranks, entry, trees, firstTree, endTree, treeCount}
 use Rattle.offsets.proofs.Tables.{count-add, end-trees, trees-high}
 use Rattle.part.specs.Layout.{treePlace, ghostPlace, partSize}
-use Rattle.part.specs.View.{ghostIs, ghostAfter, viewSound}
+use Rattle.part.specs.View.{viewSound}
 use Rattle.part.specs.Part.{partDimension, partK, partFirst, partCount, partGhostCount, storedTree, storedGhost, globalIndex, globalTree, partHeaderSound, partSound}
-use Rattle.part.specs.Mirror.{inRange, neighbourIn, numberAt, Ascending, smaller, ghostCore, linkBetween, treeTo, treeFace, treeStored, treeNumbered, ghostNumbered, ghostTo, ghostFace, ghostStored, recordsSound, RankKnown, PartLaid, PartNumbered}
+use Rattle.part.specs.Mirror.{inRange, neighbourIn, numberAt, Ascending, smaller, ghostCore, linkBetween, treeTo, treeFace, treeStored, treeNumbered, ghostBehind, ghostNumbered, ghostHas, ghostTo, ghostFace, ghostStored, recordsSound, RankKnown, PartLaid, PartNumbered}
 use Rattle.part.proofs.Global.{global-alike, global-neighbour}
 use Rattle.part.proofs.Judging.{ghosts-ascend, ghosts-few, lookedUp, Seen, view-is}
 
@@ -31,14 +30,14 @@ pub range-last : (first end k : ℕ) {b : Bool} → b ≡ inRange first end k �
 unfolding inRange
 range-last first end k e h = ltb-true k end (and-snd (leb first k) (ltb k end) (sym e ∙ h))
 
-module _ (part : List ℕ) (n g : ℕ) where
-  -- ---- trees
+-- ---- trees
 
-  module _ (i : ℕ) {at : ℕ} (here : at ≡ treePlace i) where
-    pub numbered-is : (first : ℕ) {v : ℕ} → v ≡ numberOf (piece part at coreSize) → treeNumbered first n g (storedTree part) (ghostCore part n) i ≡ eqb v (first + i)
-    unfolding treeNumbered storedTree
-    numbered-is first e = rw (← here, e)
+module _ (part : List ℕ) (i : ℕ) {at : ℕ} (here : at ≡ treePlace i) where
+  pub numbered-is : (first : ℕ) {v : ℕ} → v ≡ numberOf (piece part at coreSize) → treeNumbered first (storedTree part) i ≡ eqb v (first + i)
+  unfolding treeNumbered storedTree
+  numbered-is first e = rw (← here, e)
 
+  module _ (n g : ℕ) where
     module _ (f : ℕ) {j : ℕ} (read : j ≡ neighbourOf (piece part at coreSize) f) where
       pub face-tree : {to : ℕ} {r : Bool} → j < n → to ≡ treePlace j → r ≡ linkBetween i (piece part at coreSize) f (piece part to coreSize)
           → r ≡ treeFace n g (storedTree part) (ghostCore part n) i f
@@ -59,47 +58,51 @@ module _ (part : List ℕ) (n g : ℕ) where
     unfolding treeStored storedTree
     tree-read D e p r s t = rw (← here, p, r, t, s, e)
 
-  -- ---- ghosts
+-- ---- ghosts
 
-  module _ (first j : ℕ) {at v : ℕ} (here : at ≡ ghostPlace n j) (number : v ≡ numberOf (piece part at coreSize)) where
-    pub after-first : j ≡ 0 → true ≡ ghostAfter first n g (storedTree part) (ghostCore part n) j
-    unfolding ghostAfter
-    after-first h = rw (eq-eqb j 0 h)
+module _ (part : List ℕ) (n j : ℕ) where
+  pub behind-none : j ≡ 0 → true ≡ ghostBehind (ghostCore part n) j
+  unfolding ghostBehind
+  behind-none h = rw (eq-eqb j 0 h)
 
-    pub after-read : {to w : ℕ} → (j ≡ 0 → ⊥) → to ≡ ghostPlace n (j - 1) → w ≡ numberOf (piece part to coreSize) → ltb w v ≡ ghostAfter first n g (storedTree part) (ghostCore part n) j
-    unfolding ghostAfter ghostCore
-    after-read h there e = rw (ne-eqb j 0 h, ← here, ← number, ← there, e)
+  module _ {at v : ℕ} (here : at ≡ ghostPlace n j) (number : v ≡ numberOf (piece part at coreSize)) where
+    pub behind-read : {to w : ℕ} → (j ≡ 0 → ⊥) → to ≡ ghostPlace n (j - 1) → w ≡ numberOf (piece part to coreSize) → ltb w v ≡ ghostBehind (ghostCore part n) j
+    unfolding ghostBehind ghostCore
+    behind-read h there e = rw (ne-eqb j 0 h, ← here, ← number, ← there, e)
 
-    pub ghost-numbered-is : (K : ℕ) {b a : Bool} → b ≡ inRange first (first + n) v → a ≡ ghostAfter first n g (storedTree part) (ghostCore part n) j
-        → (ltb v K && not b && a) ≡ ghostNumbered first n g (storedTree part) (ghostCore part n) K j
+    pub ghost-numbered-is : (first K : ℕ) {b a : Bool} → b ≡ inRange first (first + n) v → a ≡ ghostBehind (ghostCore part n) j → (ltb v K && not b && a) ≡ ghostNumbered first n (ghostCore part n) K j
     unfolding ghostNumbered ghostCore
-    ghost-numbered-is K p q = rw (← here, ← number, p, q)
+    ghost-numbered-is first K p q = rw (← here, ← number, p, q)
 
-    pub ghost-read : {a b d : Bool} {shape dimension faces : ℕ} (D K : ℕ) → shape ≡ shapeOf (piece part at coreSize) → faces ≡ faceCount shape → a ≡ inForm v (piece part at coreSize) → dimension ≡ dimensionOf shape
+    pub ghost-read : {a b d : Bool} {shape dimension faces : ℕ} (first g D K : ℕ) → shape ≡ shapeOf (piece part at coreSize) → faces ≡ faceCount shape → a ≡ inForm v (piece part at coreSize) → dimension ≡ dimensionOf shape
         → b ≡ anyBelow faces (neighbourIn first (first + n) (piece part at coreSize)) → d ≡ allBelow faces (ghostFace first n g (storedTree part) (ghostCore part n) K j)
         → (a && eqb dimension D && b && d) ≡ ghostStored first n g (storedTree part) (ghostCore part n) D K j
     unfolding ghostStored ghostCore
-    ghost-read D K e s p r q t = rw (← here, p, r, q, t, s, e, number)
+    ghost-read first g D K e s p r q t = rw (← here, p, r, q, t, s, e, number)
 
-  -- ---- the search among the ghosts
+-- the search among the ghosts
+module _ (part : List ℕ) (n g : ℕ) where
+  number-there : (i : ℕ) → numberAt part (ghostPlace n 0) i ≡ numberOf (ghostCore part n i)
+  unfolding numberAt ghostCore
+  number-there i =
+      let e : ghostPlace n 0 + coreSize * i ≡ ghostPlace n i = omega arith in
+      ap (u32At part) e ∙ sym (number-at part (ghostPlace n i))
 
   module _ (first K : ℕ) (known : PartNumbered part first n g K) where
-    number-there : (i : ℕ) → numberAt part (ghostPlace n 0) i ≡ numberOf (ghostCore part n i)
-    unfolding numberAt ghostCore
-    number-there i =
-        let e : ghostPlace n 0 + coreSize * i ≡ ghostPlace n i = omega arith in
-        ap (u32At part) e ∙ sym (number-at part (ghostPlace n i))
-
-    ascends : (i j : ℕ) → i < j → j < g → numberOf (ghostCore part n i) < numberOf (ghostCore part n j)
-    ascends = ghosts-ascend first n g K (storedTree part) (ghostCore part n) (known .numbers)
-
-    pub ascending : {at : ℕ} → at ≡ ghostPlace n 0 → Ascending part at g
-    ascending e =
-        rw e (record { fits = omega (arith, known .laid .long); ascends = λ i j h l. rw (number-there i, number-there j) (ascends i j h l) })
+    pub ghosts-ascending : Ascending part (ghostPlace n 0) g
+    ghosts-ascending =
+        record {
+          fits = omega (arith, known .laid .long);
+          ascends = λ i j h l. rw (number-there i, number-there j) (ghosts-ascend first n g K (storedTree part) (ghostCore part n) (known .numbers) i j h l);
+        }
 
     -- the local index of a ghost has 32 bits
     pub index-word : (j : ℕ) → j < g → n + j < 4294967296
     index-word j h = omega (arith, ghosts-few first n g K (storedTree part) (ghostCore part n) (known .numbers), known .laid .within, known .laid .most)
+
+  module _ (known : Ascending part (ghostPlace n 0) g) where
+    ascends : (i j : ℕ) → i < j → j < g → numberOf (ghostCore part n i) < numberOf (ghostCore part n j)
+    ascends i j h l = omega (arith, known .ascends i j h l, number-there i, number-there j)
 
     -- ghost m has as many before it as have smaller numbers
     search-is : (k m : ℕ) → m < g → numberOf (ghostCore part n m) ≡ k → smaller part (ghostPlace n 0) g k ≡ m
@@ -111,34 +114,37 @@ module _ (part : List ℕ) (n g : ℕ) where
         (either (ltb m i) (λ q. omega (arith, number-there i, ascends m i (ltb-true m i q) p))
         (λ q. let s : m ≡ i = omega tests in omega (arith, number-there i, ap (λ (x : ℕ). numberOf (ghostCore part n x)) s))))
 
-    module _ (k : ℕ) {at p : ℕ} (from : at ≡ ghostPlace n 0) (position : p ≡ smaller part at g k) where
-      position-is : (m : ℕ) → m < g → numberOf (ghostCore part n m) ≡ k → p ≡ m
-      position-is m h e = position ∙ ap (λ (a : ℕ). smaller part a g k) from ∙ search-is k m h e
+    module _ {at : ℕ} (from : at ≡ ghostPlace n 0) where
+      pub ascending-at : Ascending part at g
+      ascending-at = rw from known
 
-      none-with : ((m : ℕ) → m < g → numberOf (ghostCore part n m) ≡ k → ⊥) → g ≡ leastBelow g (ghostIs first n g (storedTree part) (ghostCore part n) k)
-      unfolding ghostIs
-      none-with h =
-          sym (least-none g (ghostIs first n g (storedTree part) (ghostCore part n) k) (any-none g (ghostIs first n g (storedTree part) (ghostCore part n) k) (λ m l. ne-eqb (numberOf (ghostCore part n m)) k (h m l))))
+      module _ (k : ℕ) {p : ℕ} (position : p ≡ smaller part at g k) where
+        position-is : (m : ℕ) → m < g → numberOf (ghostCore part n m) ≡ k → p ≡ m
+        position-is m h e = position ∙ ap (λ (a : ℕ). smaller part a g k) from ∙ search-is k m h e
 
-      pub search-past : g ≤ p → g ≡ leastBelow g (ghostIs first n g (storedTree part) (ghostCore part n) k)
-      search-past h = none-with (λ m l e. omega (arith, position-is m l e))
+        none-with : ((m : ℕ) → m < g → numberOf (ghostCore part n m) ≡ k → ⊥) → g ≡ leastBelow g (ghostHas (ghostCore part n) k)
+        unfolding ghostHas
+        none-with h =
+            sym (least-none g (ghostHas (ghostCore part n) k) (any-none g (ghostHas (ghostCore part n) k) (λ m l. ne-eqb (numberOf (ghostCore part n m)) k (h m l))))
 
-      module _ {to v : ℕ} (there : to ≡ ghostPlace n p) (number : v ≡ numberOf (piece part to coreSize)) where
-        number-of-position : v ≡ numberOf (ghostCore part n p)
-        unfolding ghostCore
-        number-of-position = rw (number, there)
+        pub search-past : g ≤ p → g ≡ leastBelow g (ghostHas (ghostCore part n) k)
+        search-past h = none-with (λ m l e. omega (arith, position-is m l e))
 
-        pub search-other : (v ≡ k → ⊥) → g ≡ leastBelow g (ghostIs first n g (storedTree part) (ghostCore part n) k)
-        search-other h = none-with (λ m l e. h (number-of-position ∙ ap (λ (x : ℕ). numberOf (ghostCore part n x)) (position-is m l e) ∙ e))
+        module _ {to v : ℕ} (there : to ≡ ghostPlace n p) (number : v ≡ numberOf (piece part to coreSize)) where
+          number-of-position : v ≡ numberOf (ghostCore part n p)
+          unfolding ghostCore
+          number-of-position = rw (number, there)
 
-        pub search-found : p < g → v ≡ k → p ≡ leastBelow g (ghostIs first n g (storedTree part) (ghostCore part n) k)
-        unfolding ghostIs
-        search-found h e =
-            let q : numberOf (ghostCore part n p) ≡ k = sym number-of-position ∙ e in
-            sym (least-is g (ghostIs first n g (storedTree part) (ghostCore part n) k) p h (eq-eqb (numberOf (ghostCore part n p)) k q) (λ j l. ne-eqb (numberOf (ghostCore part n j)) k (λ s. omega (arith, ascends j p l h))))
+          pub search-other : (v ≡ k → ⊥) → g ≡ leastBelow g (ghostHas (ghostCore part n) k)
+          search-other h = none-with (λ m l e. h (number-of-position ∙ ap (λ (x : ℕ). numberOf (ghostCore part n x)) (position-is m l e) ∙ e))
 
-  -- ---- the link of a ghost
+          pub search-found : p < g → v ≡ k → p ≡ leastBelow g (ghostHas (ghostCore part n) k)
+          unfolding ghostHas
+          search-found h e =
+              let q : numberOf (ghostCore part n p) ≡ k = sym number-of-position ∙ e in
+              sym (least-is g (ghostHas (ghostCore part n) k) p h (eq-eqb (numberOf (ghostCore part n p)) k q) (λ j l. ne-eqb (numberOf (ghostCore part n j)) k (λ s. omega (arith, ascends j p l h))))
 
+  -- the link of a ghost
   module _ (first K j f : ℕ) {at k : ℕ} (here : at ≡ ghostPlace n j) (read : k ≡ neighbourOf (piece part at coreSize) f) {b : Bool} (test : b ≡ inRange first (first + n) k) where
     pub link-local : (t : ℕ) {own to : ℕ} {r : Bool} → b ≡ true → t + first ≡ k → own ≡ n + j → to ≡ treePlace t → r ≡ linkBetween own (piece part at coreSize) f (piece part to coreSize)
         → r ≡ ghostFace first n g (storedTree part) (ghostCore part n) K j f
@@ -147,20 +153,20 @@ module _ (part : List ℕ) (n g : ℕ) where
         let s : k - first ≡ t = omega arith in
         rw (← here, ← read, ← test, h, s, ← there, p, e)
 
-    module _ (out : b ≡ false) {p : ℕ} (position : p ≡ leastBelow g (ghostIs first n g (storedTree part) (ghostCore part n) k)) where
+    module _ (out : b ≡ false) {p : ℕ} (position : p ≡ leastBelow g (ghostHas (ghostCore part n) k)) where
       pub link-held : {v to : ℕ} {r : Bool} → p < g → v ≡ numberOf (piece part at coreSize) → to ≡ ghostPlace n p → r ≡ linkBetween v (piece part at coreSize) f (piece part to coreSize)
           → r ≡ ghostFace first n g (storedTree part) (ghostCore part n) K j f
       unfolding ghostFace ghostTo ghostCore
       link-held h e there q =
-          let some : anyBelow g (ghostIs first n g (storedTree part) (ghostCore part n) k) ≡ true =
-          either (anyBelow g (ghostIs first n g (storedTree part) (ghostCore part n) k)) (λ t. t) (λ t. absurd (omega (arith, least-none g (ghostIs first n g (storedTree part) (ghostCore part n) k) t))) in
+          let some : anyBelow g (ghostHas (ghostCore part n) k) ≡ true =
+          either (anyBelow g (ghostHas (ghostCore part n) k)) (λ t. t) (λ t. absurd (omega (arith, least-none g (ghostHas (ghostCore part n) k) t))) in
           rw (← here, ← read, ← test, out, some, ← position, ← there, q, e)
 
       pub link-free : {q : Bool} → g ≤ p → q ≡ orientationOk (piece part at coreSize) f → (ltb k K && q) ≡ ghostFace first n g (storedTree part) (ghostCore part n) K j f
       unfolding ghostFace ghostTo ghostCore
       link-free h e =
-          let none : anyBelow g (ghostIs first n g (storedTree part) (ghostCore part n) k) ≡ false =
-          either (anyBelow g (ghostIs first n g (storedTree part) (ghostCore part n) k)) (λ t. absurd (omega (arith, least-lt g (ghostIs first n g (storedTree part) (ghostCore part n) k) t))) (λ t. t) in
+          let none : anyBelow g (ghostHas (ghostCore part n) k) ≡ false =
+          either (anyBelow g (ghostHas (ghostCore part n) k)) (λ t. absurd (omega (arith, least-lt g (ghostHas (ghostCore part n) k) t))) (λ t. t) in
           rw (← here, ← read, ← test, out, none, e)
 
 -- ---- the header and the whole

@@ -2,20 +2,19 @@
 use Prim.Native.Nat.{ℕ, _+_, _*_, _≤_, _<_}
 use native.Mathlib.Omega.{arith}
 use mathlib.Core.Path.{_≡_, refl, sym, _∙_}
-use mathlib.Core.Bool.{Bool, true, false, cond, _&&_, and-false}
-use mathlib.Core.List.{List, [], _∷_, _++_}
-use lib.Dec.{ltb, eqb}
+use mathlib.Core.Bool.{Bool, true, false, cond}
+use mathlib.Core.List.{List, _++_}
+use lib.Dec.{ltb}
 use lib.ListN.{length}
 use borrow.Author.Tests.{lt-ltb, le-ltb, eq-eqb, ne-eqb, ltb-true}
 use Rattle.encoding.specs.Pieces.{Bytes}
 use Rattle.encoding.specs.Refusal.{Check, firstFailed}
-use Rattle.offsets.specs.Table.{ranks, ranksOk, trees, valid, firstTree, endTree, treeCount}
+use Rattle.offsets.specs.Table.{ranks, ranksOk, trees, valid, firstTree, endTree}
 use Rattle.offsets.proofs.Tables.{first-le-end, size}
-use Rattle.records.specs.Record.{shapeOf}
 use Rattle.mesh.specs.Mesh.{meshTrees, meshSound}
 use Rattle.part.specs.Part.{partSound}
 use Rattle.part.specs.Mirror.{RankKnown}
-use Rattle.part.specs.Calls.{rankChecks, cutChecks, partRefusal, neighbourChecks, neighbourRefused, neighbourAnswer}
+use Rattle.part.specs.Calls.{rankChecks, cutChecks, partRefusal}
 
 module _ (table : List ℕ) (rank : ℕ) {a : Bool} (is-a : a ≡ ranksOk table) where
   pub fails-ranks : a ≡ false → 2 ≡ firstFailed (rankChecks table rank)

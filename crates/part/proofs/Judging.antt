@@ -1,23 +1,23 @@
 -- The soundness of a part, as its definition says it over neighbours looked up, is what the code finds over the records as they stand.
-use Prim.Native.Nat.{ℕ, zero, suc, _+_, _-_, _*_, _≤_, _<_}
+use Prim.Native.Nat.{ℕ, zero, suc, _+_, _-_, _≤_, _<_}
 use native.Mathlib.Omega.{arith}
 use native.Mathlib.Nat.{add-sub-cancel-left}
 use mathlib.Core.Path.{_≡_, refl, sym, ap, ap₂, _∙_}
-use mathlib.Core.Bool.{Bool, true, false, cond, not, _&&_, _||_, and-true}
+use mathlib.Core.Bool.{Bool, true, false, cond, not, _&&_, and-true}
 use mathlib.Core.List.{List}
 use lib.Dec.{leb, ltb, eqb}
-use borrow.Author.Tests.{ltb-true, ltb-false, leb-true, lt-ltb, le-ltb, le-leb, eqb-true, eqb-false, eq-eqb, ne-eqb}
+use borrow.Author.Tests.{ltb-true, leb-true, lt-ltb, le-ltb, le-leb, eqb-true, eqb-false, eq-eqb, ne-eqb}
 use Rattle.encoding.specs.Below.{allBelow, anyBelow, leastBelow}
 use Rattle.encoding.proofs.Below.{tests, either, clash, and-fst, and-snd, and-intro, iff-eq, below-suc, all-at, all-intro, all-same, any-intro, any-none, least-is}
 use Rattle.offsets.specs.Limits.{maxTrees}
-use Rattle.records.specs.Shape.{dimensionOf, faceCount, shapeOk, corners}
-use Rattle.records.specs.Record.{unused, numberOf, shapeOf, neighbourOf, codeOf, faceOf, orientationOf, zerosOk, unusedOk, toItself, boundaryOk, inForm}
+use Rattle.records.specs.Shape.{dimensionOf, faceCount, shapeOk}
+use Rattle.records.specs.Record.{unused, numberOf, shapeOf, neighbourOf, faceOf, unusedOk, toItself, boundaryOk, inForm}
 use Rattle.records.proofs.Shapes.{count-six}
 use Rattle.records.proofs.Forms.{face-six}
 use Rattle.mesh.specs.Link.{orientationOk, sameCorners, answered, linkOk}
 use Rattle.part.specs.View.{isLocal, ghostIs, held, heldCore, treeLink, ghostLink, localSound, ghostAfter, ghostBeside, ghostSound, viewSound}
 use Rattle.part.specs.Part.{noTree}
-use Rattle.part.specs.Mirror.{inRange, neighbourIn, linkBetween, treeNumbered, ghostNumbered, numbersSound, treeTo, treeFace, treeStored, ghostTo, ghostFace, ghostStored, recordsSound}
+use Rattle.part.specs.Mirror.{inRange, neighbourIn, linkBetween, treeNumbered, ghostBehind, ghostNumbered, ghostHas, numbersSound, treeTo, treeFace, treeStored, ghostTo, ghostFace, ghostStored, recordsSound}
 use Rattle.part.proofs.Global.{Alike, alike-itself, alike-face, alike-orientation}
 
 -- ---- the numbers
@@ -25,26 +25,26 @@ use Rattle.part.proofs.Global.{Alike, alike-itself, alike-face, alike-o
 module _ (first n g K : ℕ) (tree ghostly : ℕ → List ℕ) (numbers : numbersSound first n g tree ghostly K ≡ true) where
   pub tree-number : (i : ℕ) → i < n → numberOf (tree i) ≡ first + i
   unfolding numbersSound treeNumbered
-  tree-number i h = eqb-true _ _ (all-at n (treeNumbered first n g tree ghostly) (and-fst (allBelow n (treeNumbered first n g tree ghostly)) _ numbers) i h)
+  tree-number i h = eqb-true _ _ (all-at n (treeNumbered first tree) (and-fst (allBelow n (treeNumbered first tree)) _ numbers) i h)
 
-  ghost-numbered : (j : ℕ) → j < g → ghostNumbered first n g tree ghostly K j ≡ true
+  ghost-numbered : (j : ℕ) → j < g → ghostNumbered first n ghostly K j ≡ true
   unfolding numbersSound
-  ghost-numbered = all-at g (ghostNumbered first n g tree ghostly K) (and-snd (allBelow n (treeNumbered first n g tree ghostly)) _ numbers)
+  ghost-numbered = all-at g (ghostNumbered first n ghostly K) (and-snd (allBelow n (treeNumbered first tree)) _ numbers)
 
   pub ghost-below : (j : ℕ) → j < g → numberOf (ghostly j) < K
   unfolding ghostNumbered
-  ghost-below j h = ltb-true _ _ (and-fst (ltb (numberOf (ghostly j)) K) (not (inRange first (first + n) (numberOf (ghostly j)))) (and-fst _ (ghostAfter first n g tree ghostly j) (ghost-numbered j h)))
+  ghost-below j h = ltb-true _ _ (and-fst (ltb (numberOf (ghostly j)) K) (not (inRange first (first + n) (numberOf (ghostly j)))) (and-fst _ (ghostBehind ghostly j) (ghost-numbered j h)))
 
   pub ghost-outside : (j : ℕ) → j < g → inRange first (first + n) (numberOf (ghostly j)) ≡ false
   unfolding ghostNumbered
   ghost-outside j h =
-      let e : not (inRange first (first + n) (numberOf (ghostly j))) ≡ true = and-snd (ltb (numberOf (ghostly j)) K) _ (and-fst _ (ghostAfter first n g tree ghostly j) (ghost-numbered j h)) in
+      let e : not (inRange first (first + n) (numberOf (ghostly j))) ≡ true = and-snd (ltb (numberOf (ghostly j)) K) _ (and-fst _ (ghostBehind ghostly j) (ghost-numbered j h)) in
       either (inRange first (first + n) (numberOf (ghostly j))) (λ p. clash e (rw p)) (λ p. p)
 
   ghost-after : (j : ℕ) → suc j < g → numberOf (ghostly j) < numberOf (ghostly (suc j))
-  unfolding ghostNumbered ghostAfter
+  unfolding ghostNumbered ghostBehind
   ghost-after j h =
-      let e : ghostAfter first n g tree ghostly (suc j) ≡ true = and-snd (ltb (numberOf (ghostly (suc j))) K && not (inRange first (first + n) (numberOf (ghostly (suc j))))) _ (ghost-numbered (suc j) h) in
+      let e : ghostBehind ghostly (suc j) ≡ true = and-snd (ltb (numberOf (ghostly (suc j))) K && not (inRange first (first + n) (numberOf (ghostly (suc j))))) _ (ghost-numbered (suc j) h) in
       let p : suc j - 1 ≡ j = omega arith in
       ltb-true _ _ (rw (ne-eqb (suc j) 0 (λ q. omega arith), p) at e)
 
@@ -246,7 +246,7 @@ module _ (first n g K : ℕ) (tree global ghostly : ℕ → List ℕ) (seen : Se
   ghost-to : (j : ℕ) → j < g → (f : ℕ) → f < 6 → (k : ℕ)
       → cond (held first n g global ghostly k) (linkBetween (numberOf (ghostly j)) (ghostly j) f (heldCore first n g global ghostly k)) (ltb k K && orientationOk (ghostly j) f)
       ≡ ghostTo first n g tree ghostly K j f k
-  unfolding ghostTo held heldCore isLocal inRange ghostIs
+  unfolding ghostTo held heldCore isLocal inRange ghostIs ghostHas
   ghost-to j h f l k =
       either (leb first k && ltb k (first + n))
       (λ p. let t : k - first < n = omega (arith, leb-true first k (and-fst (leb first k) (ltb k (first + n)) p), ltb-true k (first + n) (and-snd (leb first k) (ltb k (first + n)) p)) in
@@ -276,8 +276,8 @@ module _ (first n g K : ℕ) (tree global ghostly : ℕ → List ℕ) (seen : Se
       )
 
   ghost-behind : (j : ℕ) → j < g → ghostAfter first n g global ghostly j ≡ true
-  unfolding ghostNumbered ghostAfter
-  ghost-behind j h = and-snd (ltb (numberOf (ghostly j)) K && not (inRange first (first + n) (numberOf (ghostly j)))) (ghostAfter first n g tree ghostly j) (ghost-numbered first n g K tree ghostly numbers j h)
+  unfolding ghostNumbered ghostAfter ghostBehind
+  ghost-behind j h = and-snd (ltb (numberOf (ghostly j)) K && not (inRange first (first + n) (numberOf (ghostly j)))) (ghostBehind ghostly j) (ghost-numbered first n g K tree ghostly numbers j h)
 
   ghost-record : (D j : ℕ) → j < g → ghostSound first n g global ghostly D K j ≡ ghostStored first n g tree ghostly D K j
   unfolding ghostSound ghostStored ghostBeside isLocal neighbourIn inRange
@@ -299,14 +299,14 @@ module _ (first n g K : ℕ) (tree global ghostly : ℕ → List ℕ) (seen : Se
 
 -- the view is sound exactly where the records are
 module _ (first n g K : ℕ) (tree global ghostly : ℕ → List ℕ) (seen : Seen first n g K tree global ghostly) where
-  local-number : (D i : ℕ) → i < n → localSound first n g global ghostly D i ≡ true → treeNumbered first n g tree ghostly i ≡ true
+  local-number : (D i : ℕ) → i < n → localSound first n g global ghostly D i ≡ true → treeNumbered first tree i ≡ true
   unfolding localSound treeNumbered
   local-number D i h e =
       let q : eqb (numberOf (global i)) (first + i) ≡ true = and-snd (inForm (first + i) (global i)) _ (and-fst _ (eqb (dimensionOf (shapeOf (global i))) D) (and-fst _ (allBelow (faceCount (shapeOf (global i))) (treeLink first n g global ghostly (first + i))) e)) in
       rw (← seen .alike i h .number) q
 
-  ghost-number : (D j : ℕ) → ghostSound first n g global ghostly D K j ≡ true → ghostNumbered first n g tree ghostly K j ≡ true
-  unfolding ghostSound ghostNumbered ghostAfter isLocal inRange
+  ghost-number : (D j : ℕ) → ghostSound first n g global ghostly D K j ≡ true → ghostNumbered first n ghostly K j ≡ true
+  unfolding ghostSound ghostNumbered ghostAfter ghostBehind isLocal inRange
   ghost-number D j e =
       let k : ℕ = numberOf (ghostly j) in
       let r = ghostly j in
@@ -322,9 +322,9 @@ module _ (first n g K : ℕ) (tree global ghostly : ℕ → List ℕ) (seen : Se
   view-numbers : (D : ℕ) → viewSound first n g global ghostly D K ≡ true → numbersSound first n g tree ghostly K ≡ true
   unfolding viewSound numbersSound
   view-numbers D e =
-      and-intro (allBelow n (treeNumbered first n g tree ghostly)) (allBelow g (ghostNumbered first n g tree ghostly K))
-      (all-intro n (treeNumbered first n g tree ghostly) (λ i h. local-number D i h (all-at n (localSound first n g global ghostly D) (and-fst (allBelow n (localSound first n g global ghostly D)) _ e) i h)))
-      (all-intro g (ghostNumbered first n g tree ghostly K) (λ j h. ghost-number D j (all-at g (ghostSound first n g global ghostly D K) (and-snd (allBelow n (localSound first n g global ghostly D)) _ e) j h)))
+      and-intro (allBelow n (treeNumbered first tree)) (allBelow g (ghostNumbered first n ghostly K))
+      (all-intro n (treeNumbered first tree) (λ i h. local-number D i h (all-at n (localSound first n g global ghostly D) (and-fst (allBelow n (localSound first n g global ghostly D)) _ e) i h)))
+      (all-intro g (ghostNumbered first n ghostly K) (λ j h. ghost-number D j (all-at g (ghostSound first n g global ghostly D K) (and-snd (allBelow n (localSound first n g global ghostly D)) _ e) j h)))
 
   pub view-is : (D : ℕ) → viewSound first n g global ghostly D K ≡ recordsSound first n g tree ghostly D K
   unfolding recordsSound

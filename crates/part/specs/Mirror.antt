@@ -16,7 +16,6 @@ use Rattle.mesh.specs.Link.{orientationOk, sameCorners, answered}
 use Rattle.mesh.specs.Mesh.{meshHeader, meshDimension, meshCore, meshRecord}
 use Rattle.part.specs.Layout.{partHeader, ghostPlace, partSize, headerBytes}
 use Rattle.part.specs.Cut.{renamed}
-use Rattle.part.specs.View.{ghostIs, ghostAfter}
 use Rattle.part.specs.Part.{storedTree}
 
 -- k is in the range
@@ -128,26 +127,34 @@ module _ (n g : ℕ) (tree ghostly : ℕ → List ℕ) where
   treeStored dimension i =
       inForm i (tree i) && eqb (dimensionOf (shapeOf (tree i))) dimension && allBelow (faceCount (shapeOf (tree i))) (treeFace i)
 
+-- tree i has its number
+unfoldable pub treeNumbered : ℕ → (ℕ → List ℕ) → ℕ → Bool
+treeNumbered first tree i = eqb (numberOf (tree i)) (first + i)
+
+-- ghost j has a number above that of the ghost before it
+unfoldable pub ghostBehind : (ℕ → List ℕ) → ℕ → Bool
+ghostBehind ghostly j = cond (eqb j 0) true (ltb (numberOf (ghostly (j - 1))) (numberOf (ghostly j)))
+
+-- and one below K, outside the range
+unfoldable pub ghostNumbered : ℕ → ℕ → (ℕ → List ℕ) → ℕ → ℕ → Bool
+ghostNumbered first n ghostly K j =
+    ltb (numberOf (ghostly j)) K && not (inRange first (first + n) (numberOf (ghostly j))) && ghostBehind ghostly j
+
+-- ghost j has number k
+unfoldable pub ghostHas : (ℕ → List ℕ) → ℕ → ℕ → Bool
+ghostHas ghostly k j = eqb (numberOf (ghostly j)) k
+
 -- the numbers of a part, its ghosts, and all its records
 module _ (first n g : ℕ) (tree ghostly : ℕ → List ℕ) where
-  -- tree i has its number
-  unfoldable pub treeNumbered : ℕ → Bool
-  treeNumbered i = eqb (numberOf (tree i)) (first + i)
-
-  -- ghost j has a number below K, outside the range, above that of the ghost before it
-  unfoldable pub ghostNumbered : ℕ → ℕ → Bool
-  ghostNumbered K j =
-      ltb (numberOf (ghostly j)) K && not (inRange first (first + n) (numberOf (ghostly j))) && ghostAfter first n g tree ghostly j
-
   -- every number
   unfoldable pub numbersSound : ℕ → Bool
-  numbersSound K = allBelow n treeNumbered && allBelow g (ghostNumbered K)
+  numbersSound K = allBelow n (treeNumbered first tree) && allBelow g (ghostNumbered first n ghostly K)
 
   -- the link of face f of ghost j to tree k: one of the range leads back to the ghost's local index, another ghost to its number; or k isn't held
   unfoldable pub ghostTo : ℕ → ℕ → ℕ → ℕ → Bool
   ghostTo K j f k =
       cond (inRange first (first + n) k) (linkBetween (n + j) (ghostly j) f (tree (k - first)))
-      (cond (anyBelow g (ghostIs first n g tree ghostly k)) (linkBetween (numberOf (ghostly j)) (ghostly j) f (ghostly (leastBelow g (ghostIs first n g tree ghostly k))))
+      (cond (anyBelow g (ghostHas ghostly k)) (linkBetween (numberOf (ghostly j)) (ghostly j) f (ghostly (leastBelow g (ghostHas ghostly k))))
       (ltb k K && orientationOk (ghostly j) f))
 
   unfoldable pub ghostFace : ℕ → ℕ → ℕ → Bool

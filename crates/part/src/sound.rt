@@ -12,11 +12,11 @@ ghost use lib.Dec.{eqb};
 ghost use lib.ListN.{length};
 ghost use Rattle.encoding.specs.Below.{allBelow, leastBelow};
 ghost use Rattle.encoding.specs.Pieces.{piece};
+ghost use Rattle.offsets.specs.Limits.{maxTrees};
 ghost use Rattle.records.specs.Record.{coreSize};
 ghost use Rattle.part.specs.Layout.{partHeader, treePlace, ghostPlace, partSize};
-ghost use Rattle.part.specs.View.{ghostIs, ghostAfter};
 ghost use Rattle.part.specs.Part.{partDimension, partK, partFirst, partCount, partGhostCount, storedTree, partHeaderSound, partSound};
-ghost use Rattle.part.specs.Mirror.{ghostCore, linkBetween, treeFace, treeStored, treeNumbered, ghostNumbered, numbersSound, ghostFace, ghostStored, recordsSound, RankKnown, PartLaid, PartNumbered};
+ghost use Rattle.part.specs.Mirror.{Ascending, ghostCore, linkBetween, treeFace, treeStored, treeNumbered, ghostBehind, ghostNumbered, ghostHas, numbersSound, ghostFace, ghostStored, recordsSound, RankKnown, PartLaid, PartNumbered};
 
 // Where the record of tree i begins.
 pub fn tree_at(i: u32) -> usize
@@ -104,9 +104,9 @@ fn link_ok(part: &[u8], back: u32, at: usize, face: u32, to: usize) -> bool
 
 // ---- numbers
 
-fn tree_numbers(part: &[u8], first: u32, count: u32, ghosts: u32, trees: u32) -> bool
-    requires { ⌜ PartLaid (now part) first count ghosts trees ⌝ }
-    ensures { λ r. ⌜ r ≡ allBelow count (treeNumbered first count ghosts (storedTree (now (part .entry))) (ghostCore (now (part .entry)) count)) ⌝ }
+fn tree_numbers(part: &[u8], first: u32, count: u32) -> bool
+    requires { ⌜ (treePlace count ≤ length (now part)) × (first + count ≤ maxTrees) ⌝ }
+    ensures { λ r. ⌜ r ≡ allBelow count (treeNumbered first (storedTree (now (part .entry)))) ⌝ }
 {
     let mut i = 0;
     while i < count {
@@ -118,9 +118,9 @@ fn tree_numbers(part: &[u8], first: u32, count: u32, ghosts: u32, trees: u32) ->
     true
 }
 
-fn ghost_after(part: &[u8], first: u32, count: u32, ghosts: u32, j: u32) -> bool
-    requires { ⌜ (length (now part) ≡ partSize count ghosts) × (j < ghosts) ⌝ }
-    ensures { λ r. ⌜ r ≡ ghostAfter first count ghosts (storedTree (now (part .entry))) (ghostCore (now (part .entry)) count) j ⌝ }
+fn ghost_behind(part: &[u8], count: u32, j: u32) -> bool
+    requires { ⌜ ghostPlace count j + coreSize ≤ length (now part) ⌝ }
+    ensures { λ r. ⌜ r ≡ ghostBehind (ghostCore (now (part .entry)) count) j ⌝ }
 {
     if j == 0 {
         return true;
@@ -128,23 +128,21 @@ fn ghost_after(part: &[u8], first: u32, count: u32, ghosts: u32, j: u32) -> bool
     records::number_of(part, ghost_at(count, j - 1)) < records::number_of(part, ghost_at(count, j))
 }
 
-fn ghost_numbered(part: &[u8], first: u32, count: u32, ghosts: u32, trees: u32, j: u32) -> bool
-    requires { ⌜ PartLaid (now part) first count ghosts trees × (j < ghosts) ⌝ }
-    ensures { λ r. ⌜ r ≡ ghostNumbered first count ghosts (storedTree (now (part .entry))) (ghostCore (now (part .entry)) count) trees j ⌝ }
+fn ghost_numbered(part: &[u8], first: u32, count: u32, trees: u32, j: u32) -> bool
+    requires { ⌜ (ghostPlace count j + coreSize ≤ length (now part)) × (first + count ≤ maxTrees) ⌝ }
+    ensures { λ r. ⌜ r ≡ ghostNumbered first count (ghostCore (now (part .entry)) count) trees j ⌝ }
 {
     let number = records::number_of(part, ghost_at(count, j));
-    (number < trees)
-        & !in_range(first, first + count, number)
-        & ghost_after(part, first, count, ghosts, j)
+    (number < trees) & !in_range(first, first + count, number) & ghost_behind(part, count, j)
 }
 
 fn ghost_numbers(part: &[u8], first: u32, count: u32, ghosts: u32, trees: u32) -> bool
     requires { ⌜ PartLaid (now part) first count ghosts trees ⌝ }
-    ensures { λ r. ⌜ r ≡ allBelow ghosts (ghostNumbered first count ghosts (storedTree (now (part .entry))) (ghostCore (now (part .entry)) count) trees) ⌝ }
+    ensures { λ r. ⌜ r ≡ allBelow ghosts (ghostNumbered first count (ghostCore (now (part .entry)) count) trees) ⌝ }
 {
     let mut j = 0;
     while j < ghosts {
-        if !ghost_numbered(part, first, count, ghosts, trees, j) {
+        if !ghost_numbered(part, first, count, trees, j) {
             return false;
         }
         j += 1;
@@ -157,8 +155,7 @@ fn numbers_sound(part: &[u8], first: u32, count: u32, ghosts: u32, trees: u32) -
     requires { ⌜ PartLaid (now part) first count ghosts trees ⌝ }
     ensures { λ r. ⌜ r ≡ numbersSound first count ghosts (storedTree (now (part .entry))) (ghostCore (now (part .entry)) count) trees ⌝ }
 {
-    tree_numbers(part, first, count, ghosts, trees)
-        & ghost_numbers(part, first, count, ghosts, trees)
+    tree_numbers(part, first, count) & ghost_numbers(part, first, count, ghosts, trees)
 }
 
 // ---- trees
@@ -222,9 +219,9 @@ fn trees_sound(part: &[u8], count: u32, ghosts: u32, dimension: u32) -> bool
 // ---- ghosts
 
 // The position of the ghost with the number, or how many ghosts there are.
-fn ghost_with(part: &[u8], first: u32, count: u32, ghosts: u32, trees: u32, number: u32) -> u32
-    requires { ⌜ PartNumbered (now part) first count ghosts trees ⌝ }
-    ensures { λ r. ⌜ r ≡ leastBelow ghosts (ghostIs first count ghosts (storedTree (now (part .entry))) (ghostCore (now (part .entry)) count) number) ⌝ }
+fn ghost_with(part: &[u8], count: u32, ghosts: u32, number: u32) -> u32
+    requires { ⌜ Ascending (now part) (ghostPlace count 0) ghosts ⌝ }
+    ensures { λ r. ⌜ r ≡ leastBelow ghosts (ghostHas (ghostCore (now (part .entry)) count) number) ⌝ }
 {
     let position = find_ghost(part, ghost_at(count, 0), ghosts, number);
     if ghosts <= position {
@@ -256,7 +253,7 @@ fn ghost_face(
         let own = ghost_index(count, j);
         return link_ok(part, own.0, at, face, tree_at(tree.0));
     }
-    let position = ghost_with(part, first, count, ghosts, trees, k);
+    let position = ghost_with(part, count, ghosts, k);
     if position < ghosts {
         let number = records::number_of(part, at);
         return link_ok(part, number, at, face, ghost_at(count, position));

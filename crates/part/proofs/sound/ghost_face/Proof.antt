@@ -1,4 +1,4 @@
-use Rattle.part.proofs.Checking.{range-last, index-word, link-local, link-held, link-free}
+use Rattle.part.proofs.Checking.{range-last, ghosts-ascending, index-word, link-local, link-held, link-free}
 use Rattle.part.proofs.Writing.{range-first}
 use native.Mathlib.Omega.{arith}
 use borrow.Author.Needs.{needs}
@@ -33,7 +33,7 @@ returns : tie.Need-returns
 returns c = link-local _ _ _ _ _ _ _ (c .before .before .before .before .before .before .before .ghost-at .ensures) (c .before .before .before .before .before .before .neighbour-of .ensures) (c .before .before .before .before .before .in-range .ensures) _ (c .before .before .before .before .if1 .taken) (c .before .before .before .to-local .ensures) (c .before .before .ghost-index .ensures) (c .before .tree-at .ensures) (c .link-ok .ensures)
 
 ghost-with-requires : tie.Need-ghost-with-requires
-ghost-with-requires c κs = search needs
+ghost-with-requires c κs = ghosts-ascending _ _ _ _ _ (c .before .before .before .before .before .pre .0)
 
 number-of-requires : tie.Need-number-of-requires
 number-of-requires c κs = search needs

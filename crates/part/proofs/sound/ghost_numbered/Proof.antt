@@ -15,11 +15,11 @@ add-in-range c = search needs
 in-range-requires : tie.Need-in-range-requires
 in-range-requires c κs = search needs
 
-ghost-after-requires : tie.Need-ghost-after-requires
-ghost-after-requires c κs = search needs
+ghost-behind-requires : tie.Need-ghost-behind-requires
+ghost-behind-requires c κs = search needs
 
 returns : tie.Need-returns
-returns c = ghost-numbered-is _ _ _ _ _ (c .before .before .before .ghost-at .ensures) (c .before .before .number-of .ensures) _ (c .before .in-range .ensures) (c .ghost-after .ensures)
+returns c = ghost-numbered-is _ _ _ (c .before .before .before .ghost-at .ensures) (c .before .before .number-of .ensures) _ _ (c .before .in-range .ensures) (c .ghost-behind .ensures)
 
 pub ghost-numbered-spec : {M : Type 1} → statement M
 ghost-numbered-spec =
@@ -29,5 +29,5 @@ ghost-numbered-spec =
     number-of-requires
     add-in-range
     in-range-requires
-    ghost-after-requires
+    ghost-behind-requires
     returns)

@@ -1,5 +1,4 @@
 use Rattle.part.specs.Mirror.{ghostCore, ghostNumbered}
-use Rattle.part.specs.Part.{storedTree}
 use Rattle.encoding.proofs.Below.{all-more, all-fails, all-to}
 use Rattle.encoding.specs.Below.{allBelow}
 use borrow.Author.Tests.{not-true, not-false}
@@ -12,7 +11,7 @@ use Rattle.part.proofs.sound.ghost_numbers.Statement.{statement}
 use Rattle.part.proofs.sound.ghost_numbers.Tie as tie
 
 abbrev Inv-loop : tie.InvT-loop
-Inv-loop part first count ghosts trees j₀ j = (j ≤ ghosts) × (allBelow j (ghostNumbered first count ghosts (storedTree part) (ghostCore part count) trees) ≡ true)
+Inv-loop part first count ghosts trees j₀ j = (j ≤ ghosts) × (allBelow j (ghostNumbered first count (ghostCore part count) trees) ≡ true)
 
 abbrev μ-loop : tie.MeasureT-loop
 μ-loop part first count ghosts trees j₀ j = ghosts - j

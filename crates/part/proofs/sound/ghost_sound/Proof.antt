@@ -31,7 +31,7 @@ ghost-faces-requires : tie.Need-ghost-faces-requires
 ghost-faces-requires c κs = search needs
 
 returns : tie.Need-returns
-returns c = ghost-read _ _ _ _ _ (c .before .before .before .before .before .before .before .ghost-at .ensures) (c .before .before .before .before .number-of .ensures) _ _ (c .before .before .before .before .before .before .shape-of .ensures) (c .before .before .before .before .before .face-count .ensures .0) (c .before .before .before .in-form .ensures) (c .before .before .dimension-of .ensures) (c .before .beside .ensures) (c .ghost-faces .ensures)
+returns c = ghost-read _ _ _ (c .before .before .before .before .before .before .before .ghost-at .ensures) (c .before .before .before .before .number-of .ensures) _ _ _ _ (c .before .before .before .before .before .before .shape-of .ensures) (c .before .before .before .before .before .face-count .ensures .0) (c .before .before .before .in-form .ensures) (c .before .before .dimension-of .ensures) (c .before .beside .ensures) (c .ghost-faces .ensures)
 
 pub ghost-sound-spec : {M : Type 1} → statement M
 ghost-sound-spec =

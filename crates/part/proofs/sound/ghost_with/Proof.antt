@@ -1,4 +1,4 @@
-use Rattle.part.proofs.Checking.{ascending, search-past, search-other, search-found}
+use Rattle.part.proofs.Checking.{ascending-at, search-past, search-other, search-found}
 use borrow.Author.Needs.{needs}
 use Rattle.part.proofs.sound.ghost_with.Statement.{statement}
 use Rattle.part.proofs.sound.ghost_with.Tie as tie
@@ -7,10 +7,10 @@ ghost-at-requires : tie.Need-ghost-at-requires
 ghost-at-requires c κs = search needs
 
 find-ghost-requires : tie.Need-find-ghost-requires
-find-ghost-requires c κs = ascending _ _ _ _ _ (c .before .before .pre) (c .ghost-at .ensures)
+find-ghost-requires c κs = ascending-at _ _ _ (c .before .before .pre) (c .ghost-at .ensures)
 
 returns : tie.Need-returns
-returns c = search-past _ _ _ _ _ (c .before .before .before .before .pre) _ (c .before .before .ghost-at .ensures) (c .before .find-ghost .ensures .0) (c .if1 .taken)
+returns c = search-past _ _ _ (c .before .before .before .before .pre) (c .before .before .ghost-at .ensures) _ (c .before .find-ghost .ensures .0) (c .if1 .taken)
 
 ghost-at-requires-2 : tie.Need-ghost-at-requires-2
 ghost-at-requires-2 c κs = search needs
@@ -19,10 +19,10 @@ number-of-requires : tie.Need-number-of-requires
 number-of-requires c κs = search needs
 
 returns-2 : tie.Need-returns-2
-returns-2 c = search-other _ _ _ _ _ (c .before .before .before .before .before .before .before .pre) _ (c .before .before .before .before .before .ghost-at .ensures) (c .before .before .before .before .find-ghost .ensures .0) (c .before .before .ghost-at2 .ensures) (c .before .number-of .ensures) (c .if2 .taken)
+returns-2 c = search-other _ _ _ (c .before .before .before .before .before .before .before .pre) (c .before .before .before .before .before .ghost-at .ensures) _ (c .before .before .before .before .find-ghost .ensures .0) (c .before .before .ghost-at2 .ensures) (c .before .number-of .ensures) (c .if2 .taken)
 
 returns-3 : tie.Need-returns-3
-returns-3 c = search-found _ _ _ _ _ (c .before .before .before .before .before .before .before .pre) _ (c .before .before .before .before .before .ghost-at .ensures) (c .before .before .before .before .find-ghost .ensures .0) (c .before .before .ghost-at2 .ensures) (c .before .number-of .ensures) (c .before .before .before .if1 .left) (c .if2 .left)
+returns-3 c = search-found _ _ _ (c .before .before .before .before .before .before .before .pre) (c .before .before .before .before .before .ghost-at .ensures) _ (c .before .before .before .before .find-ghost .ensures .0) (c .before .before .ghost-at2 .ensures) (c .before .number-of .ensures) (c .before .before .before .if1 .left) (c .if2 .left)
 
 pub ghost-with-spec : {M : Type 1} → statement M
 ghost-with-spec =

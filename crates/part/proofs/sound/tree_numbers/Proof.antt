@@ -1,5 +1,5 @@
 use Rattle.part.proofs.Checking.{numbered-is}
-use Rattle.part.specs.Mirror.{ghostCore, treeNumbered}
+use Rattle.part.specs.Mirror.{treeNumbered}
 use Rattle.part.specs.Part.{storedTree}
 use Rattle.encoding.proofs.Below.{all-more, all-fails, all-to}
 use Rattle.encoding.specs.Below.{allBelow}
@@ -13,10 +13,10 @@ use Rattle.part.proofs.sound.tree_numbers.Statement.{statement}
 use Rattle.part.proofs.sound.tree_numbers.Tie as tie
 
 abbrev Inv-loop : tie.InvT-loop
-Inv-loop part first count ghosts trees i₀ i = (i ≤ count) × (allBelow i (treeNumbered first count ghosts (storedTree part) (ghostCore part count)) ≡ true)
+Inv-loop part first count i₀ i = (i ≤ count) × (allBelow i (treeNumbered first (storedTree part)) ≡ true)
 
 abbrev μ-loop : tie.MeasureT-loop
-μ-loop part first count ghosts trees i₀ i = count - i
+μ-loop part first count i₀ i = count - i
 
 loop-holds : tie.Need-loop-holds Inv-loop μ-loop
 unfolding allBelow
@@ -32,7 +32,7 @@ add-if1 : tie.Need-add-if1 Inv-loop μ-loop
 add-if1 c = search needs
 
 returns : tie.Need-returns Inv-loop μ-loop
-returns c = sym (all-fails _ _ _ (c .before .before .before .loop-test .taken) (numbered-is _ _ _ _ (c .before .before .tree-at .ensures) _ (c .before .number-of .ensures) ∙ ne-eqb _ _ (c .if1 .taken)))
+returns c = sym (all-fails _ _ _ (c .before .before .before .loop-test .taken) (numbered-is _ _ (c .before .before .tree-at .ensures) _ (c .before .number-of .ensures) ∙ ne-eqb _ _ (c .if1 .taken)))
 
 add-i : tie.Need-add-i Inv-loop μ-loop
 add-i c = search needs
@@ -41,7 +41,7 @@ loop-less : tie.Need-loop-less Inv-loop μ-loop
 loop-less c = search needs
 
 loop-again : tie.Need-loop-again Inv-loop μ-loop
-loop-again c = (omega arith, all-more _ _ (c .before .before .before .before .loop .inv .1) (numbered-is _ _ _ _ (c .before .before .tree-at .ensures) _ (c .before .number-of .ensures) ∙ eq-eqb _ _ (c .if1 .left)))
+loop-again c = (omega arith, all-more _ _ (c .before .before .before .before .loop .inv .1) (numbered-is _ _ (c .before .before .tree-at .ensures) _ (c .before .number-of .ensures) ∙ eq-eqb _ _ (c .if1 .left)))
 
 returns-2 : tie.Need-returns-2 Inv-loop μ-loop
 returns-2 c = sym (all-to _ _ _ (c .before .loop .inv .0) (omega arith) (c .before .loop .inv .1))

@@ -22,7 +22,7 @@ tree-faces-requires : tie.Need-tree-faces-requires
 tree-faces-requires c κs = search needs
 
 returns : tie.Need-returns
-returns c = tree-read _ _ _ _ (c .before .before .before .before .before .tree-at .ensures) _ (c .before .before .before .before .shape-of .ensures) (c .before .before .before .in-form .ensures) (c .before .before .dimension-of .ensures) (c .before .face-count .ensures .0) (c .tree-faces .ensures)
+returns c = tree-read _ _ (c .before .before .before .before .before .tree-at .ensures) _ _ _ (c .before .before .before .before .shape-of .ensures) (c .before .before .before .in-form .ensures) (c .before .before .dimension-of .ensures) (c .before .face-count .ensures .0) (c .tree-faces .ensures)
 
 pub tree-sound-spec : {M : Type 1} → statement M
 tree-sound-spec =

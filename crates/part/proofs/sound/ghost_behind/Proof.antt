@@ -1,11 +1,10 @@
-use Rattle.part.proofs.Checking.{after-first, after-read}
-use mathlib.Core.Path.{refl}
+use Rattle.part.proofs.Checking.{behind-none, behind-read}
 use borrow.Author.Needs.{needs}
-use Rattle.part.proofs.sound.ghost_after.Statement.{statement}
-use Rattle.part.proofs.sound.ghost_after.Tie as tie
+use Rattle.part.proofs.sound.ghost_behind.Statement.{statement}
+use Rattle.part.proofs.sound.ghost_behind.Tie as tie
 
 returns : tie.Need-returns
-returns c = after-first _ _ _ _ _ refl refl (c .if1 .taken)
+returns c = behind-none _ _ _ (c .if1 .taken)
 
 sub-ghost-at : tie.Need-sub-ghost-at
 sub-ghost-at c = search needs
@@ -23,10 +22,10 @@ number-of-requires-2 : tie.Need-number-of-requires-2
 number-of-requires-2 c κs = search needs
 
 returns-2 : tie.Need-returns-2
-returns-2 c = after-read _ _ _ _ _ (c .before .ghost-at2 .ensures) (c .number-of2 .ensures) (c .before .before .before .before .if1 .left) (c .before .before .before .ghost-at .ensures) (c .before .before .number-of .ensures)
+returns-2 c = behind-read _ _ _ (c .before .ghost-at2 .ensures) (c .number-of2 .ensures) (c .before .before .before .before .if1 .left) (c .before .before .before .ghost-at .ensures) (c .before .before .number-of .ensures)
 
-pub ghost-after-spec : {M : Type 1} → statement M
-ghost-after-spec =
+pub ghost-behind-spec : {M : Type 1} → statement M
+ghost-behind-spec =
     tie.close
     (tie.spec
     returns

@@ -2,6 +2,7 @@
 ghost use mathlib.Core.Path.{_≡_};
 ghost use Rattle.offsets.specs.Calls.{tableRefusal, tableRange, tableLengthAnswer, writeTable, tableFromLeaves};
 ghost use Rattle.mesh.specs.Mesh.{meshRefusal};
+ghost use Rattle.message.specs.Calls.{messageRefusal};
 ghost use Rattle.part.specs.Calls.{partLengthOf, cutPartOf, partRefusal, neighbourAnswer};
 ghost use Rattle.part.specs.Lookup.{foundRecord};
 ghost use Rattle.part.specs.Neighbour.{flatAnswer};
@@ -134,4 +135,11 @@ pub extern "C" fn vejgodat_lookup(trees: &[u8], ghosts: &[u8], number: u32) -> F
     ensures { λ r. ⌜ r ≡ foundRecord (now (trees .entry)) (now (ghosts .entry)) number ⌝ }
 {
     part::find_record(trees, ghosts, GlobalIndex(number))
+}
+
+#[no_mangle]
+pub extern "C" fn vejgodat_check_message(message: &[u8]) -> u32
+    ensures { λ r. ⌜ r ≡ messageRefusal (now (message .entry)) ⌝ }
+{
+    message::check_message(message)
 }

@@ -2,7 +2,7 @@
  *
  * Repartitioning of coarse meshes for tree-based adaptive mesh refinement:
  * offset tables, the communication pattern between two of them, whole meshes,
- * and the part of a mesh that a rank has.
+ * the part of a mesh that a rank has, and the messages between ranks.
  *
  * Link with libvejgodat.a, which `rt staticlib vejgodat` writes to
  * target/staticlib/. The library is proved to do what its definitions say for
@@ -97,9 +97,9 @@
  * ghosts each ascend by their numbers. The header of an empty rank has its
  * first tree as \ref vejgodat_table_range gives it, and n and g are 0.
  *
- * A record's own number is global in both. So are the neighbours in a ghost's
- * record, which is the one of the whole mesh without its tree data. In a tree
- * record a neighbour is a local index instead:
+ * Trees and ghosts have their global numbers at the beginning of their records.
+ * The neighbours in a ghost's record are global numbers too: it is the core
+ * record of the whole mesh. In a tree record a neighbour is a local index:
  *
  *     i, below n        tree i of the part, whose number is first tree + i
  *     n + j, j below g  ghost j of the part, whose number is in its record
@@ -126,6 +126,46 @@
  *  - a ghost's link to a tree that the part doesn't hold has a number below K,
  *    and an orientation below the number of corners of its own face. The face
  *    that it meets there can't be looked at.
+ *
+ * ## Messages
+ *
+ * When the mesh moves from an old table to a new one, rank p sends rank q a
+ * message with the records of the trees that it sends to q (see Who sends) and
+ * of some ghosts of q under the new table. It is bytes at any address, every
+ * number in it little-endian:
+ *
+ *     at 0          uint32_t   the epoch, a number of the caller's
+ *     at 4          uint32_t   the dimension, 2 or 3
+ *     at 8          uint32_t   K
+ *     at 12         uint32_t   P
+ *     at 16         uint32_t   the sender p
+ *     at 20         uint32_t   the receiver q
+ *     at 24         uint32_t   n, the number of trees
+ *     at 28         uint32_t   g, the number of ghosts
+ *     at 32         n records  the trees, tree records of 64 bytes
+ *     at 32 + 64 n  g records  the ghosts, core records of 40 bytes
+ *
+ * so 32 + 64 n + 40 g bytes in all. Trees and ghosts each ascend by their
+ * numbers. All neighbours are global numbers, as in a whole mesh; tree data
+ * goes with the trees and not with the ghosts.
+ *
+ * A message is in layout if
+ *
+ *  - the dimension is 2 or 3 and the length is 32 + 64 n + 40 g;
+ *  - each record has a shape of the dimension, its bytes that are to be zero
+ *    are, the faces that the shape doesn't have are marked so, a face that
+ *    meets itself has orientation 0, and the neighbours at all faces that the
+ *    shape has are below the message's K;
+ *  - the numbers of the trees ascend strictly, and so do those of the ghosts.
+ *
+ * P, the ranks, a record's own number, orientations and the answers of links
+ * play no part in this, and a message without trees may be in layout.
+ *
+ * Which ghosts a message has: rank p considers ghost k for q if p sends q a
+ * face neighbour of k and k is a ghost of q under the new table. It sends k to
+ * q if p = q, or if q doesn't consider k and p is the smallest rank that does.
+ * So each ghost of q comes from exactly one rank, and the part of p under the
+ * old table has all that p needs to know of its own.
  *
  * ## Refusals
  *
@@ -183,6 +223,9 @@ extern "C" {
 /** The bytes of a part with n trees and g ghosts. */
 #define VEJGODAT_PART_BYTES(n, g) (32 + 64 * (size_t) (n) + 40 * (size_t) (g))
 
+/** The bytes of a message with n trees and g ghosts. */
+#define VEJGODAT_MESSAGE_BYTES(n, g) VEJGODAT_PART_BYTES (n, g)
+
 /** What the number `refusal` of a result means. */
 enum
 {
@@ -193,11 +236,15 @@ enum
                                      from 1 to 1,024. */
   VEJGODAT_TABLE = 3,           /**< A table isn't valid. */
   VEJGODAT_DIFFER = 4,          /**< Old and new table differ in P or K. */
-  VEJGODAT_INDEX = 5,           /**< A rank is >= P, or a tree >= K. */
+  VEJGODAT_INDEX = 5,           /**< A rank is >= P, a tree >= K, a local index
+                                     >= the table's count for the rank, or a
+                                     face >= 6. */
   VEJGODAT_PARTITION = 6,       /**< Ranges or leaf counts fit no table, or a
                                      limit isn't kept. */
   VEJGODAT_MESH = 7,            /**< A whole mesh isn't sound, or its K isn't
                                      the table's. */
+  VEJGODAT_PART = 8,            /**< A part isn't sound for table and rank. */
+  VEJGODAT_LAYOUT = 11,         /**< A message breaks its layout. */
   VEJGODAT_BUFFER = 22          /**< A buffer is too short. */
 };
 
@@ -235,6 +282,34 @@ typedef struct
   uint64_t            length;   /**< The number of bytes. */
 }
 vejgodat_length;
+
+/** What the number `kind` of a \ref vejgodat_neighbour means. */
+enum
+{
+  VEJGODAT_KIND_BOUNDARY = 0,   /**< The face is at the domain's boundary. */
+  VEJGODAT_KIND_UNUSED = 1,     /**< The shape doesn't have this face. */
+  VEJGODAT_KIND_LOCAL = 2,      /**< The neighbour is a tree of the part. */
+  VEJGODAT_KIND_GHOST = 3       /**< The neighbour is a ghost of the part. */
+};
+
+/** What is across a face of a part's tree. */
+typedef struct
+{
+  uint32_t            refusal;  /**< 0, or why the call declined. */
+  uint32_t            shape;    /**< The shape of the tree itself. */
+  uint32_t            kind;     /**< \ref VEJGODAT_KIND_BOUNDARY or one of the
+                                     names that follow it. A refused call has
+                                     0 here too: look at \a refusal first. */
+  uint32_t            index;    /**< The neighbour's local index: below n for
+                                     a tree, n plus its position for a ghost,
+                                     the tree's own at the boundary, 0 where
+                                     unused. */
+  uint32_t            face;     /**< The neighbour's face: the face itself at
+                                     the boundary, 0 where unused. */
+  uint32_t            orientation; /**< The orientation: 0 at the boundary and
+                                        where unused. */
+}
+vejgodat_neighbour;
 
 /** What the number `which` of a \ref vejgodat_found means. */
 enum
@@ -546,6 +621,52 @@ vejgodat_length     vejgodat_cut_part (const uint8_t * mesh, size_t mesh_len,
                                        size_t table_len, uint32_t rank,
                                        uint8_t * out, size_t out_len);
 
+/** Check whether bytes are a sound part for a table and a rank.
+ *
+ * Checks, in this order: those of \ref vejgodat_check_table (2, 3);
+ * \ref VEJGODAT_INDEX (5) if \a rank is not below P; \ref VEJGODAT_PART (8) if
+ * the part isn't sound, for whatever reason.
+ * Cost: O(P) for the check of the table; then O(F (n + g log g)), since a
+ * ghost's neighbours are searched by halves among the ghosts. Constant after
+ * the table where header or length is wrong.
+ *
+ * \param [in] part       Any bytes. Not changed.
+ * \param [in] part_len   The number of its bytes.
+ * \param [in] table      Any bytes. Not changed.
+ * \param [in] table_len  The number of its bytes.
+ * \param [in] rank       A rank; any number.
+ * \return                0 if the part is sound, else the refusal.
+ */
+uint32_t            vejgodat_check_part (const uint8_t * part,
+                                         size_t part_len,
+                                         const uint8_t * table,
+                                         size_t table_len, uint32_t rank);
+
+/** Find what is across a face of a part's tree.
+ *
+ * Checks, in this order: those of \ref vejgodat_check_table (2, 3);
+ * \ref VEJGODAT_INDEX (5) if \a rank is not below P, \a local not below the
+ * table's count of trees for the rank, or \a face not below 6, also where the
+ * shape has fewer faces; \ref VEJGODAT_PART (8) if the part isn't sound.
+ * Cost: that of \ref vejgodat_check_part, since each call checks the whole part
+ * anew; the answer itself takes constant time.
+ *
+ * \param [in] part       Any bytes. Not changed.
+ * \param [in] part_len   The number of its bytes.
+ * \param [in] table      Any bytes. Not changed.
+ * \param [in] table_len  The number of its bytes.
+ * \param [in] rank       A rank; any number.
+ * \param [in] local      The local index of a tree, from 0; any number.
+ * \param [in] face       A face, 0 to 5; any number. One that the tree's shape
+ *                        doesn't have is accepted, and unused.
+ * \return                The tree's shape, and what is across its face.
+ */
+vejgodat_neighbour  vejgodat_neighbour_of (const uint8_t * part,
+                                           size_t part_len,
+                                           const uint8_t * table,
+                                           size_t table_len, uint32_t rank,
+                                           uint32_t local, uint32_t face);
+
 /** Find a record by its global number.
  *
  * The records may be those of a part with n trees and g ghosts: the trees are
@@ -569,6 +690,27 @@ vejgodat_length     vejgodat_cut_part (const uint8_t * mesh, size_t mesh_len,
 vejgodat_found      vejgodat_lookup (const uint8_t * trees, size_t trees_len,
                                      const uint8_t * ghosts,
                                      size_t ghosts_len, uint32_t number);
+
+/** @} */
+
+/** \name Messages
+ *
+ * The layout and the rule of who sends which ghost are above, under Messages.
+ * @{ */
+
+/** Check whether bytes are a message in layout.
+ *
+ * Checks: \ref VEJGODAT_LAYOUT (11) if the message isn't in layout, for
+ * whatever reason.
+ * Cost: one pass over the records, O(F (n + g)). Constant where dimension or
+ * length is wrong.
+ *
+ * \param [in] message     Any bytes. Not changed.
+ * \param [in] message_len The number of bytes.
+ * \return                 0 if the message is in layout, else the refusal.
+ */
+uint32_t            vejgodat_check_message (const uint8_t * message,
+                                            size_t message_len);
 
 /** @} */
 

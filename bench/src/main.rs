@@ -19,7 +19,8 @@ macro_rules! groups {
 }
 
 groups! {
-    // a line 'part', 'message' or 'area' here switches a group on; each needs those before it
+    // a line 'message' or 'area' here switches a group on; each needs those before it
+    part
 }
 
 const RANKS: i64 = 1_024;

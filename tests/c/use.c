@@ -2,7 +2,8 @@
  * It says what differs, and its exit status is 0 only where nothing did. */
 #include <vejgodat.h>
 
-/* A line '#define PARTS', '#define MESSAGES' or '#define AREAS' here switches these calls on; each needs those before. */
+/* A line '#define MESSAGES' or '#define AREAS' here switches these calls on; each needs those before. */
+#define PARTS
 
 #include <stdio.h>
 #include <string.h>

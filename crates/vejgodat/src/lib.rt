@@ -2,15 +2,19 @@
 ghost use mathlib.Core.Path.{_≡_};
 ghost use Rattle.offsets.specs.Calls.{tableRefusal, tableRange, tableLengthAnswer, writeTable, tableFromLeaves};
 ghost use Rattle.mesh.specs.Mesh.{meshRefusal};
-ghost use Rattle.part.specs.Calls.{partLengthOf, cutPartOf};
+ghost use Rattle.message.specs.Calls.{messageRefusal};
+ghost use Rattle.part.specs.Calls.{partLengthOf, cutPartOf, partRefusal, neighbourAnswer};
 ghost use Rattle.part.specs.Lookup.{foundRecord};
+ghost use Rattle.part.specs.Neighbour.{flatAnswer};
 ghost use Rattle.pattern.specs.Calls.{senderOf, treesSent, sendSetOf, receiveSetOf};
 use encoding::answer::Length;
 use offsets::Range;
 use part::Found;
+use part::neighbour::NeighbourAnswer;
 use pattern::Ranks;
 use pattern::SenderAnswer;
 use records::index::GlobalIndex;
+use records::index::LocalIndex;
 
 #[no_mangle]
 pub extern "C" fn vejgodat_check_table(table: &[u8]) -> u32
@@ -107,8 +111,35 @@ pub extern "C" fn vejgodat_cut_part(mesh: &[u8], table: &[u8], rank: u32, out: &
 }
 
 #[no_mangle]
+pub extern "C" fn vejgodat_check_part(part: &[u8], table: &[u8], rank: u32) -> u32
+    ensures { λ r. ⌜ r ≡ partRefusal (now (part .entry)) (now (table .entry)) rank ⌝ }
+{
+    part::check_part(part, table, rank)
+}
+
+#[no_mangle]
+pub extern "C" fn vejgodat_neighbour_of(
+    part: &[u8],
+    table: &[u8],
+    rank: u32,
+    local: u32,
+    face: u32,
+) -> NeighbourAnswer
+    ensures { λ r. ⌜ r ≡ flatAnswer (neighbourAnswer (now (part .entry)) (now (table .entry)) rank local face) ⌝ }
+{
+    part::neighbour::flat(part::neighbour_of(part, table, rank, LocalIndex(local), face))
+}
+
+#[no_mangle]
 pub extern "C" fn vejgodat_lookup(trees: &[u8], ghosts: &[u8], number: u32) -> Found
     ensures { λ r. ⌜ r ≡ foundRecord (now (trees .entry)) (now (ghosts .entry)) number ⌝ }
 {
     part::find_record(trees, ghosts, GlobalIndex(number))
+}
+
+#[no_mangle]
+pub extern "C" fn vejgodat_check_message(message: &[u8]) -> u32
+    ensures { λ r. ⌜ r ≡ messageRefusal (now (message .entry)) ⌝ }
+{
+    message::check_message(message)
 }

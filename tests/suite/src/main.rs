@@ -42,6 +42,7 @@ groups! {
     pattern
     mesh
     second
+    part
     refusals
 }
 

@@ -4,4 +4,5 @@ pub mod Opening
 pub mod Headers
 pub mod Slots
 pub mod Checking
+pub mod Progressing
 pub mod Examples

@@ -1,19 +1,19 @@
 -- What the functions over an area find is what the definitions say.
 use Prim.Native.Nat.{ℕ, _+_, _-_, _*_, _/_, _%_, _≤_, _<_}
 use native.Mathlib.Omega.{arith}
-use mathlib.Core.Path.{_≡_, refl, sym, ap, ap₂, _∙_}
-use mathlib.Core.Bool.{Bool, true, false, cond, not, _&&_, and-assoc}
+use mathlib.Core.Path.{_≡_, sym, ap, ap₂, _∙_}
+use mathlib.Core.Bool.{Bool, true, false, not, _&&_, and-assoc}
 use mathlib.Core.List.{List}
 use lib.Dec.{leb, ltb, eqb}
 use lib.ListN.{length, take, drop}
-use borrow.Author.Tests.{lt-ltb, le-ltb, le-leb, lt-leb, eq-eqb, ne-eqb}
+use borrow.Author.Tests.{lt-ltb, le-ltb, le-leb, lt-leb, ne-eqb}
 use Rattle.encoding.specs.Below.{allBelow}
 use Rattle.encoding.specs.Numbers.{u64At}
 use Rattle.encoding.specs.Pieces.{piece}
 use Rattle.encoding.specs.Words.{allZero}
 use Rattle.encoding.proofs.Below.{all-same, all-fails, all-to}
 use Rattle.offsets.specs.Limits.{maxTrees}
-use Rattle.offsets.specs.Table.{ranks, trees, firstTree, endTree}
+use Rattle.offsets.specs.Table.{trees, firstTree, endTree}
 use Rattle.offsets.proofs.OnePass.{ranks-known}
 use Rattle.offsets.proofs.Tables.{trees-high}
 use Rattle.pattern.specs.Mirror.{PairOf}
@@ -27,7 +27,7 @@ use Rattle.message.specs.Layout.{afterLast}
 use Rattle.assembly.specs.Layout.{heardWords, ghostBound, wordsPlace, slotsPlace, ghostSlotsPlace}
 use Rattle.assembly.specs.Area.{areaDimension, areaK, areaP, areaRank, areaCount, areaGhosts, areaOld, areaNew, areaFirst, areaHeaderSound, heard, bitSound, treeSlotSound, ghostHeldSound, areaBound, ghostSlotSound, areaSound}
 use Rattle.assembly.specs.Mirror.{HeaderHolds, Tabled, slotHeld, fromFirst, fromCount, fromPlace, rangeSound, coreAt, ghostHeldAt}
-use Rattle.assembly.proofs.Headers.{slots-place-is, ghosts-place-is}
+use Rattle.assembly.proofs.Headers.{ghosts-place-is}
 use Rattle.assembly.proofs.Slots.{range-trees, from-within, ranges-slots, ghost-held-is, ghosts-split}
 
 -- ---- the heard senders

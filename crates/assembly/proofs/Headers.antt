@@ -1,5 +1,5 @@
 -- Laws of the header of an area and of the tables in it.
-use Prim.Native.Nat.{ℕ, _+_, _-_, _*_, _/_, _≤_, _<_}
+use Prim.Native.Nat.{ℕ, _+_, _-_, _*_, _≤_, _<_}
 use native.Mathlib.Omega.{arith}
 use mathlib.Core.Path.{_≡_, refl, sym, ap, ap₂, _∙_}
 use mathlib.Core.Bool.{Bool, true, false, _&&_}
@@ -12,7 +12,7 @@ use Rattle.encoding.specs.Pieces.{piece, Bytes}
 use Rattle.encoding.proofs.Below.{and-fst, and-snd}
 use Rattle.encoding.proofs.Pieces.{piece-length, bytes-piece}
 use Rattle.offsets.specs.Limits.{rankCountOk}
-use Rattle.offsets.specs.Table.{ranks, ranksOk, valid, trees, firstTree, endTree, treeCount}
+use Rattle.offsets.specs.Table.{ranks, ranksOk, valid, trees, treeCount}
 use Rattle.offsets.proofs.Tables.{ranks-within}
 use Rattle.records.specs.Record.{coreSize, treeSize}
 use Rattle.mesh.specs.Mesh.{dimensionOk}

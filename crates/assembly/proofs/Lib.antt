@@ -11,3 +11,4 @@ pub mod Opening
 pub mod Headers
 pub mod Slots
 pub mod Checking
+pub mod Progressing

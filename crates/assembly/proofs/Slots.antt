@@ -3,9 +3,9 @@ use Prim.Native.Nat.{ℕ, zero, suc, _+_, _-_, _*_, _≤_, _<_}
 use native.Mathlib.Nat.{le-refl, add-assoc, mul-zero, mul-suc, mul-le-mul-left}
 use native.Mathlib.Omega.{arith}
 use mathlib.Core.Path.{_≡_, refl, sym, ap, ap₂, _∙_}
-use mathlib.Core.Bool.{Bool, true, false, cond, not, _&&_}
+use mathlib.Core.Bool.{Bool, true, false, _&&_}
 use mathlib.Core.List.{List}
-use lib.Dec.{leb, ltb, eqb}
+use lib.Dec.{eqb}
 use lib.ListN.{length}
 use borrow.Author.Tests.{eqb-true, eqb-false, lt-ltb, le-ltb}
 use Rattle.encoding.specs.Below.{allBelow}
@@ -13,12 +13,12 @@ use Rattle.encoding.specs.Pieces.{piece}
 use Rattle.encoding.specs.Words.{zeroAt, allZero}
 use Rattle.encoding.proofs.Below.{either, tests, iff-eq, all-at, all-intro, all-same, all-add}
 use Rattle.encoding.proofs.Pieces.{piece-length, piece-at}
-use Rattle.offsets.specs.Table.{ranks, trees, firstTree, endTree, treeCount, holds}
+use Rattle.offsets.specs.Table.{ranks, trees, firstTree, endTree, holds}
 use Rattle.offsets.proofs.Tables.{count-add, end-trees}
-use Rattle.pattern.specs.Sender.{Tables, sender, sends}
+use Rattle.pattern.specs.Sender.{sender}
 use Rattle.pattern.proofs.Counting.{range-true}
 use Rattle.pattern.proofs.Senders.{holds-true, holds-in, sender-lt, sends-true, sends-in}
-use Rattle.pattern.proofs.Sets.{new-below, one-range, sent-in, received-only}
+use Rattle.pattern.proofs.Sets.{one-range, sent-in, received-only}
 use Rattle.records.specs.Record.{coreSize, treeSize, numberOf, inForm}
 use Rattle.message.specs.Layout.{afterLast}
 use Rattle.assembly.specs.Layout.{slotsPlace, ghostSlotsPlace}

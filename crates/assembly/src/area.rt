@@ -6,12 +6,11 @@ ghost use lib.Dec.{leb};
 ghost use lib.ListN.{length};
 ghost use Rattle.encoding.specs.Below.{allBelow};
 ghost use Rattle.offsets.specs.Limits.{maxTrees};
-ghost use Rattle.bits.specs.Bits.{bitOf};
 ghost use Rattle.records.specs.Record.{coreSize, treeSize};
 ghost use Rattle.message.specs.Layout.{afterLast};
 ghost use Rattle.assembly.specs.Layout.{areaHeader, heardWords};
 ghost use Rattle.assembly.specs.Area.{areaEpoch, areaDimension, areaK, areaP, areaRank, areaCount, areaGhosts, areaHeaderSound, heard as isHeard, bitSound, treeSlotSound, areaBound, ghostSlotSound, areaSound};
-ghost use Rattle.assembly.specs.Mirror.{SizedArea, tablesFit, HeaderHolds, Tabled, slotHeld, rangeSound, coreAt, ghostHeldAt};
+ghost use Rattle.assembly.specs.Mirror.{SizedArea, tablesFit, HeaderHolds, Tabled, slotHeld, rangeSound, coreAt, ghostHeldAt, heardOnes};
 use crate::open::tree_count;
 use crate::place::area_size;
 use crate::place::ghost_bound;
@@ -115,21 +114,28 @@ pub fn header_sound(area: &[u8]) -> bool
 
 // ---- the heard senders
 
-// Bit b of a word.
-fn bit(word: u64, b: u32) -> bool
-    requires { ⌜ b < 64 ⌝ }
-    ensures { λ r. ⌜ r ≡ bitOf word b ⌝ }
-{
-    (word >> b) % 2 == 1
-}
-
 // Whether sender s is heard.
 pub fn heard(area: &[u8], s: usize) -> bool
     requires { ⌜ HeaderHolds (now area) × (s < 1024) ⌝ }
     ensures { λ r. ⌜ r ≡ isHeard (now (area .entry)) s ⌝ }
 {
     let at = words_place(ranks(area)) + 8 * (s / 64);
-    bit(encoding::read_u64(area, at), (s % 64) as u32)
+    bits::bit(encoding::read_u64(area, at), (s % 64) as u32)
+}
+
+// How many bits of the words are set.
+pub fn heard_ones(area: &[u8]) -> u32
+    requires { ⌜ HeaderHolds (now area) ⌝ }
+    ensures { λ r. ⌜ (r ≡ heardOnes (now (area .entry)) 16) × (r ≤ 1024) ⌝ }
+{
+    let at = words_place(ranks(area));
+    let mut heard = 0;
+    let mut word = 0;
+    while word < 16 {
+        heard += bits::ones(encoding::read_u64(area, at + 8 * word));
+        word += 1;
+    }
+    heard
 }
 
 // A bit is set only for a rank of the receive set.

@@ -1,7 +1,7 @@
 // The area in which a rank's new part is assembled.
 use encoding::answer::Length;
 ghost use mathlib.Core.Path.{_≡_};
-ghost use Rattle.assembly.specs.Calls.{areaLengthOf, openAreaOf};
+ghost use Rattle.assembly.specs.Calls.{areaLengthOf, openAreaOf, progressOf};
 
 pub mod area;
 pub mod copy;
@@ -60,5 +60,30 @@ pub fn open_area(
     Length {
         refusal: 0,
         length: n as u64,
+    }
+}
+
+// How many senders are heard, by the ones in the words, and how many are due (10).
+pub fn progress_of(area: &[u8]) -> Progress
+    ensures { λ r. ⌜ r ≡ progressOf (now (area .entry)) ⌝ }
+{
+    if !area::area_sound(area) {
+        return Progress {
+            refusal: 10,
+            heard: 0,
+            due: 0,
+        };
+    }
+    let heard = area::heard_ones(area);
+    let ranks = area::ranks(area);
+    let middle = place::new_place(ranks);
+    let end = place::words_place(ranks);
+    let old = &area[32..middle];
+    let new = &area[middle..end];
+    let due = pattern::inner::set_count(old, new, area::rank(area), false) as u32;
+    Progress {
+        refusal: 0,
+        heard,
+        due,
     }
 }

@@ -1,7 +1,7 @@
 use Rattle.assembly.proofs.Headers.{size-low, sized-area, fit-rank, header-short, header-dimension, header-ranks, header-size, header-tables, header-read}
 use Rattle.offsets.proofs.Tables.{ranks-within}
 use borrow.Author.Tests.{not-true, not-false}
-use mathlib.Core.Path.{refl, sym, _∙_}
+use mathlib.Core.Path.{sym, _∙_}
 use native.Mathlib.Omega.{arith}
 use borrow.Author.Needs.{needs}
 use Rattle.assembly.proofs.area.header_sound.Statement.{statement}

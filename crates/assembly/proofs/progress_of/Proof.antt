@@ -1,0 +1,77 @@
+use Rattle.assembly.proofs.Progressing.{sound-holds, progress-read, progress-refused, tabled-rank}
+use Rattle.assembly.proofs.Headers.{tabled}
+use borrow.Author.Tests.{not-true, not-false}
+use mathlib.Core.Path.{sym, _∙_}
+use native.Mathlib.Omega.{arith}
+use borrow.Author.Needs.{needs}
+use Rattle.assembly.proofs.progress_of.Statement.{statement}
+use Rattle.assembly.proofs.progress_of.Tie as tie
+
+area-sound-requires : tie.Need-area-sound-requires
+area-sound-requires c κs = search needs
+
+returns : tie.Need-returns
+returns c = progress-refused _ (sym (c .before .area-sound .ensures) ∙ not-true _ (c .if1 .taken))
+
+heard-ones-requires : tie.Need-heard-ones-requires
+heard-ones-requires c κs = sound-holds _ (sym (c .before .area-sound .ensures) ∙ not-false _ (c .if1 .left)) (λ i. c .before .before .shared-slice-known .given i .fits)
+
+ranks-requires : tie.Need-ranks-requires
+ranks-requires c κs = omega (arith, sound-holds _ (sym (c .before .before .area-sound .ensures) ∙ not-false _ (c .before .if1 .left)) (λ i. c .before .before .before .shared-slice-known .given i .fits) .long)
+
+new-place-requires : tie.Need-new-place-requires
+new-place-requires c κs = omega (arith, sound-holds _ (sym (c .before .before .before .area-sound .ensures) ∙ not-false _ (c .before .before .if1 .left)) (λ i. c .before .before .before .before .shared-slice-known .given i .fits) .ranksHigh, c .ranks .ensures)
+
+words-place-requires : tie.Need-words-place-requires
+words-place-requires c κs = omega (arith, sound-holds _ (sym (c .before .before .before .before .area-sound .ensures) ∙ not-false _ (c .before .before .before .if1 .left)) (λ i. c .before .before .before .before .before .shared-slice-known .given i .fits) .ranksHigh, c .before .ranks .ensures)
+
+sub-old : tie.Need-sub-old
+sub-old c = search needs
+
+part-old-start : tie.Need-part-old-start
+part-old-start c = search needs
+
+part-old-end : tie.Need-part-old-end
+part-old-end c = omega (arith, sound-holds _ (sym (c .before .before .before .before .before .area-sound .ensures) ∙ not-false _ (c .before .before .before .before .if1 .left)) (λ i. c .before .before .before .before .before .before .shared-slice-known .given i .fits) .long, c .before .before .ranks .ensures, c .before .new-place .ensures .1)
+
+sub-new : tie.Need-sub-new
+sub-new c = search needs
+
+part-new-start : tie.Need-part-new-start
+part-new-start c = search needs
+
+part-new-end : tie.Need-part-new-end
+part-new-end c = omega (arith, sound-holds _ (sym (c .before .before .before .before .before .before .area-sound .ensures) ∙ not-false _ (c .before .before .before .before .before .if1 .left)) (λ i. c .before .before .before .before .before .before .before .shared-slice-known .given i .fits) .long, c .before .before .before .ranks .ensures, c .before .words-place .ensures .1)
+
+rank-requires : tie.Need-rank-requires
+rank-requires c κs = omega (arith, sound-holds _ (sym (c .before .before .before .before .before .before .before .area-sound .ensures) ∙ not-false _ (c .before .before .before .before .before .before .if1 .left)) (λ i. c .before .before .before .before .before .before .before .before .shared-slice-known .given i .fits) .long)
+
+set-count-requires : tie.Need-set-count-requires
+set-count-requires c κs = tabled-rank (tabled _ (c .before .before .before .before .before .ranks .ensures) (c .before .before .before .before .new-place .ensures .0) (c .before .before .before .words-place .ensures .0) (sound-holds _ (sym (c .before .before .before .before .before .before .before .before .area-sound .ensures) ∙ not-false _ (c .before .before .before .before .before .before .before .if1 .left)) (λ i. c .before .before .before .before .before .before .before .before .before .shared-slice-known .given i .fits))) (c .rank .ensures)
+
+cast-due : tie.Need-cast-due
+cast-due c = search needs
+
+returns-2 : tie.Need-returns-2
+returns-2 c = progress-read _ (sym (c .before .before .before .before .before .before .before .before .before .area-sound .ensures) ∙ not-false _ (c .before .before .before .before .before .before .before .before .if1 .left)) (sound-holds _ (sym (c .before .before .before .before .before .before .before .before .before .area-sound .ensures) ∙ not-false _ (c .before .before .before .before .before .before .before .before .if1 .left)) (λ i. c .before .before .before .before .before .before .before .before .before .before .shared-slice-known .given i .fits)) (tabled _ (c .before .before .before .before .before .before .ranks .ensures) (c .before .before .before .before .before .new-place .ensures .0) (c .before .before .before .before .words-place .ensures .0) (sound-holds _ (sym (c .before .before .before .before .before .before .before .before .before .area-sound .ensures) ∙ not-false _ (c .before .before .before .before .before .before .before .before .if1 .left)) (λ i. c .before .before .before .before .before .before .before .before .before .before .shared-slice-known .given i .fits))) (c .before .rank .ensures) (c .before .before .before .before .before .before .before .heard-ones .ensures .0) (c .set-count .ensures .0)
+
+pub progress-of-spec : {M : Type 1} → statement M
+progress-of-spec =
+    tie.close
+    (tie.spec
+    area-sound-requires
+    returns
+    heard-ones-requires
+    ranks-requires
+    new-place-requires
+    words-place-requires
+    sub-old
+    part-old-start
+    part-old-end
+    sub-new
+    part-new-start
+    part-new-end
+    rank-requires
+    set-count-requires
+    cast-due
+    returns-2)

@@ -429,11 +429,17 @@ fn show_face(mesh: &[u8], table: &[u8], rank: u32, part: &[u8], i: u32, f: u32) 
     show_answer(b": ", a);
     let k = number_of(part, i);
     if a.kind == 1 {
-        show_yes(b", unused in the mesh ", leads(mesh, k, f, 4294967295, 0, 0));
+        show_yes(
+            b", unused in the mesh ",
+            leads(mesh, k, f, 4294967295, 0, 0),
+        );
     } else {
         let n = number_of(part, a.index);
         word32(b", number ", n);
-        show_yes(b", in the mesh ", leads(mesh, k, f, n, a.face, a.orientation));
+        show_yes(
+            b", in the mesh ",
+            leads(mesh, k, f, n, a.face, a.orientation),
+        );
         show_yes(b", back ", leads(mesh, n, a.face, k, f, a.orientation));
     }
     text(b"\n");
@@ -512,21 +518,36 @@ fn quadrilateral_neighbours() {
     let m = quadrilaterals();
     text(b"two quadrilaterals linked twice\n");
     show_table(b"table 0,1,1,2\n", &m, 136, &table(0, 1, 1, 2));
-    show_table(b"table 0,-1,-2,2\n", &m, 136, &table(0, minus(1), minus(2), 2));
+    show_table(
+        b"table 0,-1,-2,2\n",
+        &m,
+        136,
+        &table(0, minus(1), minus(2), 2),
+    );
     show_table(b"table 0,2,2,2\n", &m, 136, &table(0, 2, 2, 2));
 }
 
 fn periodic_neighbours() {
     let m = periodic();
     text(b"periodic quadrilateral\n");
-    show_table(b"table 0,-1,-1,1\n", &m, 72, &table(0, minus(1), minus(1), 1));
+    show_table(
+        b"table 0,-1,-1,1\n",
+        &m,
+        72,
+        &table(0, minus(1), minus(1), 1),
+    );
     show_table(b"table 0,0,-1,1\n", &m, 72, &table(0, 0, minus(1), 1));
 }
 
 fn mixed_neighbours() {
     let m = mixed();
     text(b"hexahedron, prism, pyramid and tetrahedron\n");
-    show_table(b"table 0,-1,-3,4\n", &m, 264, &table(0, minus(1), minus(3), 4));
+    show_table(
+        b"table 0,-1,-3,4\n",
+        &m,
+        264,
+        &table(0, minus(1), minus(3), 4),
+    );
     show_table(b"table 0,0,2,4\n", &m, 264, &table(0, 0, 2, 4));
     show_table(b"table 0,-4,4,4\n", &m, 264, &table(0, minus(4), 4, 4));
 }
@@ -703,7 +724,15 @@ fn read_refusals() {
 
 fn other_tables() {
     let t = table(0, 1, 3, 3);
-    show_read(b"under table 0,-1,2,3", 176, &table(0, minus(1), 2, 3), 32, 0, 0, 0);
+    show_read(
+        b"under table 0,-1,2,3",
+        176,
+        &table(0, minus(1), 2, 3),
+        32,
+        0,
+        0,
+        0,
+    );
     show_read(b"under table 0,1,2,3", 176, &table(0, 1, 2, 3), 32, 0, 0, 0);
     show_read(b"under table 0,1,3,4", 176, &table(0, 1, 3, 4), 32, 0, 0, 0);
     show_read(b"a byte more", 177, &t, 32, 0, 0, 0);
@@ -742,7 +771,9 @@ fn record_bytes() {
 }
 
 fn unheld_bytes() {
-    text(b"part of the four solids, table 0,-1,-3,4, rank 0: the prism's face 3 leads to tree 3, which isn't held\n");
+    text(
+        b"part of the four solids, table 0,-1,-3,4, rank 0: the prism's face 3 leads to tree 3, which isn't held\n",
+    );
     show_mixed(116, 3, b" tree 3 as cut");
     show_mixed(116, 0, b" tree 0, held");
     show_mixed(116, 1, b" tree 1, the prism");
@@ -754,7 +785,9 @@ fn unheld_bytes() {
 
 fn main() {
     triangle_parts();
-    text(b"neighbours: refusal/shape, kind (0 boundary, 1 unused, 2 local tree, 3 ghost), index, face, orientation\n");
+    text(
+        b"neighbours: refusal/shape, kind (0 boundary, 1 unused, 2 local tree, 3 ghost), index, face, orientation\n",
+    );
     triangle_neighbours();
     quadrilateral_neighbours();
     periodic_neighbours();

@@ -6,12 +6,6 @@ pub mod Cutting
 pub mod Writing
 pub mod Trees
 pub mod Parts
-pub mod CutRead
-pub mod Views
-pub mod Renamed
-pub mod CutSound
-pub mod CutLinks
-pub mod SoundParts
 pub mod Global
 pub mod Judging
 pub mod Checking

@@ -29,8 +29,8 @@ use Rattle.part.specs.Cut.{renameRow, renamed, localIndex, partTree, cutPart}
 use Rattle.part.specs.Part.{partDimension, partFirst, storedTree, globalIndex, globalTree, partHolds, partCore, partSound}
 use Rattle.part.proofs.Cutting.{Cuttable, links-length, rows-length}
 use Rattle.part.proofs.Trees.{rows-core}
-use Rattle.part.proofs.CutRead.{cut-dimension, cut-first, cut-end, cut-record, cut-stored, cut-data}
-use Rattle.part.proofs.CutSound.{holds-range, local-below, cut-global, cut-holds, cut-core, cut-sound}
+use Rattle.part_laws.proofs.CutRead.{cut-dimension, cut-first, cut-end, cut-record, cut-stored, cut-data}
+use Rattle.part_laws.proofs.CutSound.{holds-range, local-below, cut-global, cut-holds, cut-core, cut-sound}
 use Rattle.message.specs.Build.{partRecord, partMessage, meshMessage}
 use Rattle.message.specs.Calls.{buildChecks}
 use Rattle.message.proofs.Messages.{HasPart, rule-from-part}

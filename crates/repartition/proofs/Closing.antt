@@ -29,16 +29,16 @@ use Rattle.part.specs.Cut.{renameRow, renamed, localIndex, partTree, partTrees,
 use Rattle.part.specs.Part.{partDimension, partK, partFirst, partCount, partGhostCount, globalTree, storedGhost}
 use Rattle.part.specs.View.{viewSound}
 use Rattle.part.proofs.Cutting.{Cuttable, cores-length}
-use Rattle.part.proofs.CutRead.{cut-dimension, cut-K, cut-first, cut-count, cut-ghosts, cut-ghost}
-use Rattle.part.proofs.CutSound.{neighbour-cases, range-local, cut-global, cut-sound}
-use Rattle.part.proofs.SoundParts.{part-view}
-use Rattle.part.proofs.Views.{view-same}
+use Rattle.part_laws.proofs.CutRead.{cut-dimension, cut-K, cut-first, cut-count, cut-ghosts, cut-ghost}
+use Rattle.part_laws.proofs.CutSound.{neighbour-cases, range-local, cut-global, cut-sound}
+use Rattle.part_laws.proofs.SoundParts.{part-view}
+use Rattle.part_laws.proofs.Views.{view-same}
 use Rattle.message.specs.Rule.{ghostSender}
 use Rattle.message.proofs.Ghosts.{sender-below, sends-some, ghost-sender-lt, ghost-sender-sends}
 use Rattle.assembly.specs.Layout.{slotsOf}
 use Rattle.assembly.specs.Area.{areaDimension, areaK, areaP, areaRank, areaCount, areaGhosts, areaOld, areaNew, areaFirst, heard, treeSlot, treeSlotCore, ghostSlot, areaSound}
 use Rattle.assembly.specs.Close.{allHeard, joinSound, joinIndex, joinedPart, closeChecks, closeOf}
-use Rattle.assembly.proofs.Zones.{Reads}
+use Rattle.assembly_laws.proofs.Zones.{Reads}
 use Rattle.repartition.specs.Canonical.{slotHeard, ghostHeard, ghostsHeard, canonical}
 use Rattle.repartition.specs.Lists.{Setting, allDue}
 use Rattle.repartition.proofs.Receive.{InReceive}

@@ -24,7 +24,7 @@ use Rattle.message.specs.Layout.{messageDimension, messageK, messageTrees, mess
 use Rattle.assembly.specs.Layout.{ghostBound}
 use Rattle.assembly.specs.Area.{areaRank, areaNew}
 use Rattle.assembly.specs.Deliver.{besideTrees, ghostDue}
-use Rattle.assembly.proofs.Zones.{range-end}
+use Rattle.assembly_laws.proofs.Zones.{range-end}
 use Rattle.repartition.specs.Lists.{Setting}
 
 -- ---- any tests

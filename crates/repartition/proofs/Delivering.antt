@@ -31,7 +31,7 @@ use Rattle.message.proofs.Messages.{RecordsLong, mesh-records-long, mesh-in-lay
 use Rattle.assembly.specs.Layout.{ghostBound, areaWith}
 use Rattle.assembly.specs.Area.{areaRank, areaGhosts, heard, ghostSlot, areaBound, areaSound}
 use Rattle.assembly.specs.Deliver.{among, oneOf, sameRun, senderDue, treesDue, besideTrees, ghostDue, ghostNew, deliverChecks, slotAfter, ghostsAfter, delivered, deliverOf}
-use Rattle.assembly.proofs.Zones.{Reads, dimension-small, area-same}
+use Rattle.assembly_laws.proofs.Zones.{Reads, dimension-small, area-same}
 use Rattle.repartition.specs.Canonical.{slotHeard, ghostHeard, ghostsHeard, canonical}
 use Rattle.repartition.specs.Lists.{deliver, Setting, Built, hears}
 use Rattle.repartition.proofs.Receive.{InReceive, built-due}

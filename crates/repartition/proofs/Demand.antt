@@ -30,7 +30,7 @@ use Rattle.assembly.specs.Calls.{openChecks, openAreaOf}
 use Rattle.assembly.specs.Deliver.{among}
 use Rattle.assembly.specs.Layout.{areaSize}
 use Rattle.assembly.specs.Open.{freshArea}
-use Rattle.assembly.proofs.Zones.{area-length}
+use Rattle.assembly_laws.proofs.Zones.{area-length}
 use Rattle.repartition.specs.Canonical.{slotHeard, ghostHeard, ghostsHeard, canonical}
 use Rattle.repartition.specs.Lists.{Call, deliver, close, countIn, treeIn, ghostWith, Setting, Built, AllBuilt, messageOf, opened, hears, hearsAll, nobody, allDue, areaAfterAll, answersOf, dueAll, acceptedBy}
 use Rattle.repartition.specs.Demand.{Demand3, size, heardBy, bytesAfter, cameIn}

@@ -27,10 +27,10 @@ use Rattle.assembly.specs.Layout.{heardWords, ghostBound}
 use Rattle.assembly.specs.Area.{areaGhosts, heard, ghostSlot, areaSound}
 use Rattle.assembly.specs.Open.{freshArea}
 use Rattle.assembly.specs.Deliver.{among, oneOf}
-use Rattle.assembly.proofs.Joined.{piece-first, piece-last}
-use Rattle.assembly.proofs.Zones.{Zones, Reads, words-enough, few-ranks, range-end, area-reads, area-same}
-use Rattle.assembly.proofs.Kept.{ghostAt}
-use Rattle.assembly.proofs.Sound.{Held, zeros-zero, area-sound}
+use Rattle.assembly_laws.proofs.Joined.{piece-first, piece-last}
+use Rattle.assembly_laws.proofs.Zones.{Zones, Reads, words-enough, few-ranks, range-end, area-reads, area-same}
+use Rattle.assembly_laws.proofs.Kept.{ghostAt}
+use Rattle.assembly_laws.proofs.Sound.{Held, zeros-zero, area-sound}
 use Rattle.repartition.specs.Canonical.{slotHeard, ghostHeard, ghostsHeard, canonical}
 use Rattle.repartition.specs.Lists.{Setting, nobody}
 use Rattle.repartition.proofs.Receive.{InReceive}

@@ -20,16 +20,16 @@ use Rattle.records.proofs.Shapes.{count-six, faces-positive}
 use Rattle.mesh.specs.Link.{orientationOk, linkOk}
 use Rattle.mesh.specs.Mesh.{meshHeader, meshDimension, meshTrees, meshCore}
 use Rattle.mesh.proofs.Soundness.{link-orientation, header-parts, sound-header, sound-core, sound-form, sound-number, sound-shape, sound-link, neighbour-below, face-there, link-back}
 use Rattle.part.specs.Layout.{treePlace, partSize}
 use Rattle.part.specs.Ghosts.{isGhost, ghostsOf, ghostPosition}
 use Rattle.part.specs.Cut.{localIndex, ghostCount, cutPart}
 use Rattle.part.specs.View.{isLocal, ghostIs, held, heldCore, treeLink, ghostLink, ghostAfter, ghostBeside}
 use Rattle.part.specs.Part.{partDimension, partK, partFirst, partCount, partGhostCount, storedGhost, globalIndex, globalTree, partHolds, partCore, partHeaderSound, partSound}
 use Rattle.part.proofs.Cutting.{Cuttable, cut-length}
 use Rattle.part.proofs.Ghosts.{ghost-at, ghost-found, ghosts-ascend}
-use Rattle.part.proofs.CutRead.{cuttable-fits, cut-dimension, cut-K, cut-ranks, cut-rank, cut-first, cut-count, cut-ghosts, cut-zero, cut-end, cut-within, cut-tree, cut-data, cut-ghost, position-below, cut-ghost-at, cut-ghost-number}
-use Rattle.part.proofs.Views.{link-same, tree-link-make, ghost-link-make, TreeView, GhostView, view-make}
-use Rattle.part.proofs.Renamed.{renamed-number, renamed-back}
+use Rattle.part_laws.proofs.CutRead.{cuttable-fits, cut-dimension, cut-K, cut-ranks, cut-rank, cut-first, cut-count, cut-ghosts, cut-zero, cut-end, cut-within, cut-tree, cut-data, cut-ghost, position-below, cut-ghost-at, cut-ghost-number}
+use Rattle.part_laws.proofs.Views.{link-same, tree-link-make, ghost-link-make, TreeView, GhostView, view-make}
+use Rattle.part_laws.proofs.Renamed.{renamed-number, renamed-back}
 
 -- k is in the range
 pub holds-range : (table : List ℕ) (rank k : ℕ) → holds table rank k ≡ true → (firstTree table rank ≤ k) × (k < endTree table rank)

@@ -12,8 +12,8 @@ use Rattle.encoding.specs.Below.{sumBelow}
 use Rattle.encoding.specs.Numbers.{leBytes}
 use Rattle.encoding.proofs.Below.{either, below-suc, sum-same}
 use Rattle.bits.specs.Bits.{bitOf}
 use Rattle.assembly.specs.Layout.{wordOf, wordsOf, slotsOf}
-use Rattle.assembly.proofs.Joined.{slots-same}
+use Rattle.assembly_laws.proofs.Joined.{slots-same}
 
 -- bit b as a number, where h has it
 abbrev power : (ℕ → Bool) → ℕ → ℕ

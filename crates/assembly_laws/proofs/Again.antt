@@ -25,13 +25,13 @@ use Rattle.pattern.specs.Sets.{getsFrom}
 use Rattle.mesh.specs.Mesh.{dimensionOk}
 use Rattle.message.specs.Layout.{afterLast}
 use Rattle.bits.specs.Bits.{bitOf}
 use Rattle.assembly.specs.Layout.{areaHeader, heardWords, ghostBound, oldPlace, newPlace, wordsPlace, slotsPlace, ghostSlotsPlace, areaSize, areaHeaderBytes, wordOf, wordsOf, slotsOf, areaWith}
 use Rattle.assembly.specs.Area.{areaEpoch, areaDimension, areaK, areaP, areaRank, areaCount, areaGhosts, areaOld, areaNew, areaFirst, heard, treeSlot, treeSlotCore, ghostSlot, dueHeard, areaHeaderSound, bitSound, treeSlotSound, ghostHeldSound, areaBound, ghostSlotSound, areaSound, behindArea}
-use Rattle.assembly.proofs.Joined.{slots-length, slots-at, slots-same, slots-piece, slots-replicate}
-use Rattle.assembly.proofs.Heard.{word-again, words-slots}
-use Rattle.assembly.proofs.Zones.{Zones, Reads, core-slot}
-use Rattle.assembly.proofs.Kept.{ghostAt, Ghosts}
-use Rattle.assembly.proofs.Sound.{Held}
+use Rattle.assembly_laws.proofs.Joined.{slots-length, slots-at, slots-same, slots-piece, slots-replicate}
+use Rattle.assembly_laws.proofs.Heard.{word-again, words-slots}
+use Rattle.assembly_laws.proofs.Zones.{Zones, Reads, core-slot}
+use Rattle.assembly_laws.proofs.Kept.{ghostAt, Ghosts}
+use Rattle.assembly_laws.proofs.Sound.{Held}
 
 -- ---- what soundness says
 

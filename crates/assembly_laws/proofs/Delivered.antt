@@ -26,13 +26,13 @@ use Rattle.pattern.proofs.Senders.{holds-in}
 use Rattle.pattern.proofs.Sets.{one-range}
 use Rattle.mesh.specs.Mesh.{dimensionOk}
 use Rattle.message.specs.Layout.{messageTreePlace, messageGhostPlace, messageSize, messageEpoch, messageDimension, messageK, messageP, messageSender, messageReceiver, messageTrees, messageGhosts, messageTree, messageGhost, recordLaid, sizeLaid, afterLast, recordsLaid, inLayout}
 use Rattle.assembly.specs.Layout.{heardWords}
 use Rattle.assembly.specs.Area.{areaEpoch, areaDimension, areaK, areaP, areaRank, areaGhosts, areaOld, areaNew, areaFirst, heard, treeSlot, ghostSlot, areaBound, areaSound, behindArea}
 use Rattle.assembly.specs.Deliver.{among, oneOf, sameRun, senderDue, treesDue, besideTrees, ghostDue, ghostNew, deliverChecks, slotAfter, ghostsAfter, delivered}
-use Rattle.assembly.proofs.Kept.{ghostAt, Ghosts, keptRecords, inEither, ofEither, both-length, both-ghosts}
-use Rattle.assembly.proofs.Zones.{Zones, range-end}
-use Rattle.assembly.proofs.Sound.{Held, area-sound}
-use Rattle.assembly.proofs.Again.{AreaParts, area-parts, rises-all, old-ranks, sound-tables, sound-rank, sound-zones, sound-ghosts, sound-held}
+use Rattle.assembly_laws.proofs.Kept.{ghostAt, Ghosts, keptRecords, inEither, ofEither, both-length, both-ghosts}
+use Rattle.assembly_laws.proofs.Zones.{Zones, range-end}
+use Rattle.assembly_laws.proofs.Sound.{Held, area-sound}
+use Rattle.assembly_laws.proofs.Again.{AreaParts, area-parts, rises-all, old-ranks, sound-tables, sound-rank, sound-zones, sound-ghosts, sound-held}
 
 -- ---- what the layout of a message says
 

@@ -21,13 +21,13 @@ use Rattle.records.proofs.Forms.{at-piece}
 use Rattle.mesh.specs.Link.{orientationOk, linkOk}
 use Rattle.mesh.specs.Mesh.{dimensionOk, faceNeighbour}
 use Rattle.mesh.proofs.Soundness.{link-there, link-answered}
 use Rattle.part.specs.Layout.{partHeader, treePlace, ghostPlace, partSize}
 use Rattle.part.specs.Ghosts.{besideRank}
 use Rattle.part.specs.Cut.{renamed}
 use Rattle.part.specs.View.{isLocal, ghostIs, viewSound}
 use Rattle.part.specs.Part.{partDimension, partK, partFirst, partCount, partGhostCount, storedTree, storedGhost, globalIndex, globalTree, partHolds, partCore, partHeaderSound, partSound}
-use Rattle.part.proofs.Renamed.{renamed-length}
-use Rattle.part.proofs.Views.{local-at, local-range, core-tree, core-ghost, held-cases, local-held, ghost-at-held, view-ghosts, view-ascends, view-number, view-form, view-shape, view-link, view-neighbour, view-far, view-beside, view-below, view-same}
+use Rattle.part_laws.proofs.Renamed.{renamed-length}
+use Rattle.part_laws.proofs.Views.{local-at, local-range, core-tree, core-ghost, held-cases, local-held, ghost-at-held, view-ghosts, view-ascends, view-number, view-form, view-shape, view-link, view-neighbour, view-far, view-beside, view-below, view-same}
 
 -- ---- the header
 

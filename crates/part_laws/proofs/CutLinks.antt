@@ -15,15 +15,15 @@ use Rattle.records.specs.Shape.{faceCount, facesIn}
 use Rattle.records.specs.Record.{shapeOf, neighbourOf, faceOf, orientationOf, toItself}
 use Rattle.mesh.specs.Mesh.{meshDimension, meshTrees, meshCore}
 use Rattle.mesh.proofs.Soundness.{sound-core, neighbour-below}
 use Rattle.part.specs.Ghosts.{ghostPosition}
 use Rattle.part.specs.Cut.{localIndex, cutPart}
 use Rattle.part.specs.Part.{storedTree}
 use Rattle.part.specs.Neighbour.{linkOf, meshLink}
 use Rattle.part.specs.Calls.{neighbourChecks, neighbourAnswer}
 use Rattle.part.proofs.Cutting.{Cuttable}
-use Rattle.part.proofs.CutRead.{cut-count, cut-end, cut-tree}
-use Rattle.part.proofs.Renamed.{renamed-shape, renamed-neighbour, renamed-face, renamed-orientation}
-use Rattle.part.proofs.CutSound.{holds-range, range-local, local-below, local-tree, local-ghost, neighbour-local, cut-sound}
+use Rattle.part_laws.proofs.CutRead.{cut-count, cut-end, cut-tree}
+use Rattle.part_laws.proofs.Renamed.{renamed-shape, renamed-neighbour, renamed-face, renamed-orientation}
+use Rattle.part_laws.proofs.CutSound.{holds-range, range-local, local-below, local-tree, local-ghost, neighbour-local, cut-sound}
 
 -- a difference is i where the number is i behind the other
 sub-itself : (a m i : ℕ) → a ≤ m → eqb (m - a) i ≡ eqb m (a + i)

@@ -21,11 +21,11 @@ use Rattle.pattern.specs.Sets.{getsFrom}
 use Rattle.pattern.proofs.Senders.{sender-lt}
 use Rattle.mesh.specs.Mesh.{dimensionOk}
 use Rattle.message.specs.Layout.{afterLast}
 use Rattle.assembly.specs.Layout.{heardWords, ghostBound, areaSize, ghostSlotsPlace, slotsPlace, wordsPlace, newPlace, areaWith}
 use Rattle.assembly.specs.Area.{ghostSlot, dueHeard, areaHeaderSound, bitSound, treeSlotSound, ghostHeldSound, areaBound, ghostSlotSound, areaSound}
 use Rattle.assembly.specs.Open.{freshArea}
-use Rattle.assembly.proofs.Kept.{ghostAt, Ghosts}
-use Rattle.assembly.proofs.Zones.{Zones, Reads, range-end, few-ranks, words-enough, area-reads}
+use Rattle.assembly_laws.proofs.Kept.{ghostAt, Ghosts}
+use Rattle.assembly_laws.proofs.Zones.{Zones, Reads, range-end, few-ranks, words-enough, area-reads}
 
 -- what the zones of a sound area hold: bits of the receive set, the trees of heard senders in form and in their slots, ghosts in form, below K, outside the new range, ascending
 pub record Held (old new : List ℕ) (rank : ℕ) (H : ℕ → Bool) (slot : ℕ → List ℕ) (g : ℕ) (ghosts : List ℕ) : Type 0 where

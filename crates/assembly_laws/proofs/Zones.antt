@@ -21,10 +21,10 @@ use Rattle.records.proofs.Shapes.{faces-six}
 use Rattle.records.proofs.Forms.{piece-piece}
 use Rattle.pattern.specs.Sender.{Tables}
 use Rattle.mesh.specs.Mesh.{dimensionOk}
 use Rattle.assembly.specs.Layout.{heardWords, ghostBound, newPlace, wordsPlace, slotsPlace, ghostSlotsPlace, areaSize, areaHeaderBytes, wordOf, wordsOf, slotsOf, areaWith}
 use Rattle.assembly.specs.Area.{areaEpoch, areaDimension, areaK, areaP, areaRank, areaCount, areaGhosts, areaOld, areaNew, areaFirst, heard, treeSlot, treeSlotCore, ghostSlot, behindArea}
-use Rattle.assembly.proofs.Joined.{piece-first, piece-behind, piece-start, piece-replicate, words, word-at, slots-length, slots-at, slots-same}
-use Rattle.assembly.proofs.Heard.{word-small, word-bit, words-slots, words-same}
+use Rattle.assembly_laws.proofs.Joined.{piece-first, piece-behind, piece-start, piece-replicate, words, word-at, slots-length, slots-at, slots-same}
+use Rattle.assembly_laws.proofs.Heard.{word-small, word-bit, words-slots, words-same}
 
 -- ---- the limits
 

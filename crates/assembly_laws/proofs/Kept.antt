@@ -14,8 +14,8 @@ use Rattle.encoding.specs.Pieces.{piece}
 use Rattle.encoding.proofs.Below.{tests, either, clash, below-suc, any-intro, any-none, least-lt, least-at, count-none, count-range, kept-length, kept-found, kept-ascends}
 use Rattle.records.specs.Record.{coreSize, numberOf, inForm}
 use Rattle.offsets.specs.Table.{holds}
 use Rattle.assembly.specs.Deliver.{among, oneOf}
-use Rattle.assembly.proofs.Joined.{piece-first, piece-last}
+use Rattle.assembly_laws.proofs.Joined.{piece-first, piece-last}
 
 -- ghost j of ghosts in a row
 abbrev pub ghostAt : List ℕ → ℕ → List ℕ

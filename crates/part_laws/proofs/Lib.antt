@@ -1,0 +1,7 @@
+-- Theorems on parts.
+pub mod CutRead
+pub mod Views
+pub mod Renamed
+pub mod CutSound
+pub mod CutLinks
+pub mod SoundParts

@@ -27,7 +27,7 @@ use Rattle.part.specs.Cut.{renamed}
 use Rattle.part.specs.View.{isLocal, ghostIs, viewSound}
 use Rattle.part.specs.Part.{partDimension, partK, partFirst, partCount, partGhostCount, storedTree, storedGhost, globalIndex, globalTree, partHolds, partCore, partHeaderSound, partSound}
 use Rattle.part_laws.proofs.Renamed.{renamed-length}
-use Rattle.part_laws.proofs.Views.{local-at, local-range, core-tree, core-ghost, held-cases, local-held, ghost-at-held, view-ghosts, view-ascends, view-number, view-form, view-shape, view-link, view-neighbour, view-far, view-beside, view-below, view-same}
+use Rattle.part_laws.proofs.Views.{local-at, local-range, core-tree, core-ghost, held-cases, local-held, ghost-at-held, view-ghosts, view-ascends, view-number, view-form, view-shape, view-link, view-neighbour, view-far, view-beside, view-below, held-same, core-same, view-same}
 
 -- ---- the header
 
@@ -277,7 +277,7 @@ module _ (a b : List ℕ) (same-header : piece a 0 partHeader ≡ piece b 0 part
   word-same off h =
       rw zero-add at (sym (at-piece 4 a 0 partHeader off h) ∙ ap (λ (p : List ℕ). u32At p off) same-header ∙ at-piece 4 b 0 partHeader off h)
 
-  dimension-same : partDimension a ≡ partDimension b
+  pub dimension-same : partDimension a ≡ partDimension b
   unfolding partDimension
   dimension-same = word-same 0 (omega arith)
 
@@ -285,7 +285,7 @@ module _ (a b : List ℕ) (same-header : piece a 0 partHeader ≡ piece b 0 part
   unfolding partK
   K-same = word-same 4 (omega arith)
 
-  first-same : partFirst a ≡ partFirst b
+  pub first-same : partFirst a ≡ partFirst b
   unfolding partFirst
   first-same = word-same 16 (omega arith)
 
@@ -302,7 +302,7 @@ module _ (a b : List ℕ) (same-header : piece a 0 partHeader ≡ piece b 0 part
   header-same table rank = rw (dimension-same, K-same, word-same 8 (omega arith), word-same 12 (omega arith), first-same, count-same, word-same 28 (omega arith))
 
   module _ (same-trees : (i : ℕ) → i < partCount a → storedTree a i ≡ storedTree b i) (same-ghosts : (j : ℕ) → j < partGhostCount a → storedGhost a j ≡ storedGhost b j) where
-    index-same : (j : ℕ) → globalIndex a j ≡ globalIndex b j
+    pub index-same : (j : ℕ) → globalIndex a j ≡ globalIndex b j
     unfolding globalIndex
     index-same j =
         rw (← count-same, ← ghosts-same)
@@ -324,3 +324,16 @@ module _ (a b : List ℕ) (same-header : piece a 0 partHeader ≡ piece b 0 part
         let v : viewSound (partFirst a) (partCount a) (partGhostCount a) (globalTree a) (storedGhost a) (partDimension a) (partK a) ≡ viewSound (partFirst a) (partCount a) (partGhostCount a) (globalTree b) (storedGhost b) (partDimension a) (partK a) =
         view-same (partFirst a) (partCount a) (partGhostCount a) (globalTree a) (globalTree b) (storedGhost a) (storedGhost b) tree-same same-ghosts (partDimension a) (partK a) in
         rw (header-same table rank, l, v, first-same, count-same, ghosts-same, dimension-same, K-same)
+
+    -- and hold the same cores
+    pub holds-same : (k : ℕ) → partHolds a k ≡ partHolds b k
+    unfolding partHolds
+    holds-same k =
+        rw (← first-same, ← count-same, ← ghosts-same)
+        (held-same (partFirst a) (partCount a) (partGhostCount a) (globalTree a) (globalTree b) (storedGhost a) (storedGhost b) tree-same same-ghosts k)
+
+    pub cores-same : (k : ℕ) → partHolds a k ≡ true → partCore a k ≡ partCore b k
+    unfolding partHolds partCore
+    cores-same k e =
+        rw (← first-same, ← count-same, ← ghosts-same)
+        (core-same (partFirst a) (partCount a) (partGhostCount a) (globalTree a) (globalTree b) (storedGhost a) (storedGhost b) tree-same same-ghosts k e)

@@ -334,11 +334,11 @@ module _ (first n g : ℕ) (ta tb ga gb : ℕ → List ℕ) (same-trees : (i : �
   unfolding ghostIs
   is-same k j h = rw (same-ghosts j h)
 
-  held-same : (k : ℕ) → held first n g ta ga k ≡ held first n g tb gb k
+  pub held-same : (k : ℕ) → held first n g ta ga k ≡ held first n g tb gb k
   unfolding held
   held-same k = ap₂ (λ (a b : Bool). a || b) (local-same k) (any-same g (ghostIs first n g ta ga k) (ghostIs first n g tb gb k) (is-same k))
 
-  core-same : (k : ℕ) → held first n g ta ga k ≡ true → heldCore first n g ta ga k ≡ heldCore first n g tb gb k
+  pub core-same : (k : ℕ) → held first n g ta ga k ≡ true → heldCore first n g ta ga k ≡ heldCore first n g tb gb k
   unfolding heldCore held
   core-same k e =
       either (isLocal first n g ta ga k)

@@ -44,7 +44,7 @@ unfolding piece
 whole r n l = take-all n r (omega arith)
 
 -- a tree record is its core and its tree data
-halves : (r : List ℕ) → length r ≡ treeSize → piece r 0 coreSize ++ piece r coreSize 24 ≡ r
+pub halves : (r : List ℕ) → length r ≡ treeSize → piece r 0 coreSize ++ piece r coreSize 24 ≡ r
 unfolding piece
 halves r l = sym (take-add coreSize 24 r) ∙ take-all treeSize r (omega arith)
 
@@ -59,7 +59,7 @@ module _ (rename : ℕ → ℕ) (F : ℕ) (r : List ℕ) (long : length r ≡ tr
   same-rows = ap (λ (x : List ℕ). rowsOf x F) (sym (whole r treeSize long)) ∙ rows-core r 0 F
 
   -- its core is the core renamed, and its tree data stays
-  wide-core : piece (renamed rename F r) 0 coreSize ≡ renamed rename F (piece r 0 coreSize)
+  pub wide-core : piece (renamed rename F r) 0 coreSize ≡ renamed rename F (piece r 0 coreSize)
   unfolding renamed withRows
   wide-core =
       let P : List ℕ = splice (piece r 0 coreSize) 8 links in
@@ -68,16 +68,16 @@ module _ (rename : ℕ → ℕ) (F : ℕ) (r : List ℕ) (long : length r ≡ tr
       let e : splice r 0 P ≡ splice r 8 links = rw zero-add at (splice-inside r 0 coreSize 8 links (omega (arith, links-long)) (omega arith)) in
       ap (λ (s : List ℕ). piece s 0 coreSize) (sym e) ∙ ap (λ (m : ℕ). piece (splice r 0 P) 0 m) (sym l) ∙ piece-same r 0 P (omega arith) ∙ rw same-rows
 
-  wide-data : piece (renamed rename F r) coreSize 24 ≡ piece r coreSize 24
+  pub wide-data : piece (renamed rename F r) coreSize 24 ≡ piece r coreSize 24
   unfolding renamed withRows
   wide-data = piece-above r 8 links coreSize 24 (omega (arith, links-long)) (omega (arith, links-long))
 
-  wide-long : length (renamed rename F r) ≡ treeSize
+  pub wide-long : length (renamed rename F r) ≡ treeSize
   unfolding renamed
   wide-long = rows-length (map (renameRow rename) (rowsOf r F)) F r (omega arith) ∙ long
 
 -- two tree records with the same core and the same tree data
-same-halves : (r s : List ℕ) → length r ≡ treeSize → length s ≡ treeSize → piece r 0 coreSize ≡ piece s 0 coreSize → piece r coreSize 24 ≡ piece s coreSize 24 → r ≡ s
+pub same-halves : (r s : List ℕ) → length r ≡ treeSize → length s ≡ treeSize → piece r 0 coreSize ≡ piece s 0 coreSize → piece r coreSize 24 ≡ piece s coreSize 24 → r ≡ s
 same-halves r s l m a b = sym (halves r l) ∙ ap₂ (λ (x y : List ℕ). x ++ y) a b ∙ halves s m
 
 -- ---- the part of a rank

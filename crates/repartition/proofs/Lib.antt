@@ -5,6 +5,7 @@ pub mod Counting
 pub mod Heard
 pub mod Delivering
 pub mod Building
+pub mod PartMessages
 pub mod Closing
 pub mod Demand
 pub mod Examples

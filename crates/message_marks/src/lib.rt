@@ -70,7 +70,7 @@ fn mark_tree(
     }
 }
 
-// Marks the ghosts that go with p's message to q. The time is that for the trees sent and their neighbours, not for the part.
+// Marks the ghosts that go with p's message to q. Only the trees sent and their neighbours are read, not the whole part.
 pub fn mark_ghosts(part: &[u8], old: &[u8], new: &[u8], p: u32, q: u32, marks: &mut [u64])
     requires { ⌜ Sending (now part) (now old) (now new) p q × Blank (now marks) ⌝ }
     ensures { λ u. ⌜ Marks (now (part .entry)) (now (old .entry)) (now (new .entry)) p q (now (marks .exit)) ⌝ }

@@ -95,7 +95,7 @@ pub fn neighbour_of(part: &[u8], table: &[u8], rank: u32, local: LocalIndex, fac
         return neighbour::refused(8);
     }
     let shape = records::shape_of(part, sound::tree_at(i));
-    let link = neighbour::link_of(part, i, face);
+    let link = neighbour::link_of(part, local, face);
     Neighbour {
         refusal: 0,
         shape,

@@ -18,7 +18,7 @@ face-of-requires c κs = search needs
 -- src/neighbour.rt:69:1
 returns : tie.Need-returns
 unfolding toItself
-returns c = rw (c .before .neighbour-of .ensures, c .face-of .ensures .0)
+returns c = rw (c .before .before .neighbour-of .ensures, c .face-of .ensures .0)
 
 pub to-itself-spec : {M : Type 1} → statement M
 to-itself-spec = tie.close (tie.spec neighbour-of-requires face-of-requires returns)

@@ -46,7 +46,7 @@ pub fn write_ghosts(mesh: &[u8], trees: u32, first: u32, end: u32, out: &mut [u8
     let mut to = at;
     let mut k = 0;
     while k < trees {
-        let ghostly = is_ghost(mesh, k, first, end);
+        let ghostly = is_ghost(mesh, GlobalIndex(k), first, end);
         let from = mesh::inner::tree_at(k);
         k += 1;
         if ghostly {

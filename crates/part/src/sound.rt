@@ -222,15 +222,16 @@ fn trees_sound(part: &[u8], count: u32, ghosts: u32, dimension: u32) -> bool
 // ---- ghosts
 
 // The position of the ghost with the number, or how many ghosts there are.
-fn ghost_with(part: &[u8], count: u32, ghosts: u32, number: u32) -> u32
+fn ghost_with(part: &[u8], count: u32, ghosts: u32, number: GlobalIndex) -> u32
     requires { ⌜ Ascending (now part) (ghostPlace count 0) ghosts ⌝ }
-    ensures { λ r. ⌜ r ≡ leastBelow ghosts (ghostHas (ghostCore (now (part .entry)) count) number) ⌝ }
+    ensures { λ r. ⌜ r ≡ leastBelow ghosts (ghostHas (ghostCore (now (part .entry)) count) (number .0)) ⌝ }
 {
-    let position = find_ghost(part, ghost_at(count, 0), ghosts, number);
+    let wanted = number.0;
+    let position = find_ghost(part, ghost_at(count, 0), ghosts, wanted);
     if ghosts <= position {
         return ghosts;
     }
-    if records::number_of(part, ghost_at(count, position)) != number {
+    if records::number_of(part, ghost_at(count, position)) != wanted {
         return ghosts;
     }
     position
@@ -256,7 +257,7 @@ fn ghost_face(
         let own = ghost_index(count, j);
         return link_ok(part, own.0, at, face, tree_at(tree.0));
     }
-    let position = ghost_with(part, count, ghosts, k);
+    let position = ghost_with(part, count, ghosts, GlobalIndex(k));
     if position < ghosts {
         let number = records::number_of(part, at);
         return link_ok(part, number, at, face, ghost_at(count, position));

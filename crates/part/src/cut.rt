@@ -2,6 +2,7 @@
 use crate::inner::in_range;
 use crate::inner::is_ghost;
 use records::index::GlobalIndex;
+use records::index::LocalIndex;
 use records::index::ghost_index;
 use records::index::to_local;
 ghost use mathlib.Core.Path.{_≡_};
@@ -46,7 +47,7 @@ pub fn write_ghosts(mesh: &[u8], trees: u32, first: u32, end: u32, out: &mut [u8
     let mut to = at;
     let mut k = 0;
     while k < trees {
-        let ghostly = is_ghost(mesh, k, first, end);
+        let ghostly = is_ghost(mesh, GlobalIndex(k), first, end);
         let from = mesh::inner::tree_at(k);
         k += 1;
         if ghostly {
@@ -74,32 +75,36 @@ pub fn find_ghost(bs: &[u8], at: usize, count: u32, number: u32) -> u32
     low
 }
 
-// The local index of a neighbour. The ghosts of the part stand from byte `at` on.
-fn local_index(bs: &[u8], at: usize, count: u32, first: u32, end: u32, k: u32) -> u32
+// The local index of a neighbour; the mark of an unused face stays. The ghosts of the part stand from byte `at` on.
+fn local_index(
+    bs: &[u8],
+    at: usize,
+    count: u32,
+    first: u32,
+    end: u32,
+    neighbour: GlobalIndex,
+) -> LocalIndex
     requires { ⌜ Held (now bs) at count first end ⌝ }
-    ensures { λ r. ⌜ r ≡ localRead (now (bs .entry)) at count first end k ⌝ }
+    ensures { λ r. ⌜ r .0 ≡ localRead (now (bs .entry)) at count first end (neighbour .0) ⌝ }
 {
+    let k = neighbour.0;
     if k == 4294967295 {
-        return 4294967295;
+        return LocalIndex(4294967295);
     }
     if in_range(first, end, k) {
-        let tree = to_local(GlobalIndex(k), GlobalIndex(first));
-        return tree.0;
+        return to_local(neighbour, GlobalIndex(first));
     }
     let position = find_ghost(bs, at, count, k);
-    let held = ghost_index(end - first, position);
-    held.0
+    ghost_index(end - first, position)
 }
 
 fn rename_row(bs: &[u8], at: usize, count: u32, first: u32, end: u32, row: [u32; 3]) -> [u32; 3]
     requires { ⌜ Held (now bs) at count first end ⌝ }
     ensures { λ r. ⌜ r ≡ rowWith (localRead (now (bs .entry)) at count first end) row ⌝ }
 {
-    [
-        local_index(bs, at, count, first, end, row[0]),
-        row[1],
-        row[2],
-    ]
+    let neighbour = GlobalIndex(row[0]);
+    let index = local_index(bs, at, count, first, end, neighbour);
+    [index.0, row[1], row[2]]
 }
 
 // The six links of a record with local indices.

@@ -1,4 +1,5 @@
 // For the crates above: the checks of a cut and the ghosts of a range. No calls for users.
+use records::index::GlobalIndex;
 ghost use mathlib.Core.Path.{_≡_};
 ghost use Prim.Native.Nat.{_+_, _*_, _≤_};
 ghost use lib.ListN.{length};
@@ -66,11 +67,12 @@ pub fn beside(bs: &[u8], at: usize, faces: u32, first: u32, end: u32) -> bool
     false
 }
 
-// Whether tree k of a whole mesh is a ghost of the range.
-pub fn is_ghost(mesh: &[u8], k: u32, first: u32, end: u32) -> bool
-    requires { ⌜ meshHeader + treeSize * k + treeSize ≤ length (now mesh) ⌝ }
-    ensures { λ r. ⌜ r ≡ ghostIn (meshCore (now (mesh .entry))) first end k ⌝ }
+// Whether a tree of a whole mesh is a ghost of the range.
+pub fn is_ghost(mesh: &[u8], tree: GlobalIndex, first: u32, end: u32) -> bool
+    requires { ⌜ meshHeader + treeSize * (tree .0) + treeSize ≤ length (now mesh) ⌝ }
+    ensures { λ r. ⌜ r ≡ ghostIn (meshCore (now (mesh .entry))) first end (tree .0) ⌝ }
 {
+    let k = tree.0;
     if in_range(first, end, k) {
         return false;
     }
@@ -87,7 +89,7 @@ pub fn ghost_count(mesh: &[u8], trees: u32, first: u32, end: u32) -> u32
     let mut count = 0;
     let mut k = 0;
     while k < trees {
-        let ghostly = is_ghost(mesh, k, first, end);
+        let ghostly = is_ghost(mesh, GlobalIndex(k), first, end);
         k += 1;
         if ghostly {
             count += 1;

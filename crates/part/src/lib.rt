@@ -95,7 +95,7 @@ pub fn neighbour_of(part: &[u8], table: &[u8], rank: u32, local: LocalIndex, fac
         return neighbour::refused(8);
     }
     let shape = records::shape_of(part, sound::tree_at(i));
-    let link = neighbour::link_of(part, i, face);
+    let link = neighbour::link_of(part, local, face);
     Neighbour {
         refusal: 0,
         shape,
@@ -104,14 +104,15 @@ pub fn neighbour_of(part: &[u8], table: &[u8], rank: u32, local: LocalIndex, fac
 }
 
 // The index of the first whole record of `size` bytes with the number, or how many whole records there are.
-fn find(bs: &[u8], size: usize, number: u32) -> usize
+fn find(bs: &[u8], size: usize, number: GlobalIndex) -> usize
     requires { ⌜ 4 ≤ size ⌝ }
-    ensures { λ r. ⌜ r ≡ leastBelow (length (now (bs .entry)) / size) (hasNumber size (now (bs .entry)) number) ⌝ }
+    ensures { λ r. ⌜ r ≡ leastBelow (length (now (bs .entry)) / size) (hasNumber size (now (bs .entry)) (number .0)) ⌝ }
 {
+    let wanted = number.0;
     let n = bs.len() / size;
     let mut i = 0;
     while i < n {
-        if encoding::read_u32(bs, size * i) == number {
+        if encoding::read_u32(bs, size * i) == wanted {
             return i;
         }
         i += 1;
@@ -130,15 +131,14 @@ pub struct Found {
 pub fn find_record(trees: &[u8], ghosts: &[u8], number: GlobalIndex) -> Found
     ensures { λ r. ⌜ r ≡ foundRecord (now (trees .entry)) (now (ghosts .entry)) (number .0) ⌝ }
 {
-    let wanted = number.0;
-    let tree = find(trees, 64, wanted);
+    let tree = find(trees, 64, number);
     if tree < trees.len() / 64 {
         return Found {
             which: 1,
             offset: (64 * tree) as u64,
         };
     }
-    let held = find(ghosts, 40, wanted);
+    let held = find(ghosts, 40, number);
     if held < ghosts.len() / 40 {
         return Found {
             which: 2,

@@ -44,11 +44,11 @@ pub struct NeighbourAnswer {
     pub orientation: u32,
 }
 
-fn across_to(index: u32, face: u32, orientation: u32) -> Across
-    ensures { λ r. ⌜ r ≡ acrossOf index face orientation ⌝ }
+fn across_to(index: LocalIndex, face: u32, orientation: u32) -> Across
+    ensures { λ r. ⌜ r ≡ acrossOf (index .0) face orientation ⌝ }
 {
     Across {
-        index: LocalIndex(index),
+        index,
         face,
         orientation,
     }
@@ -57,7 +57,7 @@ fn across_to(index: u32, face: u32, orientation: u32) -> Across
 pub fn refused(refusal: u32) -> Neighbour
     ensures { λ r. ⌜ r ≡ neighbourRefused refusal ⌝ }
 {
-    let none = across_to(0, 0, 0);
+    let none = across_to(LocalIndex(0), 0, 0);
     Neighbour {
         refusal,
         shape: 0,
@@ -66,28 +66,28 @@ pub fn refused(refusal: u32) -> Neighbour
 }
 
 // Whether a face leads to the own index and the own face.
-fn to_itself(part: &[u8], at: usize, own: u32, face: u32) -> bool
+fn to_itself(part: &[u8], at: usize, own: LocalIndex, face: u32) -> bool
     requires { ⌜ (at + coreSize ≤ length (now part)) × (face < 6) ⌝ }
-    ensures { λ r. ⌜ r ≡ toItself own (piece (now (part .entry)) at coreSize) face ⌝ }
+    ensures { λ r. ⌜ r ≡ toItself (own .0) (piece (now (part .entry)) at coreSize) face ⌝ }
 {
-    (records::neighbour_of(part, at, face) == own) & (records::face_of(part, at, face) == face)
+    (records::neighbour_of(part, at, face) == own.0) & (records::face_of(part, at, face) == face)
 }
 
-// What stands across a face of tree i of a sound part.
-pub fn link_of(part: &[u8], i: u32, face: u32) -> Link
-    requires { ⌜ (treePlace i + coreSize ≤ length (now part)) × (face < 6) ⌝ }
-    ensures { λ r. ⌜ r ≡ linkOf (now (part .entry)) i face ⌝ }
+// What stands across a face of a tree of a sound part.
+pub fn link_of(part: &[u8], tree: LocalIndex, face: u32) -> Link
+    requires { ⌜ (treePlace (tree .0) + coreSize ≤ length (now part)) × (face < 6) ⌝ }
+    ensures { λ r. ⌜ r ≡ linkOf (now (part .entry)) (tree .0) face ⌝ }
 {
-    let at = tree_at(i);
+    let at = tree_at(tree.0);
     if records::face_count(records::shape_of(part, at)) <= face {
-        return Link::Unused(across_to(0, 0, 0));
+        return Link::Unused(across_to(LocalIndex(0), 0, 0));
     }
-    if to_itself(part, at, i, face) {
-        return Link::Boundary(across_to(i, face, 0));
+    if to_itself(part, at, tree, face) {
+        return Link::Boundary(across_to(tree, face, 0));
     }
     let j = records::neighbour_of(part, at, face);
     let there = across_to(
-        j,
+        LocalIndex(j),
         records::face_of(part, at, face),
         records::orientation_of(part, at, face),
     );

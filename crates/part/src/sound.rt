@@ -3,6 +3,7 @@ use crate::cut::find_ghost;
 use crate::inner::beside;
 use crate::inner::in_range;
 use records::index::GlobalIndex;
+use records::index::LocalIndex;
 use records::index::ghost_index;
 use records::index::to_local;
 ghost use mathlib.Core.Path.{_≡_};
@@ -161,10 +162,11 @@ fn numbers_sound(part: &[u8], first: u32, count: u32, ghosts: u32, trees: u32) -
 // ---- trees
 
 // A tree's link leads back to the local index, a ghost's to the global number.
-fn tree_face(part: &[u8], count: u32, ghosts: u32, i: u32, face: u32) -> bool
-    requires { ⌜ (length (now part) ≡ partSize count ghosts) × (i < count) × (face < 6) ⌝ }
-    ensures { λ r. ⌜ r ≡ treeFace count ghosts (storedTree (now (part .entry))) (ghostCore (now (part .entry)) count) i face ⌝ }
+fn tree_face(part: &[u8], count: u32, ghosts: u32, tree: LocalIndex, face: u32) -> bool
+    requires { ⌜ (length (now part) ≡ partSize count ghosts) × (tree .0 < count) × (face < 6) ⌝ }
+    ensures { λ r. ⌜ r ≡ treeFace count ghosts (storedTree (now (part .entry))) (ghostCore (now (part .entry)) count) (tree .0) face ⌝ }
 {
+    let i = tree.0;
     let at = tree_at(i);
     let j = records::neighbour_of(part, at, face);
     if j < count {
@@ -177,13 +179,13 @@ fn tree_face(part: &[u8], count: u32, ghosts: u32, i: u32, face: u32) -> bool
     false
 }
 
-fn tree_faces(part: &[u8], count: u32, ghosts: u32, i: u32, faces: u32) -> bool
-    requires { ⌜ (length (now part) ≡ partSize count ghosts) × (i < count) × (faces ≤ 6) ⌝ }
-    ensures { λ r. ⌜ r ≡ allBelow faces (treeFace count ghosts (storedTree (now (part .entry))) (ghostCore (now (part .entry)) count) i) ⌝ }
+fn tree_faces(part: &[u8], count: u32, ghosts: u32, tree: LocalIndex, faces: u32) -> bool
+    requires { ⌜ (length (now part) ≡ partSize count ghosts) × (tree .0 < count) × (faces ≤ 6) ⌝ }
+    ensures { λ r. ⌜ r ≡ allBelow faces (treeFace count ghosts (storedTree (now (part .entry))) (ghostCore (now (part .entry)) count) (tree .0)) ⌝ }
 {
     let mut face = 0;
     while face < faces {
-        if !tree_face(part, count, ghosts, i, face) {
+        if !tree_face(part, count, ghosts, tree, face) {
             return false;
         }
         face += 1;
@@ -191,15 +193,16 @@ fn tree_faces(part: &[u8], count: u32, ghosts: u32, i: u32, faces: u32) -> bool
     true
 }
 
-fn tree_sound(part: &[u8], count: u32, ghosts: u32, dimension: u32, i: u32) -> bool
-    requires { ⌜ (length (now part) ≡ partSize count ghosts) × (i < count) ⌝ }
-    ensures { λ r. ⌜ r ≡ treeStored count ghosts (storedTree (now (part .entry))) (ghostCore (now (part .entry)) count) dimension i ⌝ }
+fn tree_sound(part: &[u8], count: u32, ghosts: u32, dimension: u32, tree: LocalIndex) -> bool
+    requires { ⌜ (length (now part) ≡ partSize count ghosts) × (tree .0 < count) ⌝ }
+    ensures { λ r. ⌜ r ≡ treeStored count ghosts (storedTree (now (part .entry))) (ghostCore (now (part .entry)) count) dimension (tree .0) ⌝ }
 {
+    let i = tree.0;
     let at = tree_at(i);
     let shape = records::shape_of(part, at);
     records::in_form(part, at, i)
         & (records::dimension_of(shape) == dimension)
-        & tree_faces(part, count, ghosts, i, records::face_count(shape))
+        & tree_faces(part, count, ghosts, tree, records::face_count(shape))
 }
 
 fn trees_sound(part: &[u8], count: u32, ghosts: u32, dimension: u32) -> bool
@@ -208,7 +211,7 @@ fn trees_sound(part: &[u8], count: u32, ghosts: u32, dimension: u32) -> bool
 {
     let mut i = 0;
     while i < count {
-        if !tree_sound(part, count, ghosts, dimension, i) {
+        if !tree_sound(part, count, ghosts, dimension, LocalIndex(i)) {
             return false;
         }
         i += 1;
@@ -219,15 +222,16 @@ fn trees_sound(part: &[u8], count: u32, ghosts: u32, dimension: u32) -> bool
 // ---- ghosts
 
 // The position of the ghost with the number, or how many ghosts there are.
-fn ghost_with(part: &[u8], count: u32, ghosts: u32, number: u32) -> u32
+fn ghost_with(part: &[u8], count: u32, ghosts: u32, number: GlobalIndex) -> u32
     requires { ⌜ Ascending (now part) (ghostPlace count 0) ghosts ⌝ }
-    ensures { λ r. ⌜ r ≡ leastBelow ghosts (ghostHas (ghostCore (now (part .entry)) count) number) ⌝ }
+    ensures { λ r. ⌜ r ≡ leastBelow ghosts (ghostHas (ghostCore (now (part .entry)) count) (number .0)) ⌝ }
 {
-    let position = find_ghost(part, ghost_at(count, 0), ghosts, number);
+    let wanted = number.0;
+    let position = find_ghost(part, ghost_at(count, 0), ghosts, wanted);
     if ghosts <= position {
         return ghosts;
     }
-    if records::number_of(part, ghost_at(count, position)) != number {
+    if records::number_of(part, ghost_at(count, position)) != wanted {
         return ghosts;
     }
     position
@@ -253,7 +257,7 @@ fn ghost_face(
         let own = ghost_index(count, j);
         return link_ok(part, own.0, at, face, tree_at(tree.0));
     }
-    let position = ghost_with(part, count, ghosts, k);
+    let position = ghost_with(part, count, ghosts, GlobalIndex(k));
     if position < ghosts {
         let number = records::number_of(part, at);
         return link_ok(part, number, at, face, ghost_at(count, position));

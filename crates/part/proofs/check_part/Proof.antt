@@ -3,28 +3,19 @@ use borrow.Author.Tests.{not-true, not-false}
 use borrow.Author.Needs.{needs}
 use Rattle.part.proofs.check_part.Statement.{statement}
 use Rattle.part.proofs.check_part.Tie as tie
-use Rattle.part.proofs.check_part.Reads as reads
-use Rattle.part.proofs.check_part.Lts as lts
-use Rattle.part.proofs.inner.rank_refusal.Reads as rank-refusal-reads
-use Rattle.part.proofs.sound.part_sound.Reads as part-sound-reads
 
--- src/lib.rt:67:9
 rank-refusal-requires : tie.Need-rank-refusal-requires
 rank-refusal-requires c κs = search needs
 
--- src/lib.rt:69:9
 returns : tie.Need-returns
 returns c = check-rank _ _ (c .before .rank-refusal .ensures) _ (c .if1 .taken)
 
--- src/lib.rt:71:9
 part-sound-requires : tie.Need-part-sound-requires
 part-sound-requires c κs = rank-known _ _ (c .before .rank-refusal .ensures) (c .if1 .left)
 
--- src/lib.rt:72:9
 returns-2 : tie.Need-returns-2
 returns-2 c = check-fails _ _ (c .before .before .before .rank-refusal .ensures) _ (c .before .before .if1 .left) (c .before .part-sound .ensures) (not-true _ (c .if2 .taken))
 
--- src/lib.rt:64:1
 returns-3 : tie.Need-returns-3
 returns-3 c = check-passes _ _ (c .before .before .before .rank-refusal .ensures) _ (c .before .before .if1 .left) (c .before .part-sound .ensures) (not-false _ (c .if2 .left))
 

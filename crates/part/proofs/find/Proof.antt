@@ -12,10 +12,10 @@ use Rattle.part.proofs.find.Statement.{statement}
 use Rattle.part.proofs.find.Tie as tie
 
 abbrev Inv-loop : tie.InvT-loop
-Inv-loop bs size number n i₀ i = (i ≤ length bs / size) × (anyBelow i (hasNumber size bs number) ≡ false)
+Inv-loop bs size wanted n i₀ i = (i ≤ length bs / size) × (anyBelow i (hasNumber size bs wanted) ≡ false)
 
 abbrev μ-loop : tie.MeasureT-loop
-μ-loop bs size number n i₀ i = length bs / size - i
+μ-loop bs size wanted n i₀ i = length bs / size - i
 
 div-n : tie.Need-div-n Inv-loop μ-loop
 div-n c = search needs

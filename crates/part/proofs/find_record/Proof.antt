@@ -6,8 +6,8 @@ use Rattle.part.proofs.find_record.Tie as tie
 find-requires : tie.Need-find-requires
 find-requires c κs = search needs
 
-mul-t10 : tie.Need-mul-t10
-mul-t10 c = search needs
+mul-t9 : tie.Need-mul-t9
+mul-t9 c = search needs
 
 returns : tie.Need-returns
 returns c = tree-place _ _ _ _ (c .before .find .ensures) (c .if1 .taken)
@@ -15,8 +15,8 @@ returns c = tree-place _ _ _ _ (c .before .find .ensures) (c .if1 .taken)
 find-requires-2 : tie.Need-find-requires-2
 find-requires-2 c κs = search needs
 
-mul-t12 : tie.Need-mul-t12
-mul-t12 c = search needs
+mul-t11 : tie.Need-mul-t11
+mul-t11 c = search needs
 
 returns-2 : tie.Need-returns-2
 returns-2 c = ghost-place _ _ _ _ (c .before .before .before .find .ensures) (c .before .before .if1 .left) _ (c .before .find2 .ensures) (c .if2 .taken)
@@ -26,4 +26,4 @@ returns-3 c = none-place _ _ _ _ (c .before .before .before .find .ensures) (c .
 
 pub find-record-spec : {M : Type 1} → statement M
 find-record-spec =
-    tie.close (tie.spec find-requires mul-t10 returns find-requires-2 mul-t12 returns-2 returns-3)
+    tie.close (tie.spec find-requires mul-t9 returns find-requires-2 mul-t11 returns-2 returns-3)

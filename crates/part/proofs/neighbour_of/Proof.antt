@@ -5,86 +5,58 @@ use native.Mathlib.Omega.{arith}
 use borrow.Author.Needs.{needs}
 use Rattle.part.proofs.neighbour_of.Statement.{statement}
 use Rattle.part.proofs.neighbour_of.Tie as tie
-use Rattle.part.proofs.neighbour_of.Reads as reads
-use Rattle.part.proofs.neighbour_of.Lts as lts
-use Rattle.offsets.proofs.inner.end_tree.Reads as end-tree-reads
-use Rattle.offsets.proofs.inner.first_tree.Reads as first-tree-reads
-use Rattle.part.proofs.inner.rank_refusal.Reads as rank-refusal-reads
-use Rattle.part.proofs.neighbour.link_of.Reads as link-of-reads
-use Rattle.part.proofs.neighbour.refused.Reads as refused-reads
-use Rattle.part.proofs.sound.part_sound.Reads as part-sound-reads
-use Rattle.part.proofs.sound.tree_at.Reads as tree-at-reads
-use Rattle.records.proofs.shape_of.Reads as shape-of-reads
 
--- src/lib.rt:88:9
 rank-refusal-requires : tie.Need-rank-refusal-requires
 rank-refusal-requires c κs = search needs
 
--- src/lib.rt:90:9
 refused-requires : tie.Need-refused-requires
 refused-requires c κs = search needs
 
--- src/lib.rt:90:9
 returns : tie.Need-returns
 returns c = rw (c .refused .ensures) (answer-rank _ _ _ _ _ (c .before .before .rank-refusal .ensures) (c .before .if1 .taken))
 
--- src/lib.rt:92:9
 first-tree-requires : tie.Need-first-tree-requires
 first-tree-requires c κs = omega (arith, rank-fits _ _ (c .before .rank-refusal .ensures) (c .if1 .left) (λ i. c .before .before .shared-slice-known2 .given i .fits))
 
--- src/lib.rt:93:9
 end-tree-requires : tie.Need-end-tree-requires
 end-tree-requires c κs = omega (arith, rank-fits _ _ (c .before .before .rank-refusal .ensures) (c .before .if1 .left) (λ i. c .before .before .before .shared-slice-known2 .given i .fits))
 
--- src/lib.rt:94:8
 sub-if2 : tie.Need-sub-if2
 sub-if2 c = omega (arith, rank-fits _ _ (c .before .before .before .rank-refusal .ensures) (c .before .before .if1 .left) (λ i. c .before .before .before .before .shared-slice-known2 .given i .fits), c .before .first-tree .ensures, c .end-tree .ensures)
 
--- src/lib.rt:94:23
 cast-if2 : tie.Need-cast-if2
 cast-if2 c = search needs
 
--- src/lib.rt:95:9
 refused-requires-2 : tie.Need-refused-requires-2
 refused-requires-2 c κs = search needs
 
--- src/lib.rt:95:9
 returns-2 : tie.Need-returns-2
 returns-2 c = rw (c .refused2 .ensures) (answer-index _ _ _ _ _ (c .before .before .before .before .before .rank-refusal .ensures) (c .before .before .before .before .if1 .left) (c .before .before .before .first-tree .ensures) (c .before .before .end-tree .ensures) (c .before .if2 .taken))
 
--- src/lib.rt:98:9
 refused-requires-3 : tie.Need-refused-requires-3
 refused-requires-3 c κs = search needs
 
--- src/lib.rt:98:9
 returns-3 : tie.Need-returns-3
 returns-3 c = rw (c .refused3 .ensures) (answer-face _ _ _ _ _ (c .before .before .before .before .before .before .rank-refusal .ensures) (c .before .before .before .before .before .if1 .left) (c .before .before .before .before .first-tree .ensures) (c .before .before .before .end-tree .ensures) (c .before .before .if2 .left) (c .before .if3 .taken))
 
--- src/lib.rt:100:9
 part-sound-requires : tie.Need-part-sound-requires
 part-sound-requires c κs = rank-known _ _ (c .before .before .before .before .before .rank-refusal .ensures) (c .before .before .before .before .if1 .left)
 
--- src/lib.rt:101:9
 refused-requires-4 : tie.Need-refused-requires-4
 refused-requires-4 c κs = search needs
 
--- src/lib.rt:101:9
 returns-4 : tie.Need-returns-4
 returns-4 c = rw (c .refused4 .ensures) (answer-unsound _ _ _ _ _ (c .before .before .before .before .before .before .before .before .rank-refusal .ensures) (c .before .before .before .before .before .before .before .if1 .left) (c .before .before .before .before .before .before .first-tree .ensures) (c .before .before .before .before .before .end-tree .ensures) (c .before .before .before .before .if2 .left) (c .before .before .before .if3 .left) (c .before .before .part-sound .ensures) (not-true _ (c .before .if4 .taken)))
 
--- src/lib.rt:103:41
 tree-at-requires : tie.Need-tree-at-requires
 tree-at-requires c κs = search needs
 
--- src/lib.rt:103:9
 shape-of-requires : tie.Need-shape-of-requires
 shape-of-requires c κs = omega (arith, tree-there _ _ _ _ _ (c .before .before .before .before .before .before .before .before .rank-refusal .ensures) (c .before .before .before .before .before .before .before .if1 .left) (c .before .before .before .before .before .before .first-tree .ensures) (c .before .before .before .before .before .end-tree .ensures) (c .before .before .before .before .if2 .left) (c .before .before .before .if3 .left) (c .before .before .part-sound .ensures) (not-false _ (c .before .if4 .left)) (λ i. c .before .before .before .before .before .before .before .before .before .shared-slice-known2 .given i .fits), c .tree-at .ensures)
 
--- src/lib.rt:104:9
 link-of-requires : tie.Need-link-of-requires
 link-of-requires c κs = (tree-there _ _ _ _ _ (c .before .before .before .before .before .before .before .before .before .rank-refusal .ensures) (c .before .before .before .before .before .before .before .before .if1 .left) (c .before .before .before .before .before .before .before .first-tree .ensures) (c .before .before .before .before .before .before .end-tree .ensures) (c .before .before .before .before .before .if2 .left) (c .before .before .before .before .if3 .left) (c .before .before .before .part-sound .ensures) (not-false _ (c .before .before .if4 .left)) (λ i. c .before .before .before .before .before .before .before .before .before .before .shared-slice-known2 .given i .fits), omega arith)
 
--- src/lib.rt:78:1
 returns-5 : tie.Need-returns-5
 returns-5 c = answer-link _ _ _ _ _ (c .before .before .before .before .before .before .before .before .before .before .rank-refusal .ensures) (c .before .before .before .before .before .before .before .before .before .if1 .left) (c .before .before .before .before .before .before .before .before .first-tree .ensures) (c .before .before .before .before .before .before .before .end-tree .ensures) (c .before .before .before .before .before .before .if2 .left) (c .before .before .before .before .before .if3 .left) (c .before .before .before .before .part-sound .ensures) (not-false _ (c .before .before .before .if4 .left)) (c .before .before .tree-at .ensures) (c .before .shape-of .ensures) (c .link-of .ensures)
 

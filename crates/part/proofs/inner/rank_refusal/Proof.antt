@@ -4,37 +4,25 @@ use Rattle.part.proofs.Checks.{fails-ranks, fails-valid, fails-rank, ra
 use borrow.Author.Needs.{needs}
 use Rattle.part.proofs.inner.rank_refusal.Statement.{statement}
 use Rattle.part.proofs.inner.rank_refusal.Tie as tie
-use Rattle.part.proofs.inner.rank_refusal.Reads as reads
-use Rattle.part.proofs.inner.rank_refusal.Lts as lts
-use Rattle.offsets.proofs.inner.ranks.Reads as ranks-reads
-use Rattle.offsets.proofs.inner.ranks_ok.Reads as ranks-ok-reads
-use Rattle.offsets.proofs.inner.valid.Reads as valid-reads
 
--- src/inner.rt:17:9
 ranks-ok-requires : tie.Need-ranks-ok-requires
 ranks-ok-requires c κs = search needs
 
--- src/inner.rt:18:9
 returns : tie.Need-returns
 returns c = fails-ranks _ _ (c .before .ranks-ok .ensures) (not-true _ (c .if1 .taken))
 
--- src/inner.rt:20:9
 valid-requires : tie.Need-valid-requires
 valid-requires c κs = sym (c .before .ranks-ok .ensures) ∙ not-false _ (c .if1 .left)
 
--- src/inner.rt:21:9
 returns-2 : tie.Need-returns-2
 returns-2 c = fails-valid _ _ (c .before .before .before .ranks-ok .ensures) (not-false _ (c .before .before .if1 .left)) (c .before .valid .ensures) (not-true _ (c .if2 .taken))
 
--- src/inner.rt:23:9
 ranks-requires : tie.Need-ranks-requires
 ranks-requires c κs = sym (c .before .before .before .ranks-ok .ensures) ∙ not-false _ (c .before .before .if1 .left)
 
--- src/inner.rt:25:9
 returns-3 : tie.Need-returns-3
 returns-3 c = fails-rank _ _ (c .before .before .before .before .before .ranks-ok .ensures) (not-false _ (c .before .before .before .before .if1 .left)) (c .before .before .before .valid .ensures) (not-false _ (c .before .before .if2 .left)) (c .before .ranks .ensures .0) (c .if3 .taken)
 
--- src/inner.rt:14:1
 returns-4 : tie.Need-returns-4
 returns-4 c = ranks-pass _ _ (c .before .before .before .before .before .ranks-ok .ensures) (not-false _ (c .before .before .before .before .if1 .left)) (c .before .before .before .valid .ensures) (not-false _ (c .before .before .if2 .left)) (c .before .ranks .ensures .0) (c .if3 .left)
 

@@ -3,41 +3,31 @@ use mathlib.Core.Path.{sym, ap}
 use borrow.Author.Needs.{needs}
 use Rattle.part.proofs.neighbour.kind_of.Statement.{statement}
 use Rattle.part.proofs.neighbour.kind_of.Tie as tie
-use Rattle.part.proofs.neighbour.kind_of.Reads as reads
-use Rattle.part.proofs.neighbour.kind_of.Lts as lts
 
--- src/neighbour.rt:104:30
 enum-told : tie.Need-enum-told
 enum-told c = search needs
 
--- src/neighbour.rt:105:28
 enum-told-2 : tie.Need-enum-told-2
 enum-told-2 c = search needs
 
--- src/neighbour.rt:106:27
 enum-told-3 : tie.Need-enum-told-3
 enum-told-3 c = search needs
 
--- src/neighbour.rt:107:27
 enum-told-4 : tie.Need-enum-told-4
 enum-told-4 c = search needs
 
--- src/neighbour.rt:100:1
 returns : tie.Need-returns
 unfolding linkKind
 returns c = sym (ap linkKind (c .enum-told .given .1))
 
--- src/neighbour.rt:100:1
 returns-2 : tie.Need-returns-2
 unfolding linkKind
 returns-2 c = sym (ap linkKind (c .enum-told2 .given .1))
 
--- src/neighbour.rt:100:1
 returns-3 : tie.Need-returns-3
 unfolding linkKind
 returns-3 c = sym (ap linkKind (c .enum-told3 .given .1))
 
--- src/neighbour.rt:100:1
 returns-4 : tie.Need-returns-4
 unfolding linkKind
 returns-4 c = sym (ap linkKind (c .enum-told4 .given .1))

@@ -2,75 +2,49 @@ use Rattle.part.proofs.Across.{across-unused, across-boundary, across-l
 use borrow.Author.Needs.{needs}
 use Rattle.part.proofs.neighbour.link_of.Statement.{statement}
 use Rattle.part.proofs.neighbour.link_of.Tie as tie
-use Rattle.part.proofs.neighbour.link_of.Reads as reads
-use Rattle.part.proofs.neighbour.link_of.Lts as lts
-use Rattle.part.proofs.neighbour.across_to.Reads as across-to-reads
-use Rattle.part.proofs.neighbour.to_itself.Reads as to-itself-reads
-use Rattle.part.proofs.sound.tree_at.Reads as tree-at-reads
-use Rattle.part.proofs.sound.tree_count.Reads as tree-count-reads
-use Rattle.records.proofs.face_count.Reads as face-count-reads
-use Rattle.records.proofs.face_of.Reads as face-of-reads
-use Rattle.records.proofs.neighbour_of.Reads as neighbour-of-reads
-use Rattle.records.proofs.orientation_of.Reads as orientation-of-reads
-use Rattle.records.proofs.shape_of.Reads as shape-of-reads
 
--- src/neighbour.rt:81:9
 tree-at-requires : tie.Need-tree-at-requires
 tree-at-requires c κs = search needs
 
--- src/neighbour.rt:82:28
 shape-of-requires : tie.Need-shape-of-requires
 shape-of-requires c κs = search needs
 
--- src/neighbour.rt:82:8
 face-count-requires : tie.Need-face-count-requires
 face-count-requires c κs = search needs
 
--- src/neighbour.rt:83:29
 across-to-requires : tie.Need-across-to-requires
 across-to-requires c κs = search needs
 
--- src/neighbour.rt:83:9
 returns : tie.Need-returns
 returns c = rw (c .across-to .ensures) (across-unused _ _ _ (c .before .before .before .before .tree-at .ensures) (c .before .before .before .shape-of .ensures) (c .before .before .face-count .ensures .0) (c .before .if1 .taken))
 
--- src/neighbour.rt:85:8
 to-itself-requires : tie.Need-to-itself-requires
 to-itself-requires c κs = search needs
 
--- src/neighbour.rt:86:31
 across-to-requires-2 : tie.Need-across-to-requires-2
 across-to-requires-2 c κs = search needs
 
--- src/neighbour.rt:86:9
 returns-2 : tie.Need-returns-2
 returns-2 c = rw (c .across-to2 .ensures) (across-boundary _ _ _ (c .before .before .before .before .before .before .tree-at .ensures) (c .before .before .before .before .before .shape-of .ensures) (c .before .before .before .before .face-count .ensures .0) (c .before .before .before .if1 .left) (c .before .before .to-itself .ensures) (c .before .if2 .taken))
 
--- src/neighbour.rt:88:9
 neighbour-of-requires : tie.Need-neighbour-of-requires
 neighbour-of-requires c κs = search needs
 
--- src/neighbour.rt:91:9
 face-of-requires : tie.Need-face-of-requires
 face-of-requires c κs = search needs
 
--- src/neighbour.rt:92:9
 orientation-of-requires : tie.Need-orientation-of-requires
 orientation-of-requires c κs = search needs
 
--- src/neighbour.rt:89:9
 across-to-requires-3 : tie.Need-across-to-requires-3
 across-to-requires-3 c κs = search needs
 
--- src/neighbour.rt:94:12
 tree-count-requires : tie.Need-tree-count-requires
 tree-count-requires c κs = search needs
 
--- src/neighbour.rt:95:9
 returns-3 : tie.Need-returns-3
 returns-3 c = rw (c .before .before .across-to3 .ensures) (across-local _ _ _ (c .before .before .before .before .before .before .before .before .before .before .before .tree-at .ensures) (c .before .before .before .before .before .before .before .before .before .before .shape-of .ensures) (c .before .before .before .before .before .before .before .before .before .face-count .ensures .0) (c .before .before .before .before .before .before .before .before .if1 .left) (c .before .before .before .before .before .before .before .to-itself .ensures) (c .before .before .before .before .before .before .if2 .left) (c .before .before .before .before .before .neighbour-of .ensures) (c .before .before .before .before .face-of .ensures .0) (c .before .before .before .orientation-of .ensures) (c .before .tree-count .ensures) (c .if3 .taken))
 
--- src/neighbour.rt:77:1
 returns-4 : tie.Need-returns-4
 returns-4 c = rw (c .before .before .across-to3 .ensures) (across-ghost _ _ _ (c .before .before .before .before .before .before .before .before .before .before .before .tree-at .ensures) (c .before .before .before .before .before .before .before .before .before .before .shape-of .ensures) (c .before .before .before .before .before .before .before .before .before .face-count .ensures .0) (c .before .before .before .before .before .before .before .before .if1 .left) (c .before .before .before .before .before .before .before .to-itself .ensures) (c .before .before .before .before .before .before .if2 .left) (c .before .before .before .before .before .neighbour-of .ensures) (c .before .before .before .before .face-of .ensures .0) (c .before .before .before .orientation-of .ensures) (c .before .tree-count .ensures) (c .if3 .left))
 

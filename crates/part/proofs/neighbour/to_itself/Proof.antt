@@ -2,23 +2,16 @@ use Rattle.records.specs.Record.{toItself}
 use borrow.Author.Needs.{needs}
 use Rattle.part.proofs.neighbour.to_itself.Statement.{statement}
 use Rattle.part.proofs.neighbour.to_itself.Tie as tie
-use Rattle.part.proofs.neighbour.to_itself.Reads as reads
-use Rattle.part.proofs.neighbour.to_itself.Lts as lts
-use Rattle.records.proofs.face_of.Reads as face-of-reads
-use Rattle.records.proofs.neighbour_of.Reads as neighbour-of-reads
 
--- src/neighbour.rt:73:6
 neighbour-of-requires : tie.Need-neighbour-of-requires
 neighbour-of-requires c κs = search needs
 
--- src/neighbour.rt:73:55
 face-of-requires : tie.Need-face-of-requires
 face-of-requires c κs = search needs
 
--- src/neighbour.rt:69:1
 returns : tie.Need-returns
 unfolding toItself
-returns c = rw (c .before .neighbour-of .ensures, c .face-of .ensures .0)
+returns c = rw (c .before .before .neighbour-of .ensures, c .face-of .ensures .0)
 
 pub to-itself-spec : {M : Type 1} → statement M
 to-itself-spec = tie.close (tie.spec neighbour-of-requires face-of-requires returns)

@@ -3,41 +3,31 @@ use mathlib.Core.Path.{sym, ap}
 use borrow.Author.Needs.{needs}
 use Rattle.part.proofs.neighbour.values_of.Statement.{statement}
 use Rattle.part.proofs.neighbour.values_of.Tie as tie
-use Rattle.part.proofs.neighbour.values_of.Reads as reads
-use Rattle.part.proofs.neighbour.values_of.Lts as lts
 
--- src/neighbour.rt:115:24
 enum-known-link : tie.Need-enum-known-link
 enum-known-link c = search needs
 
--- src/neighbour.rt:116:22
 enum-known-link-2 : tie.Need-enum-known-link-2
 enum-known-link-2 c = search needs
 
--- src/neighbour.rt:117:21
 enum-known-link-3 : tie.Need-enum-known-link-3
 enum-known-link-3 c = search needs
 
--- src/neighbour.rt:118:21
 enum-known-link-4 : tie.Need-enum-known-link-4
 enum-known-link-4 c = search needs
 
--- src/neighbour.rt:111:1
 returns : tie.Need-returns
 unfolding linkAcross
 returns c = sym (ap linkAcross (c .before .link .given .1))
 
--- src/neighbour.rt:111:1
 returns-2 : tie.Need-returns-2
 unfolding linkAcross
 returns-2 c = sym (ap linkAcross (c .before .link2 .given .1))
 
--- src/neighbour.rt:111:1
 returns-3 : tie.Need-returns-3
 unfolding linkAcross
 returns-3 c = sym (ap linkAcross (c .before .link3 .given .1))
 
--- src/neighbour.rt:111:1
 returns-4 : tie.Need-returns-4
 unfolding linkAcross
 returns-4 c = sym (ap linkAcross (c .before .link4 .given .1))

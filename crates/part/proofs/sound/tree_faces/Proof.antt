@@ -12,10 +12,10 @@ use Rattle.part.proofs.sound.tree_faces.Statement.{statement}
 use Rattle.part.proofs.sound.tree_faces.Tie as tie
 
 abbrev Inv-loop : tie.InvT-loop
-Inv-loop part count ghosts i faces face₀ face = (face ≤ faces) × (allBelow face (treeFace count ghosts (storedTree part) (ghostCore part count) i) ≡ true)
+Inv-loop part count ghosts tree faces face₀ face = (face ≤ faces) × (allBelow face (treeFace count ghosts (storedTree part) (ghostCore part count) (tree .0)) ≡ true)
 
 abbrev μ-loop : tie.MeasureT-loop
-μ-loop part count ghosts i faces face₀ face = faces - face
+μ-loop part count ghosts tree faces face₀ face = faces - face
 
 loop-holds : tie.Need-loop-holds Inv-loop μ-loop
 unfolding allBelow

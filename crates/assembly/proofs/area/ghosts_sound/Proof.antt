@@ -69,7 +69,9 @@ part-all-zero-start : tie.Need-part-all-zero-start
 part-all-zero-start c = search needs
 
 part-all-zero-end : tie.Need-part-all-zero-end
-part-all-zero-end c = ghosts-room (c .before .before .before .before .before .before .before .before .before .before .before .before .before .before .before .before .pre) (c .before .before .before .before .before .before .before .before .before .before .before .before .ghosts .ensures) (c .before .before .before .before .before .before .before .before .before .before .before .count .ensures) (c .before .before .before .before .before .before .before .before .before .before .dimension .ensures) (c .before .before .before .before .before .before .before .before .before .ghost-bound .ensures .0) (c .before .before .before .before .before .before .before .before .if1 .left) (c .before .before .before .before .ranks .ensures) (c .before .before .before .ghost-slots-place .ensures .0) .1
+part-all-zero-end c =
+    let room = ghosts-room (c .before .before .before .before .before .before .before .before .before .before .before .before .before .before .before .before .pre) (c .before .before .before .before .before .before .before .before .before .before .before .before .ghosts .ensures) (c .before .before .before .before .before .before .before .before .before .before .before .count .ensures) (c .before .before .before .before .before .before .before .before .before .before .dimension .ensures) (c .before .before .before .before .before .before .before .before .before .ghost-bound .ensures .0) (c .before .before .before .before .before .before .before .before .if1 .left) (c .before .before .before .before .ranks .ensures) (c .before .before .before .ghost-slots-place .ensures .0) in
+    omega (arith, room .0, room .1)
 
 all-zero-requires : tie.Need-all-zero-requires
 all-zero-requires c κs = search needs

@@ -1,0 +1,3 @@
+// The checks of a close, decided on the area's slots.
+
+pub mod join;

@@ -2,3 +2,4 @@
 pub mod Places
 pub mod Links
 pub mod Joining
+pub mod Checks

@@ -1,11 +1,13 @@
 -- What a reader over a lent message hands out, and where it stands.
-use Prim.Native.Nat.{ℕ, _+_}
+use Prim.Native.Nat.{ℕ, zero, suc, _+_}
 use mathlib.Core.Bool.{cond}
-use mathlib.Core.List.{List, []}
+use mathlib.Core.List.{List, [], _∷_}
 use lib.Dec.{ltb, eqb}
 use denote.Ref.{now}
+use Rattle.encoding.specs.Pieces.{piece}
 use Rattle.encoding.specs.declared.answer.Length.{Length}
-use Rattle.message.specs.Layout.{inLayout}
+use Rattle.records.specs.Record.{treeSize}
+use Rattle.message.specs.Layout.{messageTreePlace, messageTrees, messageGhosts, messageGhost, inLayout}
 use Rattle.message.specs.Reading.{recordCount, recordAt, remainAfter}
 use Rattle.message.specs.Calls.{readingOf}
 use Rattle.message_reader.specs.declared.Following.{Following}
@@ -39,3 +41,37 @@ stepSeen s = (now (s .piece), (s .remain, s .reader))
 -- what follows the record at a place: how many remain, and the next place
 unfoldable pub followingOf : List ℕ → ℕ → Following
 followingOf m i = record { remain = remainAfter m i; at = placeAfter m i }
+
+-- ---- reading on: n calls of next, each on the reader that the one before left
+
+-- the pieces
+unfoldable pub handed : ℕ → Reader → List (List ℕ)
+handed zero r = []
+handed (suc n) r = nextOf r .0 ∷ handed n (nextOf r .1 .1)
+
+-- the numbers that remain
+unfoldable pub remains : ℕ → Reader → List ℕ
+remains zero r = []
+remains (suc n) r = nextOf r .1 .0 ∷ remains n (nextOf r .1 .1)
+
+-- the reader that the last of them leaves
+unfoldable pub readerAfter : ℕ → Reader → Reader
+readerAfter zero r = r
+readerAfter (suc n) r = readerAfter n (nextOf r .1 .1)
+
+-- n values, of the places from i on
+unfoldable pub row : {A : Type 0} → ℕ → ℕ → (ℕ → A) → List A
+row i zero f = []
+row i (suc n) f = f i ∷ row (i + 1) n f
+
+-- the trees of a message, each with its data, then its ghosts
+unfoldable pub treesOf : List ℕ → List (List ℕ)
+treesOf m = row 0 (messageTrees m) (λ i. piece m (messageTreePlace i) treeSize)
+
+unfoldable pub ghostsOf : List ℕ → List (List ℕ)
+ghostsOf m = row 0 (messageGhosts m) (messageGhost m)
+
+-- n - 1, n - 2 and so on to 0
+unfoldable pub down : ℕ → List ℕ
+down zero = []
+down (suc n) = n ∷ down n

@@ -30,10 +30,13 @@ beginOf m = (readingOf m, (cond (inLayout m) m [], 0))
 abbrev pub begunSeen : Begun → Length × (List ℕ × ℕ)
 begunSeen b = (b .answer, (now (b .reader .message), b .reader .at))
 
--- next: the record at the reader's place, how many remain after it, and the reader moved on over the same lent message
+-- the reader moved on, over the same lent message
+abbrev pub movedOn : Reader → Reader
+movedOn r = record { message = r .message; at = placeAfter (now (r .message)) (r .at) }
+
+-- next: the record at the reader's place, how many remain after it, and the reader moved on
 unfoldable pub nextOf : Reader → List ℕ × (ℕ × Reader)
-nextOf r =
-    (recordAt (now (r .message)) (r .at), (remainAfter (now (r .message)) (r .at), record { message = r .message; at = placeAfter (now (r .message)) (r .at) }))
+nextOf r = (recordAt (now (r .message)) (r .at), (remainAfter (now (r .message)) (r .at), movedOn r))
 
 abbrev pub stepSeen : Step → List ℕ × (ℕ × Reader)
 stepSeen s = (now (s .piece), (s .remain, s .reader))

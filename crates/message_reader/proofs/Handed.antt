@@ -1,8 +1,8 @@
 -- What a reader hands out, from its first place to its last.
-use Prim.Native.Nat.{ℕ, zero, suc, _+_, _-_, _*_, _≤_, _<_, _^_}
+use Prim.Native.Nat.{ℕ, _+_, _-_, _≤_, _<_}
 use native.Mathlib.Omega.{arith}
 use mathlib.Core.Path.{_≡_, refl, sym, ap, _∙_}
-use mathlib.Core.Bool.{true, false, cond}
+use mathlib.Core.Bool.{true, cond}
 use mathlib.Core.List.{List, []}
 use lib.Dec.{ltb}
 use lib.ListN.{length}
@@ -12,7 +12,7 @@ use Rattle.encoding.proofs.Below.{either}
 use Rattle.encoding.proofs.Pieces.{piece-length}
 use Rattle.records.specs.Record.{coreSize, treeSize}
 use Rattle.message.specs.Layout.{messageTreePlace, messageGhostPlace, messageTrees, messageGhosts, messageGhost, sizeLaid, inLayout}
-use Rattle.message.specs.Reading.{recordCount, recordAt, remainAfter}
+use Rattle.message.specs.Reading.{recordCount, recordAt}
 use Rattle.message.specs.Calls.{readingOf}
 use Rattle.message.proofs.Layouts.{size-length}
 use Rattle.message.proofs.Reading.{record-past, record-tree, record-ghost, count-all, count-none, reading-refused, reading-begins}

@@ -1,25 +1,25 @@
 -- Reading from the beginning to the end hands out exactly the message's records in order, trees before ghosts, and the number that remain falls by one each time.
-use Prim.Native.Nat.{ℕ, zero, suc, _+_, _-_, _*_, _≤_, _<_}
+use Prim.Native.Nat.{ℕ, zero, suc, _+_, _-_, _≤_, _<_}
 use native.Mathlib.Nat.{add-zero}
+use native.Mathlib.Numerals.{add-one}
 use native.Mathlib.Omega.{arith}
 use mathlib.Core.Path.{_≡_, refl, sym, ap, ap₂, _∙_}
 use mathlib.Core.Bool.{true, false}
-use mathlib.Core.List.{List, [], _∷_, _++_}
-use lib.ListN.{length}
+use mathlib.Core.List.{List, [], _∷_, _++_, append-nil, append-assoc, flatten}
+use lib.ListN.{length, drop}
 use denote.Ref.{RefT, now}
 use Rattle.encoding.specs.Pieces.{piece}
 use Rattle.encoding.specs.Answer.{lengthRefused}
 use Rattle.encoding.specs.declared.answer.Length.{Length}
 use Rattle.encoding.proofs.Below.{either}
 use Rattle.records.specs.Record.{treeSize}
-use Rattle.message.specs.Layout.{messageTreePlace, messageTrees, messageGhosts, messageGhost, sizeLaid, inLayout}
+use Rattle.message.specs.Layout.{messageHeader, messageTreePlace, messageTrees, messageGhosts, messageGhost, sizeLaid, inLayout}
 use Rattle.message.specs.Reading.{recordCount, recordAt, remainAfter}
 use Rattle.message.specs.Calls.{readingOf}
 use Rattle.message.proofs.Layouts.{size-length, layout-size}
-use Rattle.message.proofs.Reading.{record-past, remain-past, record-tree, record-ghost, count-all, count-none, reading-refused, reading-begins}
-use Rattle.message_reader.specs.Handing.{placeAfter, beginOf, begunSeen, nextOf, handed, remains, readerAfter, row, treesOf, ghostsOf, down}
+use Rattle.message.proofs.Reading.{readTo, read-all, record-past, remain-past, record-tree, record-ghost, count-all, count-none, reading-refused, reading-begins}
+use Rattle.message_reader.specs.Handing.{beginOf, begunSeen, nextOf, handed, remains, readerAfter, row, treesOf, ghostsOf, down}
 use Rattle.message_reader.specs.declared.Begun.{Begun}
-use Rattle.message_reader.specs.declared.Reader.{Reader}
 use Rattle.message_reader.proofs.Handed.{place-next, place-last}
 use Rattle.message_reader.proofs.Stepped.{reader}
 
@@ -85,6 +85,15 @@ records-are m laid =
     let z : 0 + messageTrees m ≡ messageTrees m + 0 = omega arith in
     ap (λ n. row 0 n (recordAt m)) (count-all m laid) ∙ (row-add (messageTrees m) (messageGhosts m) 0 (recordAt m) ∙ ap₂ _++_ t (ap (λ k. row k (messageGhosts m) (recordAt m)) z ∙ p))
 
+-- one behind the other they are what `readTo` joins
+pub row-joined : (m : List ℕ) (n i : ℕ) → readTo m (i + n) ≡ readTo m i ++ flatten (row i n (recordAt m))
+unfolding readTo row flatten
+row-joined m zero i = ap (readTo m) (add-zero i) ∙ sym (append-nil (readTo m i))
+row-joined m (suc n) i =
+    let e : i + suc n ≡ i + 1 + n = omega arith in
+    let r : readTo m (i + 1) ≡ readTo m i ++ recordAt m i = ap (readTo m) (add-one i) in
+    ap (readTo m) e ∙ (row-joined m n (i + 1) ∙ (ap (λ l. l ++ flatten (row (i + 1) n (recordAt m))) r ∙ append-assoc (readTo m i) (recordAt m i) (flatten (row (i + 1) n (recordAt m)))))
+
 -- no message, no records
 count-empty : recordCount [] ≡ 0
 count-empty = either (sizeLaid []) (λ e. let l : length {A = ℕ} [] ≡ 0 = refl in absurd (omega (arith, l, size-length [] e))) (λ e. count-none [] e)
@@ -109,11 +118,21 @@ module _ (m : List ℕ) (b : Begun) (begun : begunSeen b ≡ beginOf m) where
     pub reads-begins : b .answer ≡ record { refusal = 0; length = recordCount m }
     reads-begins = answer-is ∙ (sym (reading-begins m laid refl refl) ∙ ap (λ n. record { refusal = 0; length = n }) (sym (count-all m (layout-size m laid))))
 
+    handed-all : handed (recordCount m) (b .reader) ≡ row 0 (recordCount m) (recordAt m)
+    handed-all =
+        ap (handed (recordCount m)) at-first
+        ∙ (handed-from (b .reader .message) (recordCount m) 0 (omega (arith, ap recordCount lent-is)) ∙ ap (λ l. row 0 (recordCount m) (recordAt l)) lent-is)
+
     -- the records in order, trees before ghosts
     pub reads-records : handed (recordCount m) (b .reader) ≡ treesOf m ++ ghostsOf m
-    reads-records =
-        ap (handed (recordCount m)) at-first
-        ∙ (handed-from (b .reader .message) (recordCount m) 0 (omega (arith, ap recordCount lent-is)) ∙ (ap (λ l. row 0 (recordCount m) (recordAt l)) lent-is ∙ records-are m (layout-size m laid)))
+    reads-records = handed-all ∙ records-are m (layout-size m laid)
+
+    -- every byte behind the header, once
+    pub reads-bytes : flatten (handed (recordCount m) (b .reader)) ≡ drop messageHeader m
+    unfolding readTo
+    reads-bytes =
+        let z : 0 + recordCount m ≡ recordCount m = omega arith in
+        ap flatten handed-all ∙ (sym (row-joined m (recordCount m) 0) ∙ (ap (readTo m) z ∙ read-all m (layout-size m laid)))
 
     -- one fewer remains after each, and none after the last
     pub reads-remains : remains (recordCount m) (b .reader) ≡ down (recordCount m)

@@ -19,14 +19,15 @@ use Rattle.message_reader.specs.declared.Step.{Step}
 unfoldable pub placeAfter : List ℕ → ℕ → ℕ
 placeAfter m i = cond {A = ℕ} (ltb i (recordCount m)) (i + 1) i
 
--- what a message is lent for: its records, and none where the message is refused
+-- what is lent of a message: all of it, and nothing where it is refused
 unfoldable pub lentUnless : ℕ → List ℕ → List ℕ
 lentUnless refusal m = cond (eqb refusal 0) m []
 
--- a reader is made: the answer, 11 out of layout and else how many records there are, and a reader that stands at the first of them
+-- begin: how many records there are, or 11 out of layout, and a reader at the first place; over a refused message it has no records
 unfoldable pub beginOf : List ℕ → Length × (List ℕ × ℕ)
 beginOf m = (readingOf m, (cond (inLayout m) m [], 0))
 
+-- what the code's struct says of it
 abbrev pub begunSeen : Begun → Length × (List ℕ × ℕ)
 begunSeen b = (b .answer, (now (b .reader .message), b .reader .at))
 
@@ -38,6 +39,7 @@ movedOn r = record { message = r .message; at = placeAfter (now (r .message)) (r
 unfoldable pub nextOf : Reader → List ℕ × (ℕ × Reader)
 nextOf r = (recordAt (now (r .message)) (r .at), (remainAfter (now (r .message)) (r .at), movedOn r))
 
+-- what the code's struct says of it
 abbrev pub stepSeen : Step → List ℕ × (ℕ × Reader)
 stepSeen s = (now (s .piece), (s .remain, s .reader))
 

@@ -1,5 +1,5 @@
 // A reader over a lent message: it hands out the records one by one, trees first, then ghosts.
-// No function over such a struct is covered: each takes it apart, calls covered functions and is proved by a walk.
+// The borrow checker covers no function over such a struct: each takes it apart, calls functions that are covered, and is proved by a walk of its MIR.
 ghost use mathlib.Core.Path.{_≡_};
 ghost use Rattle.message.specs.Reading.{recordAt};
 ghost use Rattle.message_reader.specs.Handing.{placeAfter, lentUnless, beginOf, begunSeen, nextOf, stepSeen, followingOf};

@@ -1,0 +1,3 @@
+-- Laws of a delivery.
+pub mod Merged
+pub mod Merging

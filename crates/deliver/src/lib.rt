@@ -1,0 +1,2 @@
+// Delivering a message into an area.
+pub mod merge;

@@ -1,2 +1,3 @@
 // Delivering a message into an area.
 pub mod merge;
+pub mod write;

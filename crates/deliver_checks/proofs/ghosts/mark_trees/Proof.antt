@@ -1,0 +1,65 @@
+use Prim.Native.Nat.{_≤_, _-_}
+use native.Mathlib.Omega.{arith}
+use Rattle.deliver_checks.specs.Mirror.{besideFirst, Marked}
+use Rattle.deliver_checks.proofs.Marking.{trees-start, trees-more, faces-fit, trees-end}
+use Rattle.deliver_checks.proofs.Checking.{layout-header, tree-room}
+use borrow.Author.Needs.{needs}
+use Rattle.deliver_checks.proofs.ghosts.mark_trees.Statement.{statement}
+use Rattle.deliver_checks.proofs.ghosts.mark_trees.Tie as tie
+
+abbrev Inv-loop : tie.InvT-loop
+Inv-loop message marks₀ count i₀ marks i = (i ≤ count) × Marked marks₀ (besideFirst message i) marks
+
+abbrev μ-loop : tie.MeasureT-loop
+μ-loop message marks₀ count i₀ marks i = count - i
+
+tree-count-requires : tie.Need-tree-count-requires Inv-loop μ-loop
+tree-count-requires c κs = layout-header _ (c .before .before .pre .laid)
+
+loop-holds : tie.Need-loop-holds Inv-loop μ-loop
+loop-holds c = (omega arith, trees-start _ _)
+
+tree-at-requires : tie.Need-tree-at-requires Inv-loop μ-loop
+tree-at-requires c κs = search needs
+
+shape-of-requires : tie.Need-shape-of-requires Inv-loop μ-loop
+shape-of-requires c κs = tree-room _ (c .before .before .before .before .before .before .pre .laid) (c .before .before .before .tree-count .ensures) (c .before .loop-test .taken) (c .tree-at .ensures)
+
+face-count-requires : tie.Need-face-count-requires Inv-loop μ-loop
+face-count-requires c κs = search needs
+
+mark-faces-requires : tie.Need-mark-faces-requires Inv-loop μ-loop
+mark-faces-requires c κs = faces-fit _ _ (c .before .before .before .tree-at .ensures) (c .before .before .shape-of .ensures) (c .before .face-count .ensures .0) (c .before .before .before .before .before .before .before .before .before .pre) (c .before .before .before .before .before .loop .inv .1) (c .before .before .before .before .before .before .tree-count .ensures) (c .before .before .before .before .loop-test .taken) (c .before .face-count .ensures .1)
+
+add-i : tie.Need-add-i Inv-loop μ-loop
+add-i c = search needs
+
+loop-less : tie.Need-loop-less Inv-loop μ-loop
+loop-less c = search needs
+
+loop-again : tie.Need-loop-again Inv-loop μ-loop
+loop-again c = (omega arith, trees-more _ _ (c .before .before .before .before .before .before .tree-at .ensures) (c .before .before .before .before .before .shape-of .ensures) (c .before .before .before .before .face-count .ensures .0) (c .before .before .before .before .before .before .before .before .loop .inv .1) (c .before .before .mark-faces .ensures))
+
+same-length : tie.Need-same-length Inv-loop μ-loop
+same-length c = c .before .loop .inv .1 .same-length
+
+returns : tie.Need-returns Inv-loop μ-loop
+returns c = trees-end _ (c .before .loop .inv .1) (c .before .before .tree-count .ensures) (c .before .loop .inv .0) (omega arith)
+
+pub mark-trees-spec : {M : Type 1} → statement M
+mark-trees-spec =
+    tie.close
+    (tie.spec
+    Inv-loop
+    μ-loop
+    tree-count-requires
+    loop-holds
+    tree-at-requires
+    shape-of-requires
+    face-count-requires
+    mark-faces-requires
+    add-i
+    loop-less
+    loop-again
+    same-length
+    returns)

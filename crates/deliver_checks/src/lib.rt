@@ -1,0 +1,139 @@
+// The checks of a delivery: whether an area takes a message.
+ghost use mathlib.Core.Path.{_≡_};
+ghost use mathlib.Core.Bool.{true};
+ghost use Prim.Native.Nat.{_+_, _≤_, _<_};
+ghost use lib.Dec.{leb, eqb};
+ghost use lib.ListN.{length};
+ghost use Rattle.encoding.specs.Below.{allBelow};
+ghost use Rattle.encoding.specs.Refusal.{firstFailed};
+ghost use Rattle.records.specs.Record.{numberOf};
+ghost use Rattle.message.specs.Layout.{messageHeader, messageSender, messageReceiver, messageGhosts, messageTreePlace, messageTree, inLayout};
+ghost use Rattle.assembly.specs.Area.{areaP, areaRank, areaGhosts, areaBound};
+ghost use Rattle.assembly.specs.Mirror.{Tabled};
+ghost use Rattle.assembly.specs.Deliver.{sameRun, senderDue, treesDue, deliverChecks};
+ghost use Rattle.deliver_checks.specs.Mirror.{Headed, Ready, dueChecks};
+
+pub mod ghosts;
+
+// Whether the message's epoch, dimension, K and P are the area's (12).
+fn same_run(area: &[u8], message: &[u8]) -> bool
+    requires { ⌜ Headed (now area) (now message) ⌝ }
+    ensures { λ r. ⌜ r ≡ sameRun (now (area .entry)) (now (message .entry)) ⌝ }
+{
+    (message::inner::epoch(message) == assembly::area::epoch(area))
+        & (message::inner::dimension(message) == assembly::area::dimension(area))
+        & (message::inner::trees_below(message) == assembly::area::trees(area))
+        & (message::inner::ranks(message) as usize == assembly::area::ranks(area))
+}
+
+// Whether the message is for the area's rank (13).
+fn receiver_is(area: &[u8], message: &[u8]) -> bool
+    requires { ⌜ Headed (now area) (now message) ⌝ }
+    ensures { λ r. ⌜ r ≡ eqb (messageReceiver (now (message .entry))) (areaRank (now (area .entry))) ⌝ }
+{
+    message::inner::receiver(message) as usize == assembly::area::rank(area)
+}
+
+// Whether the sender is in the receive set (14).
+fn sender_due(area: &[u8], old: &[u8], new: &[u8], message: &[u8]) -> bool
+    requires { ⌜ Tabled (now area) (now old) (now new) × (messageHeader ≤ length (now message)) ⌝ }
+    ensures { λ r. ⌜ r ≡ senderDue (now (area .entry)) (now (message .entry)) ⌝ }
+{
+    let sender = message::inner::sender(message) as usize;
+    if assembly::area::ranks(area) <= sender {
+        return false;
+    }
+    pattern::inner::sends_some(old, new, sender, assembly::area::rank(area))
+}
+
+// Whether the message's trees have the numbers from `first` on.
+fn trees_from(message: &[u8], first: u32, count: u32) -> bool
+    requires { ⌜ messageTreePlace count ≤ length (now message) ⌝ }
+    ensures { λ r. ⌜ r ≡ allBelow count (λ i. eqb (numberOf (messageTree (now (message .entry)) i)) (first + i)) ⌝ }
+{
+    let mut i = 0;
+    while i < count {
+        let number = records::number_of(message, message::inner::tree_at(i));
+        if number as u64 != (first as u64) + (i as u64) {
+            return false;
+        }
+        i += 1;
+    }
+    true
+}
+
+// Whether the trees are exactly the range due (16).
+fn trees_due(area: &[u8], old: &[u8], new: &[u8], message: &[u8]) -> bool
+    requires { ⌜ Tabled (now area) (now old) (now new) × (inLayout (now message) ≡ true) × (messageSender (now message) < areaP (now area)) ⌝ }
+    ensures { λ r. ⌜ r ≡ treesDue (now (area .entry)) (now (message .entry)) ⌝ }
+{
+    let sender = message::inner::sender(message) as usize;
+    let sent = pattern::inner::sent(old, new, sender, assembly::area::rank(area));
+    let first = sent.first;
+    let count = sent.count;
+    if message::inner::tree_count(message) != count {
+        return false;
+    }
+    trees_from(message, first, count)
+}
+
+// Whether the area has slots for the message's ghosts (19).
+fn has_room(area: &[u8], message: &[u8]) -> bool
+    requires { ⌜ Headed (now area) (now message) ⌝ }
+    ensures { λ r. ⌜ r ≡ leb (areaGhosts (now (area .entry)) + messageGhosts (now (message .entry))) (areaBound (now (area .entry))) ⌝ }
+{
+    let held = assembly::area::ghosts(area) as u64;
+    let ghosts = message::inner::ghost_count(message) as u64;
+    let count = assembly::area::count(area);
+    held + ghosts <= assembly::place::ghost_bound(assembly::area::dimension(area), count)
+}
+
+// The checks from the sender's on (14 to 19): 0 or the refusal.
+fn due_refusal(area: &[u8], old: &[u8], new: &[u8], message: &[u8]) -> u32
+    requires { ⌜ Tabled (now area) (now old) (now new) × Ready (now area) (now message) ⌝ }
+    ensures { λ r. ⌜ r ≡ firstFailed (dueChecks (now (area .entry)) (now (message .entry))) ⌝ }
+{
+    if !sender_due(area, old, new, message) {
+        return 14;
+    }
+    if assembly::area::heard(area, message::inner::sender(message) as usize) {
+        return 15;
+    }
+    if !trees_due(area, old, new, message) {
+        return 16;
+    }
+    if !ghosts::ghosts_due(area, new, message) {
+        return 17;
+    }
+    if !ghosts::ghosts_new(area, message) {
+        return 18;
+    }
+    if !has_room(area, message) {
+        return 19;
+    }
+    0
+}
+
+// Whether a sound area takes a message (10 to 19): 0 or the refusal.
+pub fn refusal(area: &[u8], message: &[u8]) -> u32
+    ensures { λ r. ⌜ r ≡ firstFailed (deliverChecks (now (area .entry)) (now (message .entry))) ⌝ }
+{
+    if !assembly::area::area_sound(area) {
+        return 10;
+    }
+    if !message::inner::in_layout(message) {
+        return 11;
+    }
+    if !same_run(area, message) {
+        return 12;
+    }
+    if !receiver_is(area, message) {
+        return 13;
+    }
+    let ranks = assembly::area::ranks(area);
+    let middle = assembly::place::new_place(ranks);
+    let end = assembly::place::words_place(ranks);
+    let old = &area[32..middle];
+    let new = &area[middle..end];
+    due_refusal(area, old, new, message)
+}

@@ -75,7 +75,6 @@ module _ (a m : List ℕ) (b : Bytes a) (A : Accepted a m) where
         size = layout-parts m (A .layout-ok) .size;
         fit = A .ghosts-fit;
         few = bound-few;
-        sender-bit = omega (arith, p-below, H .ranksHigh);
         sender-below = p-below;
         some = n;
         count-is = c;
@@ -111,7 +110,8 @@ placed a m F {P} {n} {words} {sender} {slots} {trees} {ghosts} {held} {came} e1 
     let gp = ghosts-place-is (areaP a) (areaCount a) in
     let w : words ≡ wordsPlace (areaP a) = e3 ∙ ap wordsPlace e1 in
     let g : ghosts ≡ ghostSlotsPlace (areaP a) (areaCount a) = e7 ∙ ap₂ ghostSlotsPlace e1 e2 in
-    let bit = F .sender-bit in
+    let few = H .ranksHigh in
+    let below = F .sender-below in
     let low = F .low in
     let high = F .high in
     let fit = F .fit in

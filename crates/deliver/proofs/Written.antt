@@ -24,7 +24,7 @@ use Rattle.pattern.proofs.Sets.{one-range, sent-in}
 use Rattle.message.specs.Layout.{messageSender, messageTrees, messageGhosts, messageGhostPlace, messageGhost}
 use Rattle.assembly.specs.Layout.{heardWords, wordsPlace, slotsPlace, ghostSlotsPlace, wordOf, slotsOf, areaWith}
 use Rattle.assembly.specs.Area.{areaEpoch, areaDimension, areaK, areaP, areaRank, areaCount, areaGhosts, areaOld, areaNew, areaFirst, heard, treeSlot, ghostSlot, behindArea}
-use Rattle.assembly.specs.Deliver.{deliverChecks, slotAfter, ghostsAfter, delivered}
+use Rattle.assembly.specs.Deliver.{deliverChecks, slotAfter, ghostsAfter, delivered, deliverOf}
 use Rattle.assembly.specs.Mirror.{fromFirst, fromPlace, coreAt}
 use Rattle.assembly.proofs.Headers.{words-place-is, slots-place-is, ghosts-place-is}
 use Rattle.assembly.proofs.Slots.{range-trees}
@@ -206,7 +206,8 @@ module _ (a m : List ℕ) (b : Bytes a) (A : Accepted a m) (F : Ready a m) where
         let wp = words-place-is (areaP a) in
         let sp = slots-place-is (areaP a) in
         let gp = ghosts-place-is (areaP a) (areaCount a) in
-        let sb = F .sender-bit in
+        let few = F .holds .ranksHigh in
+        let below = F .sender-below in
         let low = F .low in
         let high = F .high in
         let lc = came-long in
@@ -242,3 +243,14 @@ delivery-done a m b e F {trees = trees} P e1 e2 e3 e4 =
     let n : 32 + 64 * trees - 32 ≡ treeSize * messageTrees m = omega (arith, P .is-trees) in
     let f : 32 + 64 * trees ≡ 32 + treeSize * messageTrees m = omega (arith, P .is-trees) in
     delivery-written a m b (accepted-parts a m e) F (rw (P .is-words, P .is-sender) at e1) (rw (P .is-slots, n) at e2) f (rw (P .is-ghosts, P .is-held, P .is-came) at e3) (rw (P .is-held, P .is-came) at e4)
+
+-- ---- the call
+
+module _ (a m : List ℕ) {r : ℕ} (checked : r ≡ firstFailed (deliverChecks a m)) where
+  pub deliver-refused : (r ≡ 0 → ⊥) → (r, a) ≡ deliverOf a m
+  unfolding deliverOf
+  deliver-refused n = rw (← checked, ne-eqb r 0 n)
+
+  pub deliver-accepted : r ≡ 0 → {last : List ℕ} → last ≡ delivered a m → (0, last) ≡ deliverOf a m
+  unfolding deliverOf
+  deliver-accepted z e = rw (← checked, z, e)

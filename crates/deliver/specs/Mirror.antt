@@ -47,7 +47,6 @@ pub record Ready (a m : List ℕ) : Type 0 where
   pub size : length m ≡ 32 + (treeSize * messageTrees m + coreSize * messageGhosts m)
   pub fit : areaGhosts a + messageGhosts m ≤ areaBound a
   pub few : areaBound a < 4294967296
-  pub sender-bit : messageSender m < 1024
   pub sender-below : messageSender m < areaP a
   pub some : 0 < messageTrees m
   pub count-is : messageTrees m ≡ fromCount a (messageSender m)

@@ -1,0 +1,71 @@
+use Rattle.deliver.proofs.Ready.{first-read, trees-placed}
+use Rattle.assembly.proofs.Headers.{tabled}
+use native.Mathlib.Omega.{arith}
+use borrow.Author.Needs.{needs}
+use Rattle.deliver.proofs.write.trees_place.Statement.{statement}
+use Rattle.deliver.proofs.write.trees_place.Tie as tie
+
+ranks-requires : tie.Need-ranks-requires
+ranks-requires c κs = search needs
+
+new-place-requires : tie.Need-new-place-requires
+new-place-requires c κs = search needs
+
+words-place-requires : tie.Need-words-place-requires
+words-place-requires c κs = search needs
+
+sub-new : tie.Need-sub-new
+sub-new c = search needs
+
+part-new-start : tie.Need-part-new-start
+part-new-start c = search needs
+
+part-new-end : tie.Need-part-new-end
+part-new-end c = search needs
+
+rank-requires : tie.Need-rank-requires
+rank-requires c κs = search needs
+
+first-tree-requires : tie.Need-first-tree-requires
+first-tree-requires c κs = search needs
+
+number-of-requires : tie.Need-number-of-requires
+number-of-requires c κs = search needs
+
+cast-sent : tie.Need-cast-sent
+cast-sent c = search needs
+
+slots-place-requires : tie.Need-slots-place-requires
+slots-place-requires c κs = search needs
+
+sub-result : tie.Need-sub-result
+sub-result c = omega (arith, c .before .number-of .ensures, first-read (tabled _ (c .before .before .before .before .before .before .before .ranks .ensures) (c .before .before .before .before .before .before .new-place .ensures .0) (c .before .before .before .before .before .words-place .ensures .0) (c .before .before .before .before .before .before .before .before .before .before .pre .holds)) (c .before .before .before .rank .ensures) (c .before .before .first-tree .ensures))
+
+mul-result : tie.Need-mul-result
+mul-result c = search needs
+
+add-result : tie.Need-add-result
+add-result c = search needs
+
+returns : tie.Need-returns
+returns c = trees-placed _ _ (c .before .before .before .before .before .before .before .before .before .before .pre) (c .before .before .before .before .before .before .before .ranks .ensures) (c .slots-place .ensures .0) (first-read (tabled _ (c .before .before .before .before .before .before .before .ranks .ensures) (c .before .before .before .before .before .before .new-place .ensures .0) (c .before .before .before .before .before .words-place .ensures .0) (c .before .before .before .before .before .before .before .before .before .before .pre .holds)) (c .before .before .before .rank .ensures) (c .before .before .first-tree .ensures)) (c .before .number-of .ensures)
+
+pub trees-place-spec : {M : Type 1} → statement M
+trees-place-spec =
+    tie.close
+    (tie.spec
+    ranks-requires
+    new-place-requires
+    words-place-requires
+    sub-new
+    part-new-start
+    part-new-end
+    rank-requires
+    first-tree-requires
+    number-of-requires
+    cast-sent
+    slots-place-requires
+    sub-result
+    mul-result
+    add-result
+    returns)

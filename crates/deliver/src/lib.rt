@@ -1,0 +1,18 @@
+// Delivering a message into an area.
+ghost use mathlib.Core.Path.{_≡_};
+ghost use Rattle.assembly.specs.Deliver.{deliverOf};
+
+pub mod merge;
+pub mod write;
+
+// Deliver a message (10 to 19): 0 or the refusal.
+pub fn deliver(area: &mut [u8], message: &[u8]) -> u32
+    ensures { λ r. ⌜ (r, now (area .exit)) ≡ deliverOf (now (area .entry)) (now (message .entry)) ⌝ }
+{
+    let refusal = deliver_checks::refusal(&*area, message);
+    if refusal != 0 {
+        return refusal;
+    }
+    write::write_delivery(&mut *area, message);
+    0
+}

@@ -1,0 +1,3 @@
+// Building a message from a part.
+pub mod index;
+pub mod write;

@@ -4,14 +4,17 @@ use mathlib.Core.Path.{_≡_}
 use mathlib.Core.Bool.{Bool, true, cond}
 use mathlib.Core.List.{List, [], _++_}
 use lib.ListN.{length}
+use Rattle.encoding.specs.Below.{countBelow}
 use Rattle.encoding.specs.Pieces.{piece}
+use Rattle.bits.specs.Bits.{inSet}
+use Rattle.offsets.specs.Limits.{maxTrees}
 use Rattle.records.specs.Shape.{facesIn}
 use Rattle.records.specs.Record.{coreSize, treeSize}
 use Rattle.records.specs.Links.{rowsOf, withRows}
-use Rattle.part.specs.Layout.{treePlace, partSize}
-use Rattle.part.specs.Cut.{renamed}
-use Rattle.part.specs.Part.{partDimension, partCount, partGhostCount, globalIndex}
-use Rattle.part.specs.Mirror.{rowsWith}
+use Rattle.part.specs.Layout.{ghostPlace, partSize}
+use Rattle.part.specs.Part.{partDimension, partFirst, partCount, partGhostCount, globalIndex, partHolds, partCore}
+use Rattle.part.specs.Mirror.{Ascending, rowsWith}
+use Rattle.message.specs.Layout.{messageHeader}
 
 -- what stands in the header of a part, and its length
 pub record Opened (part : List ℕ) (count ghosts : ℕ) : Type 0 where
@@ -29,3 +32,47 @@ pub record RecordRoom (part out : List ℕ) (count ghosts faces size from to : �
 -- the core at byte `to` with the links of the record at byte `from`, as global numbers
 unfoldable pub globalLinks : List ℕ → ℕ → ℕ → List ℕ → List ℕ
 globalLinks part F from r = withRows (rowsWith (globalIndex part) (rowsOf (piece part from coreSize) F)) F r
+
+-- and what else is known of a sound part where its records are looked for by number
+pub record Searchable (part : List ℕ) (count ghosts faces first : ℕ) : Type 0 where
+  pub opened : Opened part count ghosts
+  pub faced : 0 < faces
+  pub isFaces : faces ≡ facesIn (partDimension part)
+  pub isFirst : first ≡ partFirst part
+  pub small : first + count ≤ maxTrees
+  pub ascending : Ascending part (ghostPlace count 0) ghosts
+
+-- ---- trees
+
+-- n records from r low on
+unfoldable pub recordsFrom : (ℕ → List ℕ) → ℕ → ℕ → List ℕ
+recordsFrom r low zero = []
+recordsFrom r low (suc n) = recordsFrom r low n ++ r (low + n)
+
+-- n trees of the part from low on, and room for them
+pub record TreesRoom (part out : List ℕ) (count ghosts faces first low n : ℕ) : Type 0 where
+  pub known : Searchable part count ghosts faces first
+  pub inside : (k : ℕ) → low ≤ k → k < low + n → (first ≤ k) × (k < first + count)
+  pub within : low + n ≤ maxTrees
+  pub room : messageHeader + treeSize * n ≤ length out
+
+-- ---- ghosts
+
+-- the cores of those below k that pass f, ascending
+unfoldable pub coresBelow : (ℕ → List ℕ) → (ℕ → Bool) → ℕ → List ℕ
+coresBelow core f zero = []
+coresBelow core f (suc k) = coresBelow core f k ++ cond (f k) (core k) []
+
+-- a record that the part holds, and room for its core
+pub record GhostRoom (part out : List ℕ) (count ghosts faces first k to : ℕ) : Type 0 where
+  pub known : Searchable part count ghosts faces first
+  pub has : partHolds part k ≡ true
+  pub target : to + coreSize ≤ length out
+
+-- a set of records that the part holds, and room for their cores
+pub record GhostsRoom (part marks out : List ℕ) (count ghosts faces first at : ℕ) : Type 0 where
+  pub known : Searchable part count ghosts faces first
+  pub words : length marks ≤ 16384
+  pub has : (k : ℕ) → inSet marks k ≡ true → partHolds part k ≡ true
+  pub long : (k : ℕ) → inSet marks k ≡ true → length (partCore part k) ≡ coreSize
+  pub room : at + coreSize * countBelow (64 * length marks) (inSet marks) ≤ length out

@@ -1,14 +1,21 @@
 // Writing a message: the header, the trees, the ghosts.
 ghost use mathlib.Core.Path.{_≡_};
-ghost use Prim.Native.Nat.{_≤_};
+ghost use Prim.Native.Nat.{_*_, _≤_};
 ghost use lib.ListN.{length};
+ghost use Rattle.encoding.specs.Below.{countBelow};
 ghost use Rattle.encoding.specs.Pieces.{piece, splice};
 ghost use Rattle.records.specs.Record.{coreSize, treeSize};
 ghost use Rattle.part.specs.Cut.{renamed};
-ghost use Rattle.part.specs.Part.{globalIndex};
+ghost use Rattle.part.specs.Part.{globalIndex, partCore};
+ghost use Rattle.bits.specs.Bits.{inSet};
+ghost use Rattle.message.specs.Build.{partRecord};
 ghost use Rattle.message.specs.Layout.{messageHeader, messageHeaderBytes};
-ghost use Rattle.message_build.specs.Mirror.{RecordRoom, globalLinks};
+ghost use Rattle.message_build.specs.Mirror.{RecordRoom, globalLinks, recordsFrom, TreesRoom, coresBelow, GhostRoom, GhostsRoom};
 use crate::index::global_rows;
+use part::cut::find_ghost;
+use part::inner::in_range;
+use part::sound::ghost_at;
+use part::sound::tree_at;
 
 pub fn write_header(
     out: &mut [u8],
@@ -84,4 +91,104 @@ fn write_core(
 {
     encoding::record::copy40(part, from, &mut *out, to);
     put_links(part, count, ghosts, faces, from, &mut *out, to);
+}
+
+// Writes n trees from `low` on behind the header. `first` is the part's first tree.
+pub fn write_trees(
+    part: &[u8],
+    count: u32,
+    ghosts: u32,
+    faces: u32,
+    first: u32,
+    low: u32,
+    n: u32,
+    out: &mut [u8],
+)
+    requires { ⌜ TreesRoom (now part) (now out) count ghosts faces first low n ⌝ }
+    ensures { λ u. ⌜ now (out .exit) ≡ splice (now (out .entry)) messageHeader (recordsFrom (partRecord (now (part .entry))) low n) ⌝ }
+{
+    let end = low + n;
+    let mut to = 32;
+    let mut k = low;
+    while k < end {
+        write_tree(
+            part,
+            count,
+            ghosts,
+            faces,
+            tree_at(k - first),
+            &mut *out,
+            to,
+        );
+        to += 64;
+        k += 1;
+    }
+}
+
+// Writes the core of the record with number k, a tree of the part or one of its ghosts.
+fn write_ghost(
+    part: &[u8],
+    count: u32,
+    ghosts: u32,
+    faces: u32,
+    first: u32,
+    k: u32,
+    out: &mut [u8],
+    to: usize,
+)
+    requires { ⌜ GhostRoom (now part) (now out) count ghosts faces first k to ⌝ }
+    ensures { λ u. ⌜ now (out .exit) ≡ splice (now (out .entry)) to (partCore (now (part .entry)) k) ⌝ }
+{
+    if in_range(first, first + count, k) {
+        write_core(
+            part,
+            count,
+            ghosts,
+            faces,
+            tree_at(k - first),
+            &mut *out,
+            to,
+        );
+        return;
+    }
+    let position = find_ghost(part, ghost_at(count, 0), ghosts, k);
+    encoding::record::copy40(part, ghost_at(count, position), &mut *out, to);
+}
+
+// How many members a set has, by the ones in its words.
+pub fn member_count(marks: &[u64]) -> u32
+    requires { ⌜ length (now marks) ≤ 16384 ⌝ }
+    ensures { λ r. ⌜ r ≡ countBelow (64 * length (now (marks .entry))) (inSet (now (marks .entry))) ⌝ }
+{
+    let mut count = 0;
+    let mut i = 0;
+    while i < marks.len() {
+        count += bits::ones(marks[i]);
+        i += 1;
+    }
+    count
+}
+
+// Writes the cores of a set from byte `at` on, ascending.
+pub fn write_ghosts(
+    part: &[u8],
+    count: u32,
+    ghosts: u32,
+    faces: u32,
+    first: u32,
+    marks: &[u64],
+    out: &mut [u8],
+    at: usize,
+)
+    requires { ⌜ GhostsRoom (now part) (now marks) (now out) count ghosts faces first at ⌝ }
+    ensures { λ u. ⌜ now (out .exit) ≡ splice (now (out .entry)) at (coresBelow (partCore (now (part .entry))) (inSet (now (marks .entry))) (64 * length (now (marks .entry)))) ⌝ }
+{
+    let end = 64 * (marks.len() as u32);
+    let mut to = at;
+    let mut k = bits::next_member(marks, 0);
+    while k < end {
+        write_ghost(part, count, ghosts, faces, first, k, &mut *out, to);
+        to += 40;
+        k = bits::next_member(marks, k + 1);
+    }
 }

@@ -2,3 +2,4 @@
 pub mod Writing
 pub mod Trees
 pub mod Ghosts
+pub mod Whole

@@ -39,7 +39,7 @@ module _ (part : List ℕ) (count ghosts faces first low n : ℕ) (out₀ : List
       let p : length (piece part (treePlace (k - first)) treeSize) ≡ treeSize = piece-length part (treePlace (k - first)) treeSize (source k h l) in
       ap length (sym (record-is k)) ∙ rows-length _ faces (piece part (treePlace (k - first)) treeSize) (omega arith) ∙ p
 
-  records-long : (m : ℕ) → m ≤ n → length (recordsFrom (partRecord part) low m) ≡ treeSize * m
+  pub records-long : (m : ℕ) → m ≤ n → length (recordsFrom (partRecord part) low m) ≡ treeSize * m
   unfolding recordsFrom
   records-long zero h = refl
   records-long (suc m) h = rw (length-append, records-long m (omega arith), record-long (low + m) (omega arith) (omega arith)) (omega arith)

@@ -1,5 +1,6 @@
 // Writing a message: the header, the trees, the ghosts.
 ghost use mathlib.Core.Path.{_≡_};
+ghost use mathlib.Core.List.{_++_};
 ghost use Prim.Native.Nat.{_*_, _≤_};
 ghost use lib.ListN.{length};
 ghost use Rattle.encoding.specs.Below.{countBelow};
@@ -8,9 +9,9 @@ ghost use Rattle.records.specs.Record.{coreSize, treeSize};
 ghost use Rattle.part.specs.Cut.{renamed};
 ghost use Rattle.part.specs.Part.{globalIndex, partCore};
 ghost use Rattle.bits.specs.Bits.{inSet};
-ghost use Rattle.message.specs.Build.{partRecord};
+ghost use Rattle.message.specs.Build.{partRecord, partMessage};
 ghost use Rattle.message.specs.Layout.{messageHeader, messageHeaderBytes};
-ghost use Rattle.message_build.specs.Mirror.{RecordRoom, globalLinks, recordsFrom, TreesRoom, coresBelow, GhostRoom, GhostsRoom};
+ghost use Rattle.message_build.specs.Mirror.{RecordRoom, globalLinks, recordsFrom, TreesRoom, coresBelow, GhostRoom, GhostsRoom, RecordsRoom, MessageRoom};
 use crate::index::global_rows;
 use part::cut::find_ghost;
 use part::inner::in_range;
@@ -191,4 +192,43 @@ pub fn write_ghosts(
         to += 40;
         k = bits::next_member(marks, k + 1);
     }
+}
+
+// Writes the records of a message behind its header: n trees from `low` on, and the ghosts of the set.
+pub fn write_records(part: &[u8], low: u32, n: u32, marks: &[u64], out: &mut [u8])
+    requires { ⌜ RecordsRoom (now part) (now marks) (now out) low n ⌝ }
+    ensures { λ u. ⌜ now (out .exit) ≡ splice (now (out .entry)) messageHeader (recordsFrom (partRecord (now (part .entry))) low n ++ coresBelow (partCore (now (part .entry))) (inSet (now (marks .entry))) (64 * length (now (marks .entry)))) ⌝ }
+{
+    let count = part::sound::tree_count(part);
+    let ghosts = part::sound::ghost_count(part);
+    let first = part::sound::first_tree(part);
+    let faces = records::faces_in(part::sound::dimension(part));
+    let at = 32 + 64 * (n as usize);
+    write_trees(part, count, ghosts, faces, first, low, n, &mut *out);
+    write_ghosts(part, count, ghosts, faces, first, marks, &mut *out, at);
+}
+
+// Writes the message from p's part to q, given the ghosts that go.
+pub fn write_message(
+    part: &[u8],
+    old: &[u8],
+    new: &[u8],
+    p: u32,
+    q: u32,
+    epoch: u32,
+    marks: &[u64],
+    out: &mut [u8],
+)
+    requires { ⌜ MessageRoom (now part) (now old) (now new) p q epoch (now marks) (now out) ⌝ }
+    ensures { λ u. ⌜ now (out .exit) ≡ splice (now (out .entry)) 0 (partMessage (now (part .entry)) (now (old .entry)) (now (new .entry)) p q epoch) ⌝ }
+{
+    let dimension = part::sound::dimension(part);
+    let trees = part::sound::trees(part);
+    let ranks = offsets::inner::ranks(old) as u32;
+    let sent = pattern::inner::sent(old, new, p as usize, q as usize);
+    let low = sent.first;
+    let n = sent.count;
+    let g = member_count(marks);
+    write_header(&mut *out, epoch, dimension, trees, ranks, p, q, n, g);
+    write_records(part, low, n, marks, &mut *out);
 }

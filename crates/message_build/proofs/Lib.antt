@@ -3,3 +3,4 @@ pub mod Writing
 pub mod Trees
 pub mod Ghosts
 pub mod Whole
+pub mod Answers

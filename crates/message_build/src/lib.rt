@@ -1,3 +1,4 @@
 // Building a message from a part.
 pub mod index;
+pub mod inner;
 pub mod write;

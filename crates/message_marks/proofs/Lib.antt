@@ -1,0 +1,5 @@
+-- Laws, for this crate's proofs.
+pub mod Going
+pub mod Records
+pub mod Reading
+pub mod Marking

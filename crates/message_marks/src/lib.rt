@@ -1,0 +1,77 @@
+// Which ghosts go with a message, as a set of numbers.
+ghost use mathlib.Core.Path.{_≡_};
+ghost use Prim.Native.Nat.{_+_, _<_};
+ghost use lib.ListN.{length};
+ghost use Rattle.records.specs.Shape.{faceCount};
+ghost use Rattle.records.specs.Record.{shapeOf};
+ghost use Rattle.part.specs.Part.{partFirst, partCore};
+ghost use Rattle.message_marks.specs.Mirror.{markWords, Blank, Marks, Added, Sending, AtTree, goesAcross, goesBeside};
+use records::index::GlobalIndex;
+use records::index::to_local;
+
+mod read;
+mod rule;
+
+// Marks what is across a face of tree i, if it goes.
+fn mark_face(
+    part: &[u8],
+    old: &[u8],
+    new: &[u8],
+    p: usize,
+    q: usize,
+    count: u32,
+    i: u32,
+    face: u32,
+    marks: &mut [u64],
+)
+    requires { ⌜ AtTree (now part) (now old) (now new) p q count i × (face < faceCount (shapeOf (partCore (now part) (partFirst (now part) + i)))) × (length (now marks) ≡ markWords) ⌝ }
+    ensures { λ u. ⌜ Added (now (marks .entry)) (now (marks .exit)) (goesAcross (now (part .entry)) (now (old .entry)) (now (new .entry)) p q (partFirst (now (part .entry)) + i) face) ⌝ }
+{
+    let j = records::neighbour_of(part, part::sound::tree_at(i), face);
+    let number = read::number_at(part, count, j);
+    if rule::goes(part, old, new, p, q, count, j, number) {
+        bits::add_member(&mut *marks, number);
+    }
+}
+
+// Marks what is across the faces of tree i and goes.
+fn mark_tree(
+    part: &[u8],
+    old: &[u8],
+    new: &[u8],
+    p: usize,
+    q: usize,
+    count: u32,
+    i: u32,
+    marks: &mut [u64],
+)
+    requires { ⌜ AtTree (now part) (now old) (now new) p q count i × (length (now marks) ≡ markWords) ⌝ }
+    ensures { λ u. ⌜ Added (now (marks .entry)) (now (marks .exit)) (goesBeside (now (part .entry)) (now (old .entry)) (now (new .entry)) p q (partFirst (now (part .entry)) + i) (faceCount (shapeOf (partCore (now (part .entry)) (partFirst (now (part .entry)) + i))))) ⌝ }
+{
+    let faces = records::face_count(records::shape_of(part, part::sound::tree_at(i)));
+    let mut face = 0;
+    while face < faces {
+        mark_face(part, old, new, p, q, count, i, face, &mut *marks);
+        face += 1;
+    }
+}
+
+// Marks the ghosts that go with p's message to q. The time is that for the trees sent and their neighbours, not for the part.
+pub fn mark_ghosts(part: &[u8], old: &[u8], new: &[u8], p: u32, q: u32, marks: &mut [u64])
+    requires { ⌜ Sending (now part) (now old) (now new) p q × Blank (now marks) ⌝ }
+    ensures { λ u. ⌜ Marks (now (part .entry)) (now (old .entry)) (now (new .entry)) p q (now (marks .exit)) ⌝ }
+{
+    let from = p as usize;
+    let to = q as usize;
+    let own = part::sound::first_tree(part);
+    let count = part::sound::tree_count(part);
+    let sent = pattern::inner::sent(old, new, from, to);
+    let first = sent.first;
+    let n = sent.count;
+    let mut i = 0;
+    while i < n {
+        let tree = to_local(GlobalIndex(first + i), GlobalIndex(own));
+        mark_tree(part, old, new, from, to, count, tree.0, &mut *marks);
+        i += 1;
+    }
+}

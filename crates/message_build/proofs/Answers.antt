@@ -5,23 +5,43 @@ use mathlib.Core.Path.{_≡_, refl, sym, ap, _∙_}
 use mathlib.Core.Bool.{Bool, true, false, cond, _&&_}
 use mathlib.Core.List.{List, [], _∷_, _++_}
 use lib.Dec.{leb, ltb, eqb}
-use lib.ListN.{length}
+use lib.ListN.{length, replicate, length-replicate}
 use borrow.Author.Tests.{ltb-true, eqb-true, lt-ltb, le-ltb, eq-eqb, ne-eqb, le-leb, lt-leb}
+use Rattle.encoding.specs.Below.{countBelow}
 use Rattle.encoding.specs.Pieces.{splice, Bytes}
 use Rattle.encoding.specs.Refusal.{check, firstFailed}
 use Rattle.encoding.specs.Answer.{lengthAnswer, lengthRefused, written, writeAnswer}
 use Rattle.encoding.proofs.Below.{either, clash, and-fst, and-snd}
+use Rattle.bits.specs.Bits.{inSet}
+use Rattle.bits.proofs.Bits.{in-none}
 use Rattle.offsets.specs.Table.{ranks, ranksOk, trees, valid}
 use Rattle.pattern.specs.Calls.{tableChecks}
 use Rattle.pattern.specs.Mirror.{PairOf}
-use Rattle.pattern.specs.Sender.{Tables}
+use Rattle.pattern.specs.Sender.{Tables, sentCount}
 use Rattle.pattern.specs.Sets.{sendsTo}
 use Rattle.pattern.proofs.Answers.{tables-agree}
 use Rattle.part.specs.Part.{partSound}
 use Rattle.part.specs.Mirror.{RankKnown}
 use Rattle.message.specs.Build.{partMessage}
 use Rattle.message.specs.Calls.{buildChecks, messageLengthOf, buildMessageOf}
-use Rattle.message_build.specs.Mirror.{Buildable}
+use Rattle.message.specs.Layout.{messageSize}
+use Rattle.message_marks.specs.Mirror.{Blank, Sending, Marks}
+use Rattle.message_build.specs.Mirror.{MessageRoom}
+use Rattle.message_build.proofs.Whole.{count-is, built-length}
+
+-- ---- the ghosts that go
+
+-- a set of zeros has no member
+pub blank : (n : ℕ) → n ≡ 16384 → Blank (replicate n 0)
+blank n e = record { long = length-replicate {A = ℕ} n 0 ∙ e; none = in-none n }
+
+module _ (part old new : List ℕ) (p q : ℕ) (from : Sending part old new p q) (marks : List ℕ) (ghosts : Marks part old new p q marks) (epoch : ℕ) where
+  -- the size counted is the message's length
+  pub size-is : {n : ℕ} → n ≡ messageSize (sentCount old new p q) (countBelow (64 * length marks) (inSet marks)) → n ≡ length (partMessage part old new p q epoch)
+  size-is e = e ∙ ap (messageSize (sentCount old new p q)) (count-is part old new p q from marks ghosts) ∙ sym (built-length part old new p q from epoch)
+
+  pub message-room : (out : List ℕ) {n : ℕ} → n ≡ messageSize (sentCount old new p q) (countBelow (64 * length marks) (inSet marks)) → n ≤ length out → MessageRoom part old new p q epoch marks out
+  message-room out e h = record { from = from; ghosts = ghosts; room = omega (arith, size-is e) }
 
 -- ---- the checks
 
@@ -95,8 +115,8 @@ module _ (part old new : List ℕ) (p q : ℕ) where
               none-fails h = rw (checked, ← tables, ok, ← is-P, lt-ltb p P sender, lt-ltb q P receiver, ← is-s, sound, ← is-t, h)
 
   -- what holds where no check fails
-  pub buildable : {r : ℕ} → r ≡ firstFailed (buildChecks part old new p q) → Bytes old → Bytes new → r ≡ 0 → Buildable part old new p q
-  buildable e b b' z =
+  pub may-send : {r : ℕ} → r ≡ firstFailed (buildChecks part old new p q) → Bytes old → Bytes new → r ≡ 0 → Sending part old new p q
+  may-send e b b' z =
       let h = all-hold tablesFailed ranksBelow (partSound part old p) (sendsTo old new p q) (sym checked ∙ sym e ∙ z) in
       record {
         pair = record {

@@ -17,7 +17,7 @@ use Rattle.message.specs.Layout.{messageHeader}
 use Rattle.message_build.specs.Mirror.{Opened, RecordRoom, Searchable, recordsFrom, TreesRoom}
 
 -- the loop: the trees before k are written, and the next goes to byte to
-pub record Sending (part : List ℕ) (low n : ℕ) (out₀ : List ℕ) (to k : ℕ) (out : List ℕ) : Type 0 where
+pub record TreesSent (part : List ℕ) (low n : ℕ) (out₀ : List ℕ) (to k : ℕ) (out : List ℕ) : Type 0 where
   pub begun : low ≤ k
   pub within : k ≤ low + n
   pub place : to ≡ messageHeader + treeSize * (k - low)
@@ -44,13 +44,13 @@ module _ (part : List ℕ) (count ghosts faces first low n : ℕ) (out₀ : List
   records-long zero h = refl
   records-long (suc m) h = rw (length-append, records-long m (omega arith), record-long (low + m) (omega arith) (omega arith)) (omega arith)
 
-  pub trees-start : Sending part low n out₀ messageHeader low out₀
+  pub trees-start : TreesSent part low n out₀ messageHeader low out₀
   unfolding recordsFrom
   trees-start =
       let z : low - low ≡ 0 = omega arith in
       record { begun = omega arith; within = omega arith; place = rw z; same-length = refl; written = rw z (sym (splice-none out₀ messageHeader)) }
 
-  module _ {to k : ℕ} {out : List ℕ} (so-far : Sending part low n out₀ to k out) (more : k < low + n) where
+  module _ {to k : ℕ} {out : List ℕ} (so-far : TreesSent part low n out₀ to k out) (more : k < low + n) where
     pub tree-from : first ≤ k
     tree-from = room .inside k (so-far .begun) more .0
 
@@ -70,7 +70,7 @@ module _ (part : List ℕ) (count ghosts faces first low n : ℕ) (out₀ : List
         let b : low + (k - low) ≡ k = omega (arith, so-far .begun) in
         rw (a, b)
 
-    pub trees-next : {from : ℕ} {last : List ℕ} → from ≡ treePlace (k - first) → last ≡ splice out to (renamed (globalIndex part) faces (piece part from treeSize)) → Sending part low n out₀ (to + treeSize) (k + 1) last
+    pub trees-next : {from : ℕ} {last : List ℕ} → from ≡ treePlace (k - first) → last ≡ splice out to (renamed (globalIndex part) faces (piece part from treeSize)) → TreesSent part low n out₀ (to + treeSize) (k + 1) last
     trees-next {from} {last} e p =
         let m : ℕ = k - low in
         let W : List ℕ = recordsFrom (partRecord part) low m in
@@ -87,7 +87,7 @@ module _ (part : List ℕ) (count ghosts faces first low n : ℕ) (out₀ : List
           written = splice-then out₀ messageHeader (treeSize * m) W R b (omega (arith, room .room, so-far .begun)) (so-far .written) (q ∙ ap (λ (o : ℕ). splice out o R) (so-far .place)) ∙ ap (splice out₀ messageHeader) (sym next);
         }
 
-  pub trees-end : {to k : ℕ} {out : List ℕ} → Sending part low n out₀ to k out → low + n ≤ k → out ≡ splice out₀ messageHeader (recordsFrom (partRecord part) low n)
+  pub trees-end : {to k : ℕ} {out : List ℕ} → TreesSent part low n out₀ to k out → low + n ≤ k → out ≡ splice out₀ messageHeader (recordsFrom (partRecord part) low n)
   trees-end {to} {k} s h =
       let e : k - low ≡ n = omega (arith, s .within) in
       rw e at (s .written)

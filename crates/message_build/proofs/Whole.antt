@@ -33,7 +33,8 @@ use Rattle.message.specs.Layout.{messageHeader, messageSize, messageHeaderBytes
 use Rattle.message.specs.Rule.{treesFrom, ghostGoes, ghostsGoing, ruleMessage}
 use Rattle.message.specs.Build.{partRecord, partMessage}
 use Rattle.message.proofs.Messages.{header-length, RecordsLong, message-length}
-use Rattle.message_build.specs.Mirror.{Opened, Searchable, recordsFrom, TreesRoom, coresBelow, GhostsRoom, RecordsRoom, Buildable, Marked, MessageRoom}
+use Rattle.message_marks.specs.Mirror.{Sending, Marks}
+use Rattle.message_build.specs.Mirror.{Opened, Searchable, recordsFrom, TreesRoom, coresBelow, GhostsRoom, RecordsRoom, MessageRoom}
 use Rattle.message_build.proofs.Trees.{records-long}
 use Rattle.message_build.proofs.Ghosts.{cores-gap, count-gap, cores-long}
 
@@ -73,7 +74,7 @@ module _ (part marks : List ℕ) (low n : ℕ) (out : List ℕ) (room : RecordsR
 
 -- ---- a sound part
 
-module _ (part old new : List ℕ) (p q : ℕ) (from : Buildable part old new p q) where
+module _ (part old new : List ℕ) (p q : ℕ) (from : Sending part old new p q) where
   T : Tables old new
   T = from .pair .tables
 
@@ -153,15 +154,15 @@ module _ (part old new : List ℕ) (p q : ℕ) (from : Buildable part old new p 
   trees-are low zero = refl
   trees-are low (suc n) = rw (trees-are low n)
 
-  module _ (marks : List ℕ) (ghosts : Marked part old new p q marks) where
+  module _ (marks : List ℕ) (ghosts : Marks part old new p q marks) where
     abbrev N : ℕ
     N = 64 * length marks
 
     enough : trees old ≤ N
-    enough = omega (arith, ghosts .words, trees-high old (T .oldBytes) (T .oldRanks) (T .oldValid))
+    enough = omega (arith, ghosts .long, trees-high old (T .oldBytes) (T .oldRanks) (T .oldValid))
 
     past : (k : ℕ) → trees old ≤ k → inSet marks k ≡ false
-    past k h = either (inSet marks k) (λ e. absurd (omega (arith, goes-below k (sym (ghosts .marked k) ∙ e)))) (λ e. e)
+    past k h = either (inSet marks k) (λ e. absurd (omega (arith, goes-below k (sym (ghosts .member k) ∙ e)))) (λ e. e)
 
     reach : trees old + (N - trees old) ≡ N
     reach = omega (arith, enough)
@@ -170,12 +171,12 @@ module _ (part old new : List ℕ) (p q : ℕ) (from : Buildable part old new p 
     count-is =
         ap (λ (m : ℕ). countBelow m (inSet marks)) (sym reach)
         ∙ count-gap (partCore part) (inSet marks) (trees old) (N - trees old) (λ k h l. past k h)
-        ∙ count-same (trees old) (inSet marks) goes (λ k h. ghosts .marked k)
+        ∙ count-same (trees old) (inSet marks) goes (λ k h. ghosts .member k)
 
     cores-are : (k : ℕ) → coresBelow (partCore part) (inSet marks) k ≡ ghostsGoing (partCore part) old new (partHolds part) (partRecord part) p q k
     unfolding coresBelow ghostsGoing
     cores-are zero = refl
-    cores-are (suc k) = rw (cores-are k, ghosts .marked k)
+    cores-are (suc k) = rw (cores-are k, ghosts .member k)
 
     ghosts-are : coresBelow (partCore part) (inSet marks) N ≡ ghostsGoing (partCore part) old new (partHolds part) (partRecord part) p q (trees old)
     ghosts-are =
@@ -186,7 +187,7 @@ module _ (part old new : List ℕ) (p q : ℕ) (from : Buildable part old new p 
 -- ---- the message
 
 module _ (part old new : List ℕ) (p q epoch : ℕ) (marks out : List ℕ) (ok : MessageRoom part old new p q epoch marks out) where
-  abbrev from : Buildable part old new p q
+  abbrev from : Sending part old new p q
   from = ok .from
 
   pub header-held : partHeader ≤ length part
@@ -213,9 +214,9 @@ module _ (part old new : List ℕ) (p q epoch : ℕ) (marks out : List ℕ) (ok 
           known = searchable part old new p q from;
           inside = rw (is-low, is-n) (sent-inside part old new p q from);
           within = rw (is-low, is-n) (omega (arith, sent-below old new (from .pair .tables) p q (from .pair .senderBelow) (from .pair .receiverBelow), trees-high old (from .pair .tables .oldBytes) (from .pair .tables .oldRanks) (from .pair .tables .oldValid)));
-          words = omega (arith, ok .ghosts .words);
-          has = λ k e. goes-held part old new p q from k (sym (ok .ghosts .marked k) ∙ e);
-          long = λ k e. goes-long part old new p q from k (sym (ok .ghosts .marked k) ∙ e);
+          words = omega (arith, ok .ghosts .long);
+          has = λ k e. goes-held part old new p q from k (sym (ok .ghosts .member k) ∙ e);
+          long = λ k e. goes-long part old new p q from k (sym (ok .ghosts .member k) ∙ e);
           room = rw (is-n, same) size;
         }
 

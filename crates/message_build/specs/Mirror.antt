@@ -12,12 +12,11 @@ use Rattle.records.specs.Shape.{facesIn}
 use Rattle.records.specs.Record.{coreSize, treeSize}
 use Rattle.records.specs.Links.{rowsOf, withRows}
 use Rattle.part.specs.Layout.{ghostPlace, partSize}
-use Rattle.part.specs.Part.{partDimension, partFirst, partCount, partGhostCount, globalIndex, partHolds, partCore, partSound}
+use Rattle.part.specs.Part.{partDimension, partFirst, partCount, partGhostCount, globalIndex, partHolds, partCore}
 use Rattle.part.specs.Mirror.{Ascending, rowsWith}
-use Rattle.message.specs.Build.{partRecord, partMessage}
+use Rattle.message.specs.Build.{partMessage}
 use Rattle.message.specs.Layout.{messageHeader, messageSize}
-use Rattle.message.specs.Rule.{ghostGoes}
-use Rattle.pattern.specs.Mirror.{PairOf}
+use Rattle.message_marks.specs.Mirror.{Sending, Marks}
 
 -- what stands in the header of a part, and its length
 pub record Opened (part : List ℕ) (count ghosts : ℕ) : Type 0 where
@@ -92,18 +91,8 @@ pub record RecordsRoom (part marks out : List ℕ) (low n : ℕ) : Type 0 where
   pub long : (k : ℕ) → inSet marks k ≡ true → length (partCore part k) ≡ coreSize
   pub room : messageSize n (countBelow (64 * length marks) (inSet marks)) ≤ length out
 
--- what a message is built from: two tables that agree, two ranks of theirs, and the sender's part, which is sound
-pub record Buildable (part old new : List ℕ) (p q : ℕ) : Type 0 where
-  pub pair : PairOf old new p q
-  pub sound : partSound part old p ≡ true
-
--- the members are the ghosts that go
-pub record Marked (part old new : List ℕ) (p q : ℕ) (marks : List ℕ) : Type 0 where
-  pub words : length marks ≡ 16384
-  pub marked : (k : ℕ) → inSet marks k ≡ ghostGoes (partCore part) old new (partHolds part) (partRecord part) p q k
-
--- and there is room for the message
+-- what a message is built from, the ghosts that go with it, and room for it
 pub record MessageRoom (part old new : List ℕ) (p q epoch : ℕ) (marks out : List ℕ) : Type 0 where
-  pub from : Buildable part old new p q
-  pub ghosts : Marked part old new p q marks
+  pub from : Sending part old new p q
+  pub ghosts : Marks part old new p q marks
   pub room : length (partMessage part old new p q epoch) ≤ length out

@@ -1,12 +1,12 @@
 use Prim.Native.Nat.{_+_, _-_}
 use native.Mathlib.Omega.{arith}
-use Rattle.message_build.proofs.Trees.{Sending, trees-start, tree-from, tree-room, trees-next, trees-end}
+use Rattle.message_build.proofs.Trees.{TreesSent, trees-start, tree-from, tree-room, trees-next, trees-end}
 use borrow.Author.Needs.{needs}
 use Rattle.message_build.proofs.write.write_trees.Statement.{statement}
 use Rattle.message_build.proofs.write.write_trees.Tie as tie
 
 abbrev Inv-loop : tie.InvT-loop
-Inv-loop part count ghosts faces first low n out₀ end to₀ k₀ out to k = Sending part low n out₀ to k out
+Inv-loop part count ghosts faces first low n out₀ end to₀ k₀ out to k = TreesSent part low n out₀ to k out
 
 abbrev μ-loop : tie.MeasureT-loop
 μ-loop part count ghosts faces first low n out₀ end to₀ k₀ out to k = low + n - k

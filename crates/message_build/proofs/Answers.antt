@@ -17,7 +17,7 @@ use Rattle.bits.proofs.Bits.{in-none}
 use Rattle.offsets.specs.Table.{ranks, ranksOk, trees, valid}
 use Rattle.pattern.specs.Calls.{tableChecks}
 use Rattle.pattern.specs.Mirror.{PairOf}
-use Rattle.pattern.specs.Sender.{Tables, sentCount}
+use Rattle.pattern.specs.Sender.{sentCount}
 use Rattle.pattern.specs.Sets.{sendsTo}
 use Rattle.pattern.proofs.Answers.{tables-agree}
 use Rattle.part.specs.Part.{partSound}

@@ -11,8 +11,8 @@ use lib.ListN.{length, getD, length-append}
 use borrow.Author.Tests.{leb-true, ltb-true, eqb-true, eqb-false}
 use Rattle.encoding.specs.Below.{anyBelow, leastBelow, countBelow, sumBelow}
 use Rattle.encoding.specs.Pieces.{piece, splice}
-use Rattle.encoding.proofs.Below.{either, tests, and-fst, and-snd, count-more, count-mono, count-none, sum-more, least-lt, least-at}
-use Rattle.encoding.proofs.Pieces.{piece-length, length-splice, splice-none, splice-then}
+use Rattle.encoding.proofs.Below.{either, tests, and-fst, and-snd, count-more, count-mono, count-none, sum-more, least-lt}
+use Rattle.encoding.proofs.Pieces.{length-splice, splice-none, splice-then}
 use Rattle.bits.specs.Bits.{bitOf, inSet, leastFrom}
 use Rattle.bits.proofs.Bits.{count-add, set-count}
 use Rattle.bits.proofs.Scanning.{from-le, from-most, from-at, from-below}
@@ -23,7 +23,7 @@ use Rattle.part.specs.View.{isLocal, ghostIs, held, heldCore}
 use Rattle.part.specs.Part.{partFirst, partCount, partGhostCount, storedTree, storedGhost, globalIndex, globalTree, partHolds, partCore}
 use Rattle.part.specs.Mirror.{inRange, Ascending, smaller, ghostCore, ghostHas}
 use Rattle.part.proofs.Checking.{search-past, search-other, search-found}
-use Rattle.message_build.specs.Mirror.{Opened, RecordRoom, Searchable, coresBelow, GhostRoom, GhostsRoom}
+use Rattle.message_build.specs.Mirror.{RecordRoom, Searchable, coresBelow, GhostRoom}
 
 -- ---- one record, found by its number
 

@@ -1,20 +1,19 @@
 -- Laws of the trees of a message.
 use Prim.Native.Nat.{ℕ, zero, suc, _+_, _-_, _*_, _≤_, _<_}
 use native.Mathlib.Omega.{arith}
-use mathlib.Core.Path.{_≡_, refl, sym, ap, ap₂, _∙_}
-use mathlib.Core.List.{List, [], _++_}
+use mathlib.Core.Path.{_≡_, refl, sym, ap, _∙_}
+use mathlib.Core.List.{List, _++_}
 use lib.ListN.{length, length-append}
 use Rattle.encoding.specs.Pieces.{piece, splice}
 use Rattle.encoding.proofs.Pieces.{piece-length, length-splice, splice-none, splice-then}
 use Rattle.records.specs.Record.{treeSize}
-use Rattle.records.specs.Shape.{facesIn}
 use Rattle.part.specs.Layout.{treePlace}
 use Rattle.part.specs.Cut.{renamed}
-use Rattle.part.specs.Part.{partDimension, partFirst, globalIndex}
+use Rattle.part.specs.Part.{globalIndex}
 use Rattle.part.proofs.Cutting.{rows-length}
 use Rattle.message.specs.Build.{partRecord}
 use Rattle.message.specs.Layout.{messageHeader}
-use Rattle.message_build.specs.Mirror.{Opened, RecordRoom, Searchable, recordsFrom, TreesRoom}
+use Rattle.message_build.specs.Mirror.{RecordRoom, recordsFrom, TreesRoom}
 
 -- the loop: the trees before k are written, and the next goes to byte to
 pub record TreesSent (part : List ℕ) (low n : ℕ) (out₀ : List ℕ) (to k : ℕ) (out : List ℕ) : Type 0 where

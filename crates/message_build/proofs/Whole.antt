@@ -2,21 +2,18 @@
 use Prim.Native.Nat.{ℕ, zero, suc, _+_, _-_, _*_, _≤_, _<_}
 use native.Mathlib.Omega.{arith}
 use mathlib.Core.Path.{_≡_, refl, sym, ap, ap₂, _∙_}
-use mathlib.Core.Bool.{Bool, true, false, cond, _&&_}
-use mathlib.Core.List.{List, [], _++_}
-use lib.Dec.{ltb, eqb}
-use lib.ListN.{length, length-append}
+use mathlib.Core.Bool.{Bool, true, false}
+use mathlib.Core.List.{List, _++_}
+use lib.ListN.{length}
 use Rattle.encoding.specs.Below.{countBelow}
 use Rattle.encoding.specs.Numbers.{u32At}
-use Rattle.encoding.specs.Pieces.{piece, splice, Bytes}
-use Rattle.encoding.proofs.Below.{either, clash, and-fst, count-same}
+use Rattle.encoding.specs.Pieces.{piece, splice}
+use Rattle.encoding.proofs.Below.{either, and-fst, count-same}
 use Rattle.encoding.proofs.Pieces.{piece-length, length-splice, splice-then}
 use Rattle.bits.specs.Bits.{inSet}
-use Rattle.offsets.specs.Limits.{maxTrees}
-use Rattle.offsets.specs.Table.{ranks, trees, firstTree, endTree, treeCount, holds}
+use Rattle.offsets.specs.Table.{ranks, trees, endTree, holds}
 use Rattle.offsets.proofs.Tables.{count-add, end-trees, trees-high}
 use Rattle.pattern.specs.Sender.{Tables, sends, sentFirst, sentCount}
-use Rattle.pattern.specs.Mirror.{PairOf}
 use Rattle.pattern.proofs.Senders.{holds-true, sender-holds, sends-true}
 use Rattle.pattern.proofs.Sets.{new-below, sent-below, sent-in}
 use Rattle.records.specs.Shape.{facesIn}
@@ -25,8 +22,8 @@ use Rattle.records.proofs.Forms.{number-at}
 use Rattle.records.proofs.Shapes.{faces-positive}
 use Rattle.part.specs.Layout.{partHeader, treePlace, ghostPlace}
 use Rattle.part.specs.Cut.{renamed}
-use Rattle.part.specs.Part.{partDimension, partK, partFirst, partCount, partGhostCount, storedGhost, globalIndex, partHolds, partCore, partSound}
-use Rattle.part.specs.Mirror.{numberAt, Ascending}
+use Rattle.part.specs.Part.{partDimension, partK, partFirst, partCount, partGhostCount, storedGhost, partHolds, partCore}
+use Rattle.part.specs.Mirror.{numberAt}
 use Rattle.part.proofs.Cutting.{rows-length}
 use Rattle.part_laws.proofs.SoundParts.{PartSays, part-header, part-length, part-ascends, part-core-long, part-below}
 use Rattle.message.specs.Layout.{messageHeader, messageSize, messageHeaderBytes}
@@ -34,9 +31,9 @@ use Rattle.message.specs.Rule.{treesFrom, ghostGoes, ghostsGoing, ruleMessage}
 use Rattle.message.specs.Build.{partRecord, partMessage}
 use Rattle.message.proofs.Messages.{header-length, RecordsLong, message-length}
 use Rattle.message_marks.specs.Mirror.{Sending, Marks}
-use Rattle.message_build.specs.Mirror.{Opened, Searchable, recordsFrom, TreesRoom, coresBelow, GhostsRoom, RecordsRoom, MessageRoom}
+use Rattle.message_build.specs.Mirror.{Searchable, recordsFrom, TreesRoom, coresBelow, GhostsRoom, RecordsRoom, MessageRoom}
 use Rattle.message_build.proofs.Trees.{records-long}
-use Rattle.message_build.proofs.Ghosts.{cores-gap, count-gap, cores-long}
+use Rattle.message_build.proofs.Ghosts.{cores-gap, count-gap}
 
 -- ---- the records
 

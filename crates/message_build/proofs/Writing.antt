@@ -1,28 +1,26 @@
 -- Laws of the writing of a message: the header, and records with global numbers.
-use Prim.Native.Nat.{ℕ, zero, suc, _+_, _-_, _*_, _≤_, _<_}
+use Prim.Native.Nat.{ℕ, _+_, _-_, _≤_, _<_}
 use native.Mathlib.Omega.{arith}
-use mathlib.Core.Path.{_≡_, refl, sym, ap, ap₂, _∙_}
-use mathlib.Core.Bool.{Bool, true, false, cond}
-use mathlib.Core.List.{List, [], _++_, map, append-assoc}
-use lib.Dec.{ltb, eqb}
-use lib.ListN.{length, length-append}
+use mathlib.Core.Path.{_≡_, refl, sym, ap, _∙_}
+use mathlib.Core.List.{List, _++_, map, append-assoc}
+use lib.ListN.{length}
 use borrow.Author.Tests.{lt-ltb, le-ltb, eq-eqb, ne-eqb}
 use Rattle.encoding.specs.Numbers.{putU32}
 use Rattle.encoding.specs.Pieces.{piece, splice, Bytes}
-use Rattle.encoding.proofs.Pieces.{piece-length, piece-same, bytes-piece, length-splice, splice-none, splice-then}
+use Rattle.encoding.proofs.Pieces.{piece-length, piece-same, bytes-piece, length-splice}
 use Rattle.records.specs.Record.{coreSize, treeSize, unused, numberOf}
 use Rattle.records.specs.Links.{cell, rowsOf, neighbourBytes, codeBytes, withRows, Rows}
 use Rattle.records.proofs.Rows.{splice-inside, rows-hold}
 use Rattle.part.specs.Layout.{treePlace, ghostPlace}
 use Rattle.part.specs.Cut.{renamed, renameRow}
-use Rattle.part.specs.Part.{noTree, partCount, partGhostCount, storedTree, storedGhost, globalIndex}
+use Rattle.part.specs.Part.{noTree, storedTree, storedGhost, globalIndex}
 use Rattle.part.specs.Mirror.{rowsWith}
 use Rattle.part.proofs.Writing.{words-none, words-next}
-use Rattle.part.proofs.Cutting.{links-length, rows-length}
+use Rattle.part.proofs.Cutting.{links-length}
 use Rattle.part.proofs.Trees.{splice-over, with-hold, with-rows, rows-core}
 use Rattle.part.proofs.Global.{global-word}
-use Rattle.message.specs.Layout.{messageHeader, messageHeaderBytes}
-use Rattle.message_build.specs.Mirror.{Opened, RecordRoom, globalLinks}
+use Rattle.message.specs.Layout.{messageHeaderBytes}
+use Rattle.message_build.specs.Mirror.{Opened, globalLinks}
 
 -- ---- the header
 

@@ -7,7 +7,7 @@ use part::sound::ghost_at;
 use part::sound::tree_at;
 
 // The global number behind a local index: it stands in the record there.
-pub fn global_index(part: &[u8], count: u32, ghosts: u32, j: u32) -> u32
+fn global_index(part: &[u8], count: u32, ghosts: u32, j: u32) -> u32
     requires { ⌜ Opened (now part) count ghosts ⌝ }
     ensures { λ r. ⌜ r ≡ globalIndex (now (part .entry)) j ⌝ }
 {

@@ -18,7 +18,7 @@ use part::inner::in_range;
 use part::sound::ghost_at;
 use part::sound::tree_at;
 
-pub fn write_header(
+fn write_header(
     out: &mut [u8],
     epoch: u32,
     dimension: u32,
@@ -95,7 +95,7 @@ fn write_core(
 }
 
 // Writes n trees from `low` on behind the header. `first` is the part's first tree.
-pub fn write_trees(
+fn write_trees(
     part: &[u8],
     count: u32,
     ghosts: u32,
@@ -171,7 +171,7 @@ pub fn member_count(marks: &[u64]) -> u32
 }
 
 // Writes the cores of a set from byte `at` on, ascending.
-pub fn write_ghosts(
+fn write_ghosts(
     part: &[u8],
     count: u32,
     ghosts: u32,
@@ -195,7 +195,7 @@ pub fn write_ghosts(
 }
 
 // Writes the records of a message behind its header: n trees from `low` on, and the ghosts of the set.
-pub fn write_records(part: &[u8], low: u32, n: u32, marks: &[u64], out: &mut [u8])
+fn write_records(part: &[u8], low: u32, n: u32, marks: &[u64], out: &mut [u8])
     requires { ⌜ RecordsRoom (now part) (now marks) (now out) low n ⌝ }
     ensures { λ u. ⌜ now (out .exit) ≡ splice (now (out .entry)) messageHeader (recordsFrom (partRecord (now (part .entry))) low n ++ coresBelow (partCore (now (part .entry))) (inSet (now (marks .entry))) (64 * length (now (marks .entry)))) ⌝ }
 {

@@ -23,11 +23,6 @@ use Rattle.message.specs.Rule.{sendsBeside, considers, sendsGhost, ghostSender,
 use Rattle.message.proofs.Ghosts.{beside-at, beside-in, no-ghost-sender, one-ghost-sender, sends-considers}
 use Rattle.message_marks.specs.Mirror.{Sending, sentBefore, besideBefore, goes, goesAcross, goesBeside, goesFrom}
 
--- a test and a choice
-not-true-false : (b : Bool) → not b ≡ true → b ≡ false
-not-true-false true e = sym e
-not-true-false false e = refl
-
 module _ (part old new : List ℕ) (p q : ℕ) (s : Sending part old new p q) where
   abbrev core : ℕ → List ℕ
   core = partCore part

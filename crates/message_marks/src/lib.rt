@@ -7,12 +7,13 @@ ghost use Rattle.records.specs.Record.{shapeOf};
 ghost use Rattle.part.specs.Part.{partFirst, partCore};
 ghost use Rattle.message_marks.specs.Mirror.{markWords, Blank, Marks, Added, Sending, AtTree, goesAcross, goesBeside};
 use records::index::GlobalIndex;
+use records::index::LocalIndex;
 use records::index::to_local;
 
 mod read;
 mod rule;
 
-// Marks what is across a face of tree i, if it goes.
+// Marks what is across a face of a tree, if it goes.
 fn mark_face(
     part: &[u8],
     old: &[u8],
@@ -20,21 +21,23 @@ fn mark_face(
     p: usize,
     q: usize,
     count: u32,
-    i: u32,
+    tree: LocalIndex,
     face: u32,
     marks: &mut [u64],
 )
-    requires { ⌜ AtTree (now part) (now old) (now new) p q count i × (face < faceCount (shapeOf (partCore (now part) (partFirst (now part) + i)))) × (length (now marks) ≡ markWords) ⌝ }
-    ensures { λ u. ⌜ Added (now (marks .entry)) (now (marks .exit)) (goesAcross (now (part .entry)) (now (old .entry)) (now (new .entry)) p q (partFirst (now (part .entry)) + i) face) ⌝ }
+    requires { ⌜ AtTree (now part) (now old) (now new) p q count (tree .0) × (face < faceCount (shapeOf (partCore (now part) (partFirst (now part) + tree .0)))) × (length (now marks) ≡ markWords) ⌝ }
+    ensures { λ u. ⌜ Added (now (marks .entry)) (now (marks .exit)) (goesAcross (now (part .entry)) (now (old .entry)) (now (new .entry)) p q (partFirst (now (part .entry)) + tree .0) face) ⌝ }
 {
+    let i = tree.0;
     let j = records::neighbour_of(part, part::sound::tree_at(i), face);
-    let number = read::number_at(part, count, j);
-    if rule::goes(part, old, new, p, q, count, j, number) {
-        bits::add_member(&mut *marks, number);
+    let number = read::number_at(part, count, LocalIndex(j));
+    let k = number.0;
+    if rule::goes(part, old, new, p, q, count, LocalIndex(j), GlobalIndex(k)) {
+        bits::add_member(&mut *marks, k);
     }
 }
 
-// Marks what is across the faces of tree i and goes.
+// Marks what is across the faces of a tree and goes.
 fn mark_tree(
     part: &[u8],
     old: &[u8],
@@ -42,21 +45,32 @@ fn mark_tree(
     p: usize,
     q: usize,
     count: u32,
-    i: u32,
+    tree: LocalIndex,
     marks: &mut [u64],
 )
-    requires { ⌜ AtTree (now part) (now old) (now new) p q count i × (length (now marks) ≡ markWords) ⌝ }
-    ensures { λ u. ⌜ Added (now (marks .entry)) (now (marks .exit)) (goesBeside (now (part .entry)) (now (old .entry)) (now (new .entry)) p q (partFirst (now (part .entry)) + i) (faceCount (shapeOf (partCore (now (part .entry)) (partFirst (now (part .entry)) + i))))) ⌝ }
+    requires { ⌜ AtTree (now part) (now old) (now new) p q count (tree .0) × (length (now marks) ≡ markWords) ⌝ }
+    ensures { λ u. ⌜ Added (now (marks .entry)) (now (marks .exit)) (goesBeside (now (part .entry)) (now (old .entry)) (now (new .entry)) p q (partFirst (now (part .entry)) + tree .0) (faceCount (shapeOf (partCore (now (part .entry)) (partFirst (now (part .entry)) + tree .0))))) ⌝ }
 {
+    let i = tree.0;
     let faces = records::face_count(records::shape_of(part, part::sound::tree_at(i)));
     let mut face = 0;
     while face < faces {
-        mark_face(part, old, new, p, q, count, i, face, &mut *marks);
+        mark_face(
+            part,
+            old,
+            new,
+            p,
+            q,
+            count,
+            LocalIndex(i),
+            face,
+            &mut *marks,
+        );
         face += 1;
     }
 }
 
-// Marks the ghosts that go with p's message to q. The time is that for the trees sent and their neighbours, not for the part.
+// Marks the ghosts that go with p's message to q. Only the trees sent and their neighbours are read, not the whole part.
 pub fn mark_ghosts(part: &[u8], old: &[u8], new: &[u8], p: u32, q: u32, marks: &mut [u64])
     requires { ⌜ Sending (now part) (now old) (now new) p q × Blank (now marks) ⌝ }
     ensures { λ u. ⌜ Marks (now (part .entry)) (now (old .entry)) (now (new .entry)) p q (now (marks .exit)) ⌝ }
@@ -71,7 +85,7 @@ pub fn mark_ghosts(part: &[u8], old: &[u8], new: &[u8], p: u32, q: u32, marks: &
     let mut i = 0;
     while i < n {
         let tree = to_local(GlobalIndex(first + i), GlobalIndex(own));
-        mark_tree(part, old, new, from, to, count, tree.0, &mut *marks);
+        mark_tree(part, old, new, from, to, count, tree, &mut *marks);
         i += 1;
     }
 }

@@ -1,6 +1,8 @@
 // Whether a record beside a tree that p sends q goes with the message.
 use crate::read::across;
 use crate::read::record_at;
+use records::index::GlobalIndex;
+use records::index::LocalIndex;
 ghost use mathlib.Core.Path.{_≡_};
 ghost use Prim.Native.Nat.{_<_};
 ghost use Rattle.records.specs.Shape.{faceCount};
@@ -10,10 +12,11 @@ ghost use Rattle.part.specs.Part.{partCore};
 ghost use Rattle.message_marks.specs.Mirror.{AtRecord, numberAt, sentBefore, besideBefore, goes as goesTo};
 
 // Whether q gets the tree from itself or from a rank below p.
-fn sent_before(old: &[u8], new: &[u8], p: usize, q: usize, h: u32) -> bool
+fn sent_before(old: &[u8], new: &[u8], p: usize, q: usize, tree: GlobalIndex) -> bool
     requires { ⌜ PairOf (now old) (now new) p q ⌝ }
-    ensures { λ r. ⌜ r ≡ sentBefore (now (old .entry)) (now (new .entry)) p q h ⌝ }
+    ensures { λ r. ⌜ r ≡ sentBefore (now (old .entry)) (now (new .entry)) p q (tree .0) ⌝ }
 {
+    let h = tree.0;
     if !offsets::inner::holds(new, q, h as u64) {
         return false;
     }
@@ -21,7 +24,7 @@ fn sent_before(old: &[u8], new: &[u8], p: usize, q: usize, h: u32) -> bool
     (sender == q) | (sender < p)
 }
 
-// Whether record j, of which the first `faces` faces are looked at, is beside such a tree.
+// Whether a record with so many faces is beside such a tree.
 fn beside_before(
     part: &[u8],
     old: &[u8],
@@ -29,15 +32,16 @@ fn beside_before(
     p: usize,
     q: usize,
     count: u32,
-    j: u32,
+    local: LocalIndex,
     faces: u32,
 ) -> bool
-    requires { ⌜ AtRecord (now part) (now old) (now new) p q count j × (faces ≡ faceCount (shapeOf (partCore (now part) (numberAt (now part) count j)))) ⌝ }
-    ensures { λ r. ⌜ r ≡ besideBefore (now (part .entry)) (now (old .entry)) (now (new .entry)) p q (numberAt (now (part .entry)) count j) faces ⌝ }
+    requires { ⌜ AtRecord (now part) (now old) (now new) p q count (local .0) × (faces ≡ faceCount (shapeOf (partCore (now part) (numberAt (now part) count (local .0))))) ⌝ }
+    ensures { λ r. ⌜ r ≡ besideBefore (now (part .entry)) (now (old .entry)) (now (new .entry)) p q (numberAt (now (part .entry)) count (local .0)) faces ⌝ }
 {
+    let j = local.0;
     let mut face = 0;
     while face < faces {
-        if sent_before(old, new, p, q, across(part, count, j, face)) {
+        if sent_before(old, new, p, q, across(part, count, LocalIndex(j), face)) {
             return true;
         }
         face += 1;
@@ -45,7 +49,7 @@ fn beside_before(
     false
 }
 
-// Whether record j, with its number, goes: q hasn't it, and no other sender of a neighbour comes before p.
+// Whether a record, with its number, goes: q hasn't it, and no other sender of a neighbour comes before p.
 pub fn goes(
     part: &[u8],
     old: &[u8],
@@ -53,18 +57,20 @@ pub fn goes(
     p: usize,
     q: usize,
     count: u32,
-    j: u32,
-    number: u32,
+    local: LocalIndex,
+    number: GlobalIndex,
 ) -> bool
-    requires { ⌜ AtRecord (now part) (now old) (now new) p q count j × (number ≡ numberAt (now part) count j) ⌝ }
-    ensures { λ r. ⌜ r ≡ goesTo (now (part .entry)) (now (old .entry)) (now (new .entry)) p q number ⌝ }
+    requires { ⌜ AtRecord (now part) (now old) (now new) p q count (local .0) × (number .0 ≡ numberAt (now part) count (local .0)) ⌝ }
+    ensures { λ r. ⌜ r ≡ goesTo (now (part .entry)) (now (old .entry)) (now (new .entry)) p q (number .0) ⌝ }
 {
-    if offsets::inner::holds(new, q, number as u64) {
+    let j = local.0;
+    let k = number.0;
+    if offsets::inner::holds(new, q, k as u64) {
         return false;
     }
     if p == q {
         return true;
     }
-    let faces = records::face_count(records::shape_of(part, record_at(count, j)));
-    !beside_before(part, old, new, p, q, count, j, faces)
+    let faces = records::face_count(records::shape_of(part, record_at(count, LocalIndex(j))));
+    !beside_before(part, old, new, p, q, count, LocalIndex(j), faces)
 }

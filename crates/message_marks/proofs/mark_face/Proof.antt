@@ -1,5 +1,5 @@
-use native.Mathlib.Omega.{arith}
 use Rattle.message_marks.proofs.Marking.{tree-face, across-fits, across-record, number-fits, face-marked, face-left}
+use native.Mathlib.Omega.{arith}
 use borrow.Author.Needs.{needs}
 use Rattle.message_marks.proofs.mark_face.Statement.{statement}
 use Rattle.message_marks.proofs.mark_face.Tie as tie

@@ -9,10 +9,10 @@ use Rattle.message_marks.proofs.mark_tree.Statement.{statement}
 use Rattle.message_marks.proofs.mark_tree.Tie as tie
 
 abbrev Inv-loop : tie.InvT-loop
-Inv-loop part old new p q count i marks₀ faces face₀ marks face = (face ≤ faces) × Added marks₀ marks (goesBeside part old new p q (partFirst part + i) face)
+Inv-loop part old new p q count marks₀ i faces face₀ marks face = (face ≤ faces) × Added marks₀ marks (goesBeside part old new p q (partFirst part + i) face)
 
 abbrev μ-loop : tie.MeasureT-loop
-μ-loop part old new p q count i marks₀ faces face₀ marks face = faces - face
+μ-loop part old new p q count marks₀ i faces face₀ marks face = faces - face
 
 tree-at-requires : tie.Need-tree-at-requires Inv-loop μ-loop
 tree-at-requires c κs = search needs

@@ -12,10 +12,10 @@ use Rattle.message_marks.proofs.rule.beside_before.Statement.{statement
 use Rattle.message_marks.proofs.rule.beside_before.Tie as tie
 
 abbrev Inv-loop : tie.InvT-loop
-Inv-loop part old new p q count j faces face₀ face = (face ≤ faces) × (besideBefore part old new p q (numberAt part count j) face ≡ false)
+Inv-loop part old new p q count faces j face₀ face = (face ≤ faces) × (besideBefore part old new p q (numberAt part count j) face ≡ false)
 
 abbrev μ-loop : tie.MeasureT-loop
-μ-loop part old new p q count j faces face₀ face = faces - face
+μ-loop part old new p q count faces j face₀ face = faces - face
 
 loop-holds : tie.Need-loop-holds Inv-loop μ-loop
 unfolding besideBefore anyBelow

@@ -7,6 +7,9 @@ use borrow.Author.Needs.{needs}
 use Rattle.message_marks.proofs.rule.goes.Statement.{statement}
 use Rattle.message_marks.proofs.rule.goes.Tie as tie
 
+cast-holds : tie.Need-cast-holds
+cast-holds c = search needs
+
 holds-requires : tie.Need-holds-requires
 holds-requires c κs = receiver-new-row (c .before .before .before .pre .0 .known .sending .pair)
 
@@ -35,6 +38,7 @@ pub goes-spec : {M : Type 1} → statement M
 goes-spec =
     tie.close
     (tie.spec
+    cast-holds
     holds-requires
     returns
     returns-2

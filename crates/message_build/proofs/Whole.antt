@@ -61,7 +61,7 @@ module _ (part marks : List ℕ) (low n : ℕ) (out : List ℕ) (room : RecordsR
 
       pub ghosts-room : GhostsRoom part marks mid count ghosts faces first at
       ghosts-room =
-          record { known = known; words = room .words; has = room .has; long = room .long; room = omega (arith, room .room, same-length) }
+          record { known = known; members = room .members; room = omega (arith, room .room, same-length) }
 
       pub records-written : {last : List ℕ} → last ≡ splice mid at (coresBelow (partCore part) (inSet marks) (64 * length marks))
           → last ≡ splice out messageHeader (recordsFrom (partRecord part) low n ++ coresBelow (partCore part) (inSet marks) (64 * length marks))
@@ -211,9 +211,11 @@ module _ (part old new : List ℕ) (p q epoch : ℕ) (marks out : List ℕ) (ok 
           known = searchable part old new p q from;
           inside = rw (is-low, is-n) (sent-inside part old new p q from);
           within = rw (is-low, is-n) (omega (arith, sent-below old new (from .pair .tables) p q (from .pair .senderBelow) (from .pair .receiverBelow), trees-high old (from .pair .tables .oldBytes) (from .pair .tables .oldRanks) (from .pair .tables .oldValid)));
-          words = omega (arith, ok .ghosts .long);
-          has = λ k e. goes-held part old new p q from k (sym (ok .ghosts .member k) ∙ e);
-          long = λ k e. goes-long part old new p q from k (sym (ok .ghosts .member k) ∙ e);
+          members = record {
+            words = omega (arith, ok .ghosts .long);
+            has = λ k e. goes-held part old new p q from k (sym (ok .ghosts .member k) ∙ e);
+            long = λ k e. goes-long part old new p q from k (sym (ok .ghosts .member k) ∙ e);
+          };
           room = rw (is-n, same) size;
         }
 

@@ -24,18 +24,7 @@ pub record Opened (part : List ℕ) (count ghosts : ℕ) : Type 0 where
   pub isGhosts : ghosts ≡ partGhostCount part
   pub long : length part ≡ partSize count ghosts
 
--- a record of a part, of size bytes, and room for it
-pub record RecordRoom (part out : List ℕ) (count ghosts faces size from to : ℕ) : Type 0 where
-  pub opened : Opened part count ghosts
-  pub faced : 0 < faces
-  pub source : from + size ≤ length part
-  pub target : to + size ≤ length out
-
--- the core at byte `to` with the links of the record at byte `from`, as global numbers
-unfoldable pub globalLinks : List ℕ → ℕ → ℕ → List ℕ → List ℕ
-globalLinks part F from r = withRows (rowsWith (globalIndex part) (rowsOf (piece part from coreSize) F)) F r
-
--- and what else is known of a sound part where its records are looked for by number
+-- and what is known of a sound part besides: the trees begin with the first, the ghosts ascend
 pub record Searchable (part : List ℕ) (count ghosts faces first : ℕ) : Type 0 where
   pub opened : Opened part count ghosts
   pub faced : 0 < faces
@@ -43,6 +32,19 @@ pub record Searchable (part : List ℕ) (count ghosts faces first : ℕ) : Type 
   pub isFirst : first ≡ partFirst part
   pub small : first + count ≤ maxTrees
   pub ascending : Ascending part (ghostPlace count 0) ghosts
+
+-- ---- records
+
+-- a record of a part, of size bytes, and room for it
+pub record RecordRoom (part out : List ℕ) (count ghosts faces size from to : ℕ) : Type 0 where
+  pub opened : Opened part count ghosts
+  pub faced : 0 < faces
+  pub source : from + size ≤ length part
+  pub target : to + size ≤ length out
+
+-- the record r with the links of the part's record at byte `from`, as global numbers
+unfoldable pub globalLinks : List ℕ → ℕ → ℕ → List ℕ → List ℕ
+globalLinks part F from r = withRows (rowsWith (globalIndex part) (rowsOf (piece part from coreSize) F)) F r
 
 -- ---- trees
 
@@ -71,12 +73,16 @@ pub record GhostRoom (part out : List ℕ) (count ghosts faces first k to : ℕ)
   pub has : partHolds part k ≡ true
   pub target : to + coreSize ≤ length out
 
--- a set of records that the part holds, and room for their cores
-pub record GhostsRoom (part marks out : List ℕ) (count ghosts faces first at : ℕ) : Type 0 where
-  pub known : Searchable part count ghosts faces first
+-- the members of a set are records that the part holds
+pub record Members (part marks : List ℕ) : Type 0 where
   pub words : length marks ≤ 16384
   pub has : (k : ℕ) → inSet marks k ≡ true → partHolds part k ≡ true
   pub long : (k : ℕ) → inSet marks k ≡ true → length (partCore part k) ≡ coreSize
+
+-- and there is room for their cores
+pub record GhostsRoom (part marks out : List ℕ) (count ghosts faces first at : ℕ) : Type 0 where
+  pub known : Searchable part count ghosts faces first
+  pub members : Members part marks
   pub room : at + coreSize * countBelow (64 * length marks) (inSet marks) ≤ length out
 
 -- ---- the message
@@ -86,9 +92,7 @@ pub record RecordsRoom (part marks out : List ℕ) (low n : ℕ) : Type 0 where
   pub known : Searchable part (partCount part) (partGhostCount part) (facesIn (partDimension part)) (partFirst part)
   pub inside : (k : ℕ) → low ≤ k → k < low + n → (partFirst part ≤ k) × (k < partFirst part + partCount part)
   pub within : low + n ≤ maxTrees
-  pub words : length marks ≤ 16384
-  pub has : (k : ℕ) → inSet marks k ≡ true → partHolds part k ≡ true
-  pub long : (k : ℕ) → inSet marks k ≡ true → length (partCore part k) ≡ coreSize
+  pub members : Members part marks
   pub room : messageSize n (countBelow (64 * length marks) (inSet marks)) ≤ length out
 
 -- what a message is built from, the ghosts that go with it, and room for it

@@ -24,13 +24,13 @@ next-member-requires : tie.Need-next-member-requires Inv-loop μ-loop
 next-member-requires c κs = search needs
 
 loop-holds : tie.Need-loop-holds Inv-loop μ-loop
-loop-holds c = ghosts-start _ _ _ _ _ (c .before .before .before .before .pre .long) (c .before .before .before .before .pre .room) (c .next-member .ensures)
+loop-holds c = ghosts-start _ _ _ _ _ (c .before .before .before .before .pre .members .long) (c .before .before .before .before .pre .room) (c .next-member .ensures)
 
 write-ghost-requires : tie.Need-write-ghost-requires Inv-loop μ-loop
-write-ghost-requires c κs = record { known = c .before .before .before .before .before .before .before .pre .known; has = c .before .before .before .before .before .before .before .pre .has _ (c .before .before .loop .inv .member (c .before .loop-test .taken)); target = ghosts-room _ _ _ _ _ (c .before .before .before .before .before .before .before .pre .long) (c .before .before .before .before .before .before .before .pre .room) (c .before .before .loop .inv) (c .before .loop-test .taken) }
+write-ghost-requires c κs = record { known = c .before .before .before .before .before .before .before .pre .known; has = c .before .before .before .before .before .before .before .pre .members .has _ (c .before .before .loop .inv .member (c .before .loop-test .taken)); target = ghosts-room _ _ _ _ _ (c .before .before .before .before .before .before .before .pre .members .long) (c .before .before .before .before .before .before .before .pre .room) (c .before .before .loop .inv) (c .before .loop-test .taken) }
 
 add-to : tie.Need-add-to Inv-loop μ-loop
-add-to c = omega (arith, ghosts-room _ _ _ _ _ (c .before .before .before .before .before .before .before .before .before .before .pre .long) (c .before .before .before .before .before .before .before .before .before .before .pre .room) (c .before .before .before .before .before .loop .inv) (c .before .before .before .before .loop-test .taken))
+add-to c = omega (arith, ghosts-room _ _ _ _ _ (c .before .before .before .before .before .before .before .before .before .before .pre .members .long) (c .before .before .before .before .before .before .before .before .before .before .pre .room) (c .before .before .before .before .before .loop .inv) (c .before .before .before .before .loop-test .taken))
 
 add-next-member : tie.Need-add-next-member Inv-loop μ-loop
 add-next-member c = search needs
@@ -42,13 +42,13 @@ loop-less : tie.Need-loop-less Inv-loop μ-loop
 loop-less c = omega (arith, member-behind _ _ _ (c .next-member2 .ensures))
 
 loop-again : tie.Need-loop-again Inv-loop μ-loop
-loop-again c = ghosts-next _ _ _ _ _ (c .before .before .before .before .before .before .before .before .before .before .before .pre .long) (c .before .before .before .before .before .before .before .before .before .before .before .pre .room) (c .before .before .before .before .before .before .loop .inv) (c .before .before .before .before .before .loop-test .taken) (c .before .before .before .write-ghost .ensures) (c .next-member2 .ensures)
+loop-again c = ghosts-next _ _ _ _ _ (c .before .before .before .before .before .before .before .before .before .before .before .pre .members .long) (c .before .before .before .before .before .before .before .before .before .before .before .pre .room) (c .before .before .before .before .before .before .loop .inv) (c .before .before .before .before .before .loop-test .taken) (c .before .before .before .write-ghost .ensures) (c .next-member2 .ensures)
 
 same-length : tie.Need-same-length Inv-loop μ-loop
 same-length c = c .before .loop .inv .same-length
 
 returns : tie.Need-returns Inv-loop μ-loop
-returns c = ghosts-end _ _ _ _ _ (c .before .before .before .before .before .before .pre .long) (c .before .before .before .before .before .before .pre .room) (c .before .loop .inv) (c .loop-test .left)
+returns c = ghosts-end _ _ _ _ _ (c .before .before .before .before .before .before .pre .members .long) (c .before .before .before .before .before .before .pre .room) (c .before .loop .inv) (c .loop-test .left)
 
 pub write-ghosts-spec : {M : Type 1} → statement M
 write-ghosts-spec =

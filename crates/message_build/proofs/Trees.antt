@@ -15,6 +15,10 @@ use Rattle.message.specs.Build.{partRecord}
 use Rattle.message.specs.Layout.{messageHeader}
 use Rattle.message_build.specs.Mirror.{RecordRoom, recordsFrom, TreesRoom}
 
+-- where the record of a tree with local index t begins
+pub place-is : (t first k : ℕ) {from : ℕ} → t + first ≡ k → from ≡ treePlace t → from ≡ treePlace (k - first)
+place-is t first k e p = let s : t ≡ k - first = omega arith in p ∙ ap treePlace s
+
 -- the loop: the trees before k are written, and the next goes to byte to
 pub record TreesSent (part : List ℕ) (low n : ℕ) (out₀ : List ℕ) (to k : ℕ) (out : List ℕ) : Type 0 where
   pub begun : low ≤ k

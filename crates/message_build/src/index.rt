@@ -5,29 +5,33 @@ ghost use Rattle.part.specs.Mirror.{rowWith, rowsWith};
 ghost use Rattle.message_build.specs.Mirror.{Opened};
 use part::sound::ghost_at;
 use part::sound::tree_at;
+use records::index::GlobalIndex;
+use records::index::LocalIndex;
 
-// The global number behind a local index: it stands in the record there.
-fn global_index(part: &[u8], count: u32, ghosts: u32, j: u32) -> u32
+// The global number behind a local index: it stands in the record there. An unused face keeps its mark.
+fn global_index(part: &[u8], count: u32, ghosts: u32, local: LocalIndex) -> GlobalIndex
     requires { ⌜ Opened (now part) count ghosts ⌝ }
-    ensures { λ r. ⌜ r ≡ globalIndex (now (part .entry)) j ⌝ }
+    ensures { λ r. ⌜ r .0 ≡ globalIndex (now (part .entry)) (local .0) ⌝ }
 {
+    let j = local.0;
     if j == 4294967295 {
-        return 4294967295;
+        return GlobalIndex(4294967295);
     }
     if j < count {
-        return records::number_of(part, tree_at(j));
+        return GlobalIndex(records::number_of(part, tree_at(j)));
     }
     if j - count < ghosts {
-        return records::number_of(part, ghost_at(count, j - count));
+        return GlobalIndex(records::number_of(part, ghost_at(count, j - count)));
     }
-    4294967294
+    GlobalIndex(4294967294)
 }
 
 fn global_row(part: &[u8], count: u32, ghosts: u32, row: [u32; 3]) -> [u32; 3]
     requires { ⌜ Opened (now part) count ghosts ⌝ }
     ensures { λ r. ⌜ r ≡ rowWith (globalIndex (now (part .entry))) row ⌝ }
 {
-    [global_index(part, count, ghosts, row[0]), row[1], row[2]]
+    let number = global_index(part, count, ghosts, LocalIndex(row[0]));
+    [number.0, row[1], row[2]]
 }
 
 // The six links of a record with global numbers.

@@ -17,6 +17,8 @@ use part::cut::find_ghost;
 use part::inner::in_range;
 use part::sound::ghost_at;
 use part::sound::tree_at;
+use records::index::GlobalIndex;
+use records::index::to_local;
 
 fn write_header(
     out: &mut [u8],
@@ -112,44 +114,31 @@ fn write_trees(
     let mut to = 32;
     let mut k = low;
     while k < end {
-        write_tree(
-            part,
-            count,
-            ghosts,
-            faces,
-            tree_at(k - first),
-            &mut *out,
-            to,
-        );
+        let tree = to_local(GlobalIndex(k), GlobalIndex(first));
+        write_tree(part, count, ghosts, faces, tree_at(tree.0), &mut *out, to);
         to += 64;
         k += 1;
     }
 }
 
-// Writes the core of the record with number k, a tree of the part or one of its ghosts.
+// Writes the core of the record with the number, a tree of the part or one of its ghosts.
 fn write_ghost(
     part: &[u8],
     count: u32,
     ghosts: u32,
     faces: u32,
     first: u32,
-    k: u32,
+    number: GlobalIndex,
     out: &mut [u8],
     to: usize,
 )
-    requires { ⌜ GhostRoom (now part) (now out) count ghosts faces first k to ⌝ }
-    ensures { λ u. ⌜ now (out .exit) ≡ splice (now (out .entry)) to (partCore (now (part .entry)) k) ⌝ }
+    requires { ⌜ GhostRoom (now part) (now out) count ghosts faces first (number .0) to ⌝ }
+    ensures { λ u. ⌜ now (out .exit) ≡ splice (now (out .entry)) to (partCore (now (part .entry)) (number .0)) ⌝ }
 {
+    let k = number.0;
     if in_range(first, first + count, k) {
-        write_core(
-            part,
-            count,
-            ghosts,
-            faces,
-            tree_at(k - first),
-            &mut *out,
-            to,
-        );
+        let tree = to_local(GlobalIndex(k), GlobalIndex(first));
+        write_core(part, count, ghosts, faces, tree_at(tree.0), &mut *out, to);
         return;
     }
     let position = find_ghost(part, ghost_at(count, 0), ghosts, k);
@@ -188,7 +177,16 @@ fn write_ghosts(
     let mut to = at;
     let mut k = bits::next_member(marks, 0);
     while k < end {
-        write_ghost(part, count, ghosts, faces, first, k, &mut *out, to);
+        write_ghost(
+            part,
+            count,
+            ghosts,
+            faces,
+            first,
+            GlobalIndex(k),
+            &mut *out,
+            to,
+        );
         to += 40;
         k = bits::next_member(marks, k + 1);
     }

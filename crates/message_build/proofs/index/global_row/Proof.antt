@@ -3,14 +3,14 @@ use borrow.Author.Needs.{needs}
 use Rattle.message_build.proofs.index.global_row.Statement.{statement}
 use Rattle.message_build.proofs.index.global_row.Tie as tie
 
-array-read-global-index : tie.Need-array-read-global-index
-array-read-global-index c = search needs
+array-read-t9 : tie.Need-array-read-t9
+array-read-t9 c = search needs
 
 global-index-requires : tie.Need-global-index-requires
 global-index-requires c κs = search needs
 
-array-read-t12 : tie.Need-array-read-t12
-array-read-t12 c = search needs
+array-read-t9-2 : tie.Need-array-read-t9-2
+array-read-t9-2 c = search needs
 
 array-read-t15 : tie.Need-array-read-t15
 array-read-t15 c = search needs
@@ -21,5 +21,4 @@ returns c = rw (c .global-index .ensures)
 
 pub global-row-spec : {M : Type 1} → statement M
 global-row-spec =
-    tie.close
-    (tie.spec array-read-global-index global-index-requires array-read-t12 array-read-t15 returns)
+    tie.close (tie.spec array-read-t9 global-index-requires array-read-t9-2 array-read-t15 returns)

@@ -2,6 +2,7 @@ use Rattle.part.proofs.Checking.{ascending-at}
 use Rattle.encoding.proofs.Pieces.{splice-of}
 use Rattle.part.proofs.Writing.{range-first}
 use Rattle.message_build.proofs.Ghosts.{core-local, local-room, ghost-source, ghost-copied}
+use Rattle.message_build.proofs.Trees.{place-is}
 use borrow.Author.Needs.{needs}
 use Rattle.message_build.proofs.write.write_ghost.Statement.{statement}
 use Rattle.message_build.proofs.write.write_ghost.Tie as tie
@@ -12,20 +13,20 @@ add-in-range c = search needs
 in-range-requires : tie.Need-in-range-requires
 in-range-requires c κs = search needs
 
-sub-tree-at : tie.Need-sub-tree-at
-sub-tree-at c = range-first _ _ _ (c .before .in-range .ensures) (c .if1 .taken)
+to-local-requires : tie.Need-to-local-requires
+to-local-requires c κs = range-first _ _ _ (c .before .in-range .ensures) (c .if1 .taken)
 
 tree-at-requires : tie.Need-tree-at-requires
 tree-at-requires c κs = search needs
 
 write-core-requires : tie.Need-write-core-requires
-write-core-requires c κs = local-room _ _ _ _ _ _ _ _ (c .before .before .before .before .before .before .pre) (c .before .before .before .in-range .ensures) (c .before .before .if1 .taken) (c .before .tree-at .ensures)
+write-core-requires c κs = local-room _ _ _ _ _ _ _ _ (c .before .before .before .before .before .before .before .pre) (c .before .before .before .before .in-range .ensures) (c .before .before .before .if1 .taken) (place-is _ _ _ (c .before .before .to-local .ensures) (c .before .tree-at .ensures))
 
 same-length : tie.Need-same-length
 same-length c = search needs
 
 returns : tie.Need-returns
-returns c = splice-of _ _ (c .before .before .write-core .ensures) (rw (c .before .before .before .before .tree-at .ensures) (core-local _ _ _ _ _ _ (c .before .before .before .before .before .before .before .before .before .pre .known) (c .before .before .before .before .before .before .in-range .ensures) (c .before .before .before .before .before .if1 .taken)))
+returns c = splice-of _ _ (c .before .before .write-core .ensures) (rw (place-is _ _ _ (c .before .before .before .before .before .to-local .ensures) (c .before .before .before .before .tree-at .ensures)) (core-local _ _ _ _ _ _ (c .before .before .before .before .before .before .before .before .before .before .pre .known) (c .before .before .before .before .before .before .before .in-range .ensures) (c .before .before .before .before .before .before .if1 .taken)))
 
 ghost-at-requires : tie.Need-ghost-at-requires
 ghost-at-requires c κs = search needs
@@ -51,7 +52,7 @@ write-ghost-spec =
     (tie.spec
     add-in-range
     in-range-requires
-    sub-tree-at
+    to-local-requires
     tree-at-requires
     write-core-requires
     same-length

@@ -1,6 +1,6 @@
 use Prim.Native.Nat.{_+_, _-_}
 use native.Mathlib.Omega.{arith}
-use Rattle.message_build.proofs.Trees.{TreesSent, trees-start, tree-from, tree-room, trees-next, trees-end}
+use Rattle.message_build.proofs.Trees.{place-is, TreesSent, trees-start, tree-from, tree-room, trees-next, trees-end}
 use borrow.Author.Needs.{needs}
 use Rattle.message_build.proofs.write.write_trees.Statement.{statement}
 use Rattle.message_build.proofs.write.write_trees.Tie as tie
@@ -17,17 +17,17 @@ add-end c = search needs
 loop-holds : tie.Need-loop-holds Inv-loop μ-loop
 loop-holds c = trees-start _ _ _ _ _ _ _ _ (c .before .before .pre)
 
-sub-tree-at : tie.Need-sub-tree-at Inv-loop μ-loop
-sub-tree-at c = tree-from _ _ _ _ _ _ _ _ (c .before .before .before .before .pre) (c .before .loop .inv) (c .loop-test .taken)
+to-local-requires : tie.Need-to-local-requires Inv-loop μ-loop
+to-local-requires c κs = tree-from _ _ _ _ _ _ _ _ (c .before .before .before .before .pre) (c .before .loop .inv) (c .loop-test .taken)
 
 tree-at-requires : tie.Need-tree-at-requires Inv-loop μ-loop
 tree-at-requires c κs = search needs
 
 write-tree-requires : tie.Need-write-tree-requires Inv-loop μ-loop
-write-tree-requires c κs = tree-room _ _ _ _ _ _ _ _ (c .before .before .before .before .before .before .pre) (c .before .before .before .loop .inv) (c .before .before .loop-test .taken) (c .before .tree-at .ensures)
+write-tree-requires c κs = tree-room _ _ _ _ _ _ _ _ (c .before .before .before .before .before .before .before .pre) (c .before .before .before .before .loop .inv) (c .before .before .before .loop-test .taken) (place-is _ _ _ (c .before .before .to-local .ensures) (c .before .tree-at .ensures))
 
 add-to : tie.Need-add-to Inv-loop μ-loop
-add-to c = omega (arith, tree-room _ _ _ _ _ _ _ _ (c .before .before .before .before .before .before .before .before .before .pre) (c .before .before .before .before .before .before .loop .inv) (c .before .before .before .before .before .loop-test .taken) (c .before .before .before .before .tree-at .ensures) .target)
+add-to c = omega (arith, tree-room _ _ _ _ _ _ _ _ (c .before .before .before .before .before .before .before .before .before .before .pre) (c .before .before .before .before .before .before .before .loop .inv) (c .before .before .before .before .before .before .loop-test .taken) (place-is _ _ _ (c .before .before .before .before .before .to-local .ensures) (c .before .before .before .before .tree-at .ensures)) .target)
 
 add-k : tie.Need-add-k Inv-loop μ-loop
 add-k c = search needs
@@ -36,7 +36,7 @@ loop-less : tie.Need-loop-less Inv-loop μ-loop
 loop-less c = search needs
 
 loop-again : tie.Need-loop-again Inv-loop μ-loop
-loop-again c = trees-next _ _ _ _ _ _ _ _ (c .before .before .before .before .before .before .before .before .before .pre) (c .before .before .before .before .before .before .loop .inv) (c .before .before .before .before .before .loop-test .taken) (c .before .before .before .before .tree-at .ensures) (c .before .before .write-tree .ensures)
+loop-again c = trees-next _ _ _ _ _ _ _ _ (c .before .before .before .before .before .before .before .before .before .before .pre) (c .before .before .before .before .before .before .before .loop .inv) (c .before .before .before .before .before .before .loop-test .taken) (place-is _ _ _ (c .before .before .before .before .before .to-local .ensures) (c .before .before .before .before .tree-at .ensures)) (c .before .before .write-tree .ensures)
 
 same-length : tie.Need-same-length Inv-loop μ-loop
 same-length c = c .before .loop .inv .same-length
@@ -52,7 +52,7 @@ write-trees-spec =
     μ-loop
     add-end
     loop-holds
-    sub-tree-at
+    to-local-requires
     tree-at-requires
     write-tree-requires
     add-to

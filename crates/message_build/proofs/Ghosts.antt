@@ -1,0 +1,217 @@
+-- Laws of the ghosts of a message.
+use Prim.Native.Nat.{ℕ, zero, suc, _+_, _-_, _*_, _≤_, _<_}
+use native.Mathlib.Nat.{add-zero}
+use native.Mathlib.Numerals.{add-one}
+use native.Mathlib.Omega.{arith}
+use mathlib.Core.Path.{_≡_, refl, sym, ap, ap₂, _∙_}
+use mathlib.Core.Bool.{Bool, true, false, cond, _||_}
+use mathlib.Core.List.{List, [], _++_, append-nil}
+use lib.Dec.{leb, ltb, eqb}
+use lib.ListN.{length, getD, length-append}
+use borrow.Author.Tests.{leb-true, ltb-true, eqb-true, eqb-false}
+use Rattle.encoding.specs.Below.{anyBelow, leastBelow, countBelow, sumBelow}
+use Rattle.encoding.specs.Pieces.{piece, splice}
+use Rattle.encoding.proofs.Below.{either, tests, and-fst, and-snd, count-more, count-mono, count-none, sum-more, least-lt}
+use Rattle.encoding.proofs.Pieces.{length-splice, splice-none, splice-then}
+use Rattle.bits.specs.Bits.{bitOf, inSet, leastFrom}
+use Rattle.bits.proofs.Bits.{count-add, set-count}
+use Rattle.bits.proofs.Scanning.{from-le, from-most, from-at, from-below}
+use Rattle.records.specs.Record.{coreSize, numberOf}
+use Rattle.part.specs.Layout.{treePlace, ghostPlace}
+use Rattle.part.specs.Cut.{renamed}
+use Rattle.part.specs.View.{isLocal, ghostIs, held, heldCore}
+use Rattle.part.specs.Part.{partFirst, partCount, partGhostCount, storedTree, storedGhost, globalIndex, globalTree, partHolds, partCore}
+use Rattle.part.specs.Mirror.{inRange, Ascending, smaller, ghostCore, ghostHas}
+use Rattle.part.proofs.Checking.{search-past, search-other, search-found}
+use Rattle.message_build.specs.Mirror.{RecordRoom, Searchable, coresBelow, GhostRoom}
+
+-- ---- one record, found by its number
+
+range-both : (first end k : ℕ) → inRange first end k ≡ true → (first ≤ k) × (k < end)
+unfolding inRange
+range-both first end k e = (leb-true first k (and-fst (leb first k) (ltb k end) e), ltb-true k end (and-snd (leb first k) (ltb k end) e))
+
+-- a number that some ghost has is found
+module _ (part : List ℕ) (n g k : ℕ) (known : Ascending part (ghostPlace n 0) g) (some : anyBelow g (ghostHas (ghostCore part n) k) ≡ true)
+    {at p : ℕ} (from : at ≡ ghostPlace n 0) (position : p ≡ smaller part at g k) where
+  least-less : leastBelow g (ghostHas (ghostCore part n) k) < g
+  least-less = least-lt g (ghostHas (ghostCore part n) k) some
+
+  pub found-below : p < g
+  found-below = either (ltb p g) (λ t. ltb-true p g t) (λ t. absurd (omega (arith, least-less, search-past part n g known from k position (omega tests))))
+
+  pub found-is : p ≡ leastBelow g (ghostHas (ghostCore part n) k)
+  found-is =
+      let v : ℕ = numberOf (piece part (ghostPlace n p) coreSize) in
+      either (eqb v k)
+      (λ t. search-found part n g known from k position refl refl found-below (eqb-true v k t))
+      (λ t. absurd (omega (arith, least-less, search-other part n g known from k position refl refl (eqb-false v k t))))
+
+-- as the code looks a record up
+module _ (part : List ℕ) (k : ℕ) where
+  abbrev inside : Bool
+  inside = inRange (partFirst part) (partFirst part + partCount part) k
+
+  abbrev named : ℕ → Bool
+  named = ghostHas (ghostCore part (partCount part)) k
+
+  holds-read : partHolds part k ≡ (inside || anyBelow (partGhostCount part) named)
+  unfolding partHolds held isLocal inRange ghostIs ghostHas storedGhost ghostCore
+  holds-read = refl
+
+  core-read : partCore part k ≡ cond inside (globalTree part (k - partFirst part)) (ghostCore part (partCount part) (leastBelow (partGhostCount part) named))
+  unfolding partCore heldCore isLocal inRange ghostIs ghostHas storedGhost ghostCore
+  core-read = refl
+
+module _ (part : List ℕ) (count ghosts faces first k : ℕ) (known : Searchable part count ghosts faces first) {b : Bool} (test : b ≡ inRange first (first + count) k) where
+  test-is : b ≡ inside part k
+  test-is = rw (known .isFirst, known .opened .isCount) at test
+
+  pub core-local : b ≡ true → renamed (globalIndex part) faces (piece part (treePlace (k - first)) coreSize) ≡ partCore part k
+  unfolding globalTree storedTree
+  core-local h = rw (core-read part k, ← test-is, h, known .isFaces, known .isFirst)
+
+  module _ (out : b ≡ false) where
+    pub some-ghost : partHolds part k ≡ true → anyBelow ghosts (ghostHas (ghostCore part count) k) ≡ true
+    some-ghost e = rw (known .opened .isCount, known .opened .isGhosts) (rw (holds-read part k, ← test-is, out) at e)
+
+    pub core-found : {p : ℕ} → p ≡ leastBelow ghosts (ghostHas (ghostCore part count) k) → piece part (ghostPlace count p) coreSize ≡ partCore part k
+    unfolding ghostCore
+    core-found e = rw (core-read part k, ← test-is, out, e, known .opened .isCount, known .opened .isGhosts)
+
+module _ (part out : List ℕ) (count ghosts faces first k to : ℕ) (room : GhostRoom part out count ghosts faces first k to) {b : Bool} (test : b ≡ inRange first (first + count) k) where
+  pub local-room : {from : ℕ} → b ≡ true → from ≡ treePlace (k - first) → RecordRoom part out count ghosts faces coreSize from to
+  local-room h e =
+      let l = range-both first (first + count) k (sym test ∙ h) in
+      record {
+        opened = room .known .opened;
+        faced = room .known .faced;
+        source = omega (arith, room .known .opened .long, l .0, l .1);
+        target = room .target;
+      }
+
+  module _ (outside : b ≡ false) {at p : ℕ} (from : at ≡ ghostPlace count 0) (position : p ≡ smaller part at ghosts k) where
+    some : anyBelow ghosts (ghostHas (ghostCore part count) k) ≡ true
+    some = some-ghost part count ghosts faces first k (room .known) test outside (room .has)
+
+    pub ghost-source : {there : ℕ} → there ≡ ghostPlace count p → there + coreSize ≤ length part
+    ghost-source e = omega (arith, room .known .opened .long, found-below part count ghosts k (room .known .ascending) some from position)
+
+    pub ghost-copied : {there : ℕ} {last : List ℕ} → there ≡ ghostPlace count p → last ≡ splice out to (piece part there coreSize) → last ≡ splice out to (partCore part k)
+    ghost-copied e w =
+        w ∙ ap (λ (o : ℕ). splice out to (piece part o coreSize)) e
+        ∙ ap (splice out to) (core-found part count ghosts faces first k (room .known) test outside (found-is part count ghosts k (room .known .ascending) some from position))
+
+-- ---- the cores of a set
+
+module _ (core : ℕ → List ℕ) (f : ℕ → Bool) where
+  pub cores-more : (k : ℕ) → coresBelow core f (k + 1) ≡ coresBelow core f k ++ cond (f k) (core k) []
+  unfolding coresBelow
+  cores-more k = rw add-one
+
+  -- where none passes, nothing is added
+  pub cores-gap : (a d : ℕ) → ((i : ℕ) → a ≤ i → i < a + d → f i ≡ false) → coresBelow core f (a + d) ≡ coresBelow core f a
+  cores-gap a zero h = ap (coresBelow core f) (add-zero a)
+  cores-gap a (suc d) h =
+      let e : a + suc d ≡ a + d + 1 = omega arith in
+      rw (e, cores-more (a + d), h (a + d) (omega arith) (omega arith)) (append-nil (coresBelow core f (a + d)) ∙ cores-gap a d (λ i p q. h i p (omega arith)))
+
+  pub count-gap : (a d : ℕ) → ((i : ℕ) → a ≤ i → i < a + d → f i ≡ false) → countBelow (a + d) f ≡ countBelow a f
+  count-gap a d h = rw (count-add a d f, count-none d (λ i. f (a + i)) (λ i p. h (a + i) (omega arith) (omega arith))) (add-zero (countBelow a f))
+
+  module _ (long : (k : ℕ) → f k ≡ true → length (core k) ≡ coreSize) where
+    pub cores-long : (k : ℕ) → length (coresBelow core f k) ≡ coreSize * countBelow k f
+    unfolding coresBelow countBelow
+    cores-long zero = refl
+    cores-long (suc k) =
+        either (f k)
+        (λ t. rw (length-append, cores-long k, t) (omega (arith, long k t)))
+        (λ t. rw (length-append, cores-long k, t) (omega arith))
+
+-- ---- the loop
+
+-- the next member is behind
+pub member-behind : (N k : ℕ) (f : ℕ → Bool) {next : ℕ} → next ≡ leastFrom N (k + 1) f → k < next
+member-behind N k f e = omega (arith, from-le N (k + 1) f)
+
+-- the cores of the members below k are written, k is the next member, and goes to byte to
+pub record Going (core : ℕ → List ℕ) (f : ℕ → Bool) (N : ℕ) (out₀ : List ℕ) (at to k : ℕ) (out : List ℕ) : Type 0 where
+  pub within : k ≤ N
+  pub member : k < N → f k ≡ true
+  pub place : to ≡ at + coreSize * countBelow k f
+  pub same-length : length out ≡ length out₀
+  pub written : out ≡ splice out₀ at (coresBelow core f k)
+
+module _ (core : ℕ → List ℕ) (f : ℕ → Bool) (N : ℕ) (out₀ : List ℕ) (at : ℕ) (long : (k : ℕ) → f k ≡ true → length (core k) ≡ coreSize) (room : at + coreSize * countBelow N f ≤ length out₀) where
+  -- on to the next member from j
+  onward : {to j k : ℕ} {out : List ℕ} → j ≤ N → k ≡ leastFrom N j f → to ≡ at + coreSize * countBelow j f → length out ≡ length out₀ → out ≡ splice out₀ at (coresBelow core f j) → Going core f N out₀ at to k out
+  onward {to} {j} {k} {out} h e place same written =
+      let low : j ≤ k = rw e (from-le N j f) in
+      let most : k ≤ j + (N - j) = rw e (from-most N j f) in
+      let s : j + (k - j) ≡ k = omega arith in
+      let none : (i : ℕ) → j ≤ i → i < j + (k - j) → f i ≡ false = λ i p q. from-below N j f i p (rw e at (rw s at q)) in
+      let c : countBelow k f ≡ countBelow j f = ap (λ (m : ℕ). countBelow m f) (sym s) ∙ count-gap core f j (k - j) none in
+      let w : coresBelow core f k ≡ coresBelow core f j = ap (coresBelow core f) (sym s) ∙ cores-gap core f j (k - j) none in
+      record {
+        within = omega arith;
+        member = λ l. rw e (from-at N j f (rw e at l));
+        place = place ∙ ap (λ (m : ℕ). at + coreSize * m) (sym c);
+        same-length = same;
+        written = written ∙ ap (splice out₀ at) (sym w);
+      }
+
+  pub ghosts-start : {k : ℕ} → k ≡ leastFrom N 0 f → Going core f N out₀ at at k out₀
+  unfolding coresBelow countBelow
+  ghosts-start e = onward {j = 0} (omega arith) e (omega arith) refl (sym (splice-none out₀ at))
+
+  module _ {to k : ℕ} {out : List ℕ} (so-far : Going core f N out₀ at to k out) (more : k < N) where
+    one : countBelow (k + 1) f ≡ countBelow k f + 1
+    one = rw (count-more k f, so-far .member more)
+
+    pub ghosts-room : to + coreSize ≤ length out
+    ghosts-room = omega (arith, one, count-mono (k + 1) N f (omega arith), so-far .place, so-far .same-length)
+
+    pub ghosts-next : {next : ℕ} {last : List ℕ} → last ≡ splice out to (core k) → next ≡ leastFrom N (k + 1) f → Going core f N out₀ at (to + coreSize) next last
+    ghosts-next {next} {last} p e =
+        let m : ℕ = countBelow k f in
+        let W : List ℕ = coresBelow core f k in
+        let l : length (core k) ≡ coreSize = long k (so-far .member more) in
+        let d : coresBelow core f (k + 1) ≡ W ++ core k = rw (cores-more core f k, so-far .member more) in
+        let q : last ≡ splice out (at + coreSize * m) (core k) = p ∙ ap (λ (o : ℕ). splice out o (core k)) (so-far .place) in
+        onward {j = k + 1} (omega arith) e (rw one (omega (arith, so-far .place)))
+        (ap length p ∙ length-splice out to (core k) (omega (arith, ghosts-room)) ∙ so-far .same-length)
+        (splice-then out₀ at (coreSize * m) W (core k) (cores-long core f long k) (omega (arith, ghosts-room, so-far .place, so-far .same-length)) (so-far .written) q ∙ ap (splice out₀ at) (sym d))
+
+  pub ghosts-end : {to k : ℕ} {out : List ℕ} → Going core f N out₀ at to k out → N ≤ k → out ≡ splice out₀ at (coresBelow core f N)
+  ghosts-end {to} {k} s h =
+      let e : k ≡ N = omega (arith, s .within) in
+      rw e at (s .written)
+
+-- ---- how many there are
+
+-- the loop: the members in the words before word i are counted
+pub record Counted (ws : List ℕ) (i count : ℕ) : Type 0 where
+  pub within : i ≤ length ws
+  pub many : count ≡ countBelow (64 * i) (inSet ws)
+  pub few : count ≤ 64 * i
+
+module _ (ws : List ℕ) where
+  abbrev onesAt : ℕ → ℕ
+  onesAt i = countBelow 64 (bitOf (getD ws i 0))
+
+  pub count-start : Counted ws 0 0
+  unfolding sumBelow
+  count-start = record { within = omega arith; many = set-count ws 0; few = omega arith }
+
+  pub count-word : {i count ones : ℕ} → Counted ws i count → i < length ws → ones ≡ countBelow 64 (bitOf (getD ws i 0)) → ones ≤ 64 → Counted ws (i + 1) (count + ones)
+  count-word {i} {count} {ones} c h e l =
+      record {
+        within = omega arith;
+        many = ap₂ (λ (a b : ℕ). a + b) (c .many ∙ sym (set-count ws i)) e ∙ sym (sum-more i onesAt) ∙ set-count ws (i + 1);
+        few = omega (arith, c .few);
+      }
+
+  pub count-end : {i count : ℕ} → Counted ws i count → length ws ≤ i → count ≡ countBelow (64 * length ws) (inSet ws)
+  count-end {i} c h =
+      let e : i ≡ length ws = omega (arith, c .within) in
+      rw e at (c .many)

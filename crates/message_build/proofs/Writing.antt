@@ -1,0 +1,107 @@
+-- Laws of the writing of a message: the header, and records with global numbers.
+use Prim.Native.Nat.{ℕ, _+_, _-_, _≤_, _<_}
+use native.Mathlib.Omega.{arith}
+use mathlib.Core.Path.{_≡_, refl, sym, ap, _∙_}
+use mathlib.Core.List.{List, _++_, map, append-assoc}
+use lib.ListN.{length}
+use borrow.Author.Tests.{lt-ltb, le-ltb, eq-eqb, ne-eqb}
+use Rattle.encoding.specs.Numbers.{putU32}
+use Rattle.encoding.specs.Pieces.{piece, splice, Bytes}
+use Rattle.encoding.proofs.Pieces.{piece-length, piece-same, bytes-piece, length-splice}
+use Rattle.records.specs.Record.{coreSize, treeSize, unused, numberOf}
+use Rattle.records.specs.Links.{cell, rowsOf, neighbourBytes, codeBytes, withRows, Rows}
+use Rattle.records.proofs.Rows.{splice-inside, rows-hold}
+use Rattle.part.specs.Layout.{treePlace, ghostPlace}
+use Rattle.part.specs.Cut.{renamed, renameRow}
+use Rattle.part.specs.Part.{noTree, storedTree, storedGhost, globalIndex}
+use Rattle.part.specs.Mirror.{rowsWith}
+use Rattle.part.proofs.Writing.{words-none, words-next}
+use Rattle.part.proofs.Cutting.{links-length}
+use Rattle.part.proofs.Trees.{splice-over, with-hold, with-rows, rows-core}
+use Rattle.part.proofs.Global.{global-word}
+use Rattle.message.specs.Layout.{messageHeaderBytes}
+use Rattle.message_build.specs.Mirror.{Opened, globalLinks}
+
+-- ---- the header
+
+-- the eight numbers
+pub header-written : (bs : List ℕ) (epoch d K P p q n g : ℕ) {o1 o2 o3 o4 o5 o6 o7 o8 : List ℕ} → 32 ≤ length bs
+    → o1 ≡ putU32 bs 0 epoch → o2 ≡ putU32 o1 4 d → o3 ≡ putU32 o2 8 K → o4 ≡ putU32 o3 12 P → o5 ≡ putU32 o4 16 p → o6 ≡ putU32 o5 20 q → o7 ≡ putU32 o6 24 n → o8 ≡ putU32 o7 28 g
+    → o8 ≡ splice bs 0 (messageHeaderBytes epoch d K P p q n g)
+unfolding messageHeaderBytes
+header-written bs epoch d K P p q n g h e1 e2 e3 e4 e5 e6 e7 e8 =
+    let w1 = words-next bs epoch {off = 0} (omega arith) (words-none bs) e1 in
+    let w2 = words-next bs d {off = 4} (omega arith) w1 e2 in
+    let w3 = words-next bs K {off = 8} (omega arith) w2 e3 in
+    let w4 = words-next bs P {off = 12} (omega arith) w3 e4 in
+    let w5 = words-next bs p {off = 16} (omega arith) w4 e5 in
+    let w6 = words-next bs q {off = 20} (omega arith) w5 e6 in
+    let w7 = words-next bs n {off = 24} (omega arith) w6 e7 in
+    words-next bs g {off = 28} (omega arith) w7 e8 .begins ∙ ap (splice bs 0) (simp append-assoc)
+
+-- ---- the number behind a local index
+
+module _ (part : List ℕ) (count ghosts : ℕ) (o : Opened part count ghosts) (j : ℕ) where
+  pub index-unused : j ≡ unused → unused ≡ globalIndex part j
+  unfolding globalIndex
+  index-unused h = rw (eq-eqb j unused h)
+
+  module _ (used : j ≡ unused → ⊥) where
+    pub index-tree : {at r : ℕ} → j < count → at ≡ treePlace j → r ≡ numberOf (piece part at coreSize) → r ≡ globalIndex part j
+    unfolding globalIndex storedTree
+    index-tree h e p = rw (ne-eqb j unused used, ← o .isCount, lt-ltb j count h, ← e, p)
+
+    module _ (past : count ≤ j) where
+      pub index-ghost : {at r : ℕ} → j - count < ghosts → at ≡ ghostPlace count (j - count) → r ≡ numberOf (piece part at coreSize) → r ≡ globalIndex part j
+      unfolding globalIndex storedGhost
+      index-ghost h e p =
+          let l : j < count + ghosts = omega arith in
+          rw (ne-eqb j unused used, ← o .isCount, ← o .isGhosts, le-ltb j count past, lt-ltb j (count + ghosts) l, ← e, p)
+
+      pub index-none : ghosts ≤ j - count → noTree ≡ globalIndex part j
+      unfolding globalIndex
+      index-none h =
+          let l : count + ghosts ≤ j = omega arith in
+          rw (ne-eqb j unused used, ← o .isCount, ← o .isGhosts, le-ltb j count past, le-ltb j (count + ghosts) l)
+
+-- ---- one record
+
+module _ (part : List ℕ) (from F : ℕ) where
+  -- global numbers fit a record
+  pub global-hold : {rows global : List (List ℕ)} → Bytes part → 0 < F → rows ≡ rowsOf (piece part from coreSize) F → global ≡ rowsWith (globalIndex part) rows → Rows global F
+  global-hold {rows} {global} b faced e p =
+      let h : Rows rows F = rw e (rows-hold (piece part from coreSize) F (bytes-piece part from coreSize b) faced) in
+      rw p (with-hold (globalIndex part) rows F h (λ f l. global-word part b (cell rows f 0)))
+
+  pub links-put : (out : List ℕ) (to : ℕ) {rows global : List (List ℕ)} {last : List ℕ} → rows ≡ rowsOf (piece part from coreSize) F → global ≡ rowsWith (globalIndex part) rows
+      → last ≡ splice out to (withRows global F (piece out to coreSize)) → last ≡ splice out to (globalLinks part F from (piece out to coreSize))
+  unfolding globalLinks
+  links-put out to e p w = w ∙ rw (p, e)
+
+  module _ (size : ℕ) (wide : coreSize ≤ size) (same : rowsOf (piece part from size) F ≡ rowsOf (piece part from coreSize) F) (out : List ℕ) (to : ℕ) (source : from + size ≤ length part) (target : to + size ≤ length out) where
+    -- copied, and its links put over
+    pub record-written : {mid last : List ℕ} → mid ≡ splice out to (piece part from size) → last ≡ splice mid to (globalLinks part F from (piece mid to coreSize))
+        → last ≡ splice out to (renamed (globalIndex part) F (piece part from size))
+    unfolding globalLinks withRows renamed
+    record-written {mid} {last} q w =
+        let T : List ℕ = piece part from size in
+        let rows : List (List ℕ) = rowsWith (globalIndex part) (rowsOf (piece part from coreSize) F) in
+        let X : List ℕ = neighbourBytes rows 6 ++ codeBytes rows F 6 in
+        let lT : length T ≡ size = piece-length part from size source in
+        let lX : length X ≡ 30 = links-length rows F in
+        let lM : length mid ≡ length out = ap length q ∙ length-splice out to T (omega arith) in
+        let s1 : splice mid to (splice (piece mid to coreSize) 8 X) ≡ splice mid (to + 8) X = splice-inside mid to coreSize 8 X (omega arith) (omega arith) in
+        let s2 : splice mid to (splice (piece mid to size) 8 X) ≡ splice mid (to + 8) X = splice-inside mid to size 8 X (omega arith) (omega arith) in
+        let s3 : piece mid to size ≡ T = ap (λ (m : List ℕ). piece m to size) q ∙ ap (λ (n : ℕ). piece (splice out to T) to n) (sym lT) ∙ piece-same out to T (omega arith) in
+        let s4 : splice mid to (splice T 8 X) ≡ splice out to (splice T 8 X) = ap (λ (m : List ℕ). splice m to (splice T 8 X)) q ∙ splice-over out to T (splice T 8 X) (sym (length-splice T 8 X (omega arith))) (omega arith) in
+        let r : rows ≡ map (renameRow (globalIndex part)) (rowsOf T F) =
+        ap (rowsWith (globalIndex part)) (sym same) ∙ with-rows (globalIndex part) T F in
+        w ∙ s1 ∙ sym s2 ∙ ap (λ (t : List ℕ). splice mid to (splice t 8 X)) s3 ∙ s4 ∙ ap (λ (l : List (List ℕ)). splice out to (splice T 8 (neighbourBytes l 6 ++ codeBytes l F 6))) r
+
+  pub tree-written : (out : List ℕ) (to : ℕ) → from + treeSize ≤ length part → to + treeSize ≤ length out → {mid last : List ℕ} → mid ≡ splice out to (piece part from treeSize)
+      → last ≡ splice mid to (globalLinks part F from (piece mid to coreSize)) → last ≡ splice out to (renamed (globalIndex part) F (piece part from treeSize))
+  tree-written out to s t q w = record-written treeSize (omega arith) (rows-core part from F) out to s t q w
+
+  pub core-written : (out : List ℕ) (to : ℕ) → from + coreSize ≤ length part → to + coreSize ≤ length out → {mid last : List ℕ} → mid ≡ splice out to (piece part from coreSize)
+      → last ≡ splice mid to (globalLinks part F from (piece mid to coreSize)) → last ≡ splice out to (renamed (globalIndex part) F (piece part from coreSize))
+  core-written out to s t q w = record-written coreSize (omega arith) refl out to s t q w

@@ -1,0 +1,55 @@
+use native.Mathlib.Omega.{arith}
+use mathlib.Core.Path.{refl}
+use Rattle.message_build.proofs.Answers.{blank, size-is, message-room, may-send, build-refused, build-short, build-done}
+use borrow.Author.Needs.{needs}
+use Rattle.message_build.proofs.build_message.Statement.{statement}
+use Rattle.message_build.proofs.build_message.Tie as tie
+
+refusal-requires : tie.Need-refusal-requires
+refusal-requires c κs = search needs
+
+returns : tie.Need-returns
+returns c = build-refused _ _ _ _ _ (c .before .refusal .ensures) _ _ (c .if1 .taken)
+
+slice-aggregate-mark-ghosts : tie.Need-slice-aggregate-mark-ghosts
+slice-aggregate-mark-ghosts c = search needs
+
+mark-ghosts-requires : tie.Need-mark-ghosts-requires
+mark-ghosts-requires c κs = (may-send _ _ _ _ _ (c .before .before .refusal .ensures) (λ i. c .before .before .before .before .before .shared-slice-known2 .given i .fits) (λ i. c .before .before .before .before .shared-slice-known3 .given i .fits) (c .before .if1 .left), blank 16384 refl)
+
+slice-aggregate-message-size : tie.Need-slice-aggregate-message-size
+slice-aggregate-message-size c = search needs
+
+message-size-requires : tie.Need-message-size-requires
+message-size-requires c κs = (may-send _ _ _ _ _ (c .before .before .before .before .before .refusal .ensures) (λ i. c .before .before .before .before .before .before .before .before .shared-slice-known2 .given i .fits) (λ i. c .before .before .before .before .before .before .before .shared-slice-known3 .given i .fits) (c .before .before .before .before .if1 .left) .pair, omega (arith, c .before .before .mark-ghosts .ensures .long))
+
+returns-2 : tie.Need-returns-2
+returns-2 c = build-short _ _ _ _ _ (c .before .before .before .before .before .before .before .refusal .ensures) _ _ (c .before .before .before .before .before .before .if1 .left) (size-is _ _ _ _ _ (may-send _ _ _ _ _ (c .before .before .before .before .before .before .before .refusal .ensures) (λ i. c .before .before .before .before .before .before .before .before .before .before .shared-slice-known2 .given i .fits) (λ i. c .before .before .before .before .before .before .before .before .before .shared-slice-known3 .given i .fits) (c .before .before .before .before .before .before .if1 .left)) _ (c .before .before .before .before .mark-ghosts .ensures) _ (c .before .message-size .ensures)) (c .if2 .taken)
+
+slice-aggregate-write-message : tie.Need-slice-aggregate-write-message
+slice-aggregate-write-message c = search needs
+
+write-message-requires : tie.Need-write-message-requires
+write-message-requires c κs = message-room _ _ _ _ _ (may-send _ _ _ _ _ (c .before .before .before .before .before .before .before .before .before .refusal .ensures) (λ i. c .before .before .before .before .before .before .before .before .before .before .before .before .shared-slice-known2 .given i .fits) (λ i. c .before .before .before .before .before .before .before .before .before .before .before .shared-slice-known3 .given i .fits) (c .before .before .before .before .before .before .before .before .if1 .left)) _ (c .before .before .before .before .before .before .mark-ghosts .ensures) _ _ (c .before .before .before .message-size .ensures) (c .before .before .if2 .left)
+
+same-length : tie.Need-same-length
+same-length c = search needs
+
+returns-3 : tie.Need-returns-3
+returns-3 c = build-done _ _ _ _ _ (c .before .before .before .before .before .before .before .before .before .before .before .before .refusal .ensures) _ _ (c .before .before .before .before .before .before .before .before .before .before .before .if1 .left) (size-is _ _ _ _ _ (may-send _ _ _ _ _ (c .before .before .before .before .before .before .before .before .before .before .before .before .refusal .ensures) (λ i. c .before .before .before .before .before .before .before .before .before .before .before .before .before .before .before .shared-slice-known2 .given i .fits) (λ i. c .before .before .before .before .before .before .before .before .before .before .before .before .before .before .shared-slice-known3 .given i .fits) (c .before .before .before .before .before .before .before .before .before .before .before .if1 .left)) _ (c .before .before .before .before .before .before .before .before .before .mark-ghosts .ensures) _ (c .before .before .before .before .before .before .message-size .ensures)) (c .before .before .before .before .before .if2 .left) (c .before .before .write-message .ensures)
+
+pub build-message-spec : {M : Type 1} → statement M
+build-message-spec =
+    tie.close
+    (tie.spec
+    refusal-requires
+    returns
+    slice-aggregate-mark-ghosts
+    mark-ghosts-requires
+    slice-aggregate-message-size
+    message-size-requires
+    returns-2
+    slice-aggregate-write-message
+    write-message-requires
+    same-length
+    returns-3)

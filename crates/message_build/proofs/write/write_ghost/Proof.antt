@@ -1,0 +1,65 @@
+use Rattle.part.proofs.Checking.{ascending-at}
+use Rattle.encoding.proofs.Pieces.{splice-of}
+use Rattle.part.proofs.Writing.{range-first}
+use Rattle.message_build.proofs.Ghosts.{core-local, local-room, ghost-source, ghost-copied}
+use Rattle.message_build.proofs.Trees.{place-is}
+use borrow.Author.Needs.{needs}
+use Rattle.message_build.proofs.write.write_ghost.Statement.{statement}
+use Rattle.message_build.proofs.write.write_ghost.Tie as tie
+
+add-in-range : tie.Need-add-in-range
+add-in-range c = search needs
+
+in-range-requires : tie.Need-in-range-requires
+in-range-requires c κs = search needs
+
+to-local-requires : tie.Need-to-local-requires
+to-local-requires c κs = range-first _ _ _ (c .before .in-range .ensures) (c .if1 .taken)
+
+tree-at-requires : tie.Need-tree-at-requires
+tree-at-requires c κs = search needs
+
+write-core-requires : tie.Need-write-core-requires
+write-core-requires c κs = local-room _ _ _ _ _ _ _ _ (c .before .before .before .before .before .before .before .pre) (c .before .before .before .before .in-range .ensures) (c .before .before .before .if1 .taken) (place-is _ _ _ (c .before .before .to-local .ensures) (c .before .tree-at .ensures))
+
+same-length : tie.Need-same-length
+same-length c = search needs
+
+returns : tie.Need-returns
+returns c = splice-of _ _ (c .before .before .write-core .ensures) (rw (place-is _ _ _ (c .before .before .before .before .before .to-local .ensures) (c .before .before .before .before .tree-at .ensures)) (core-local _ _ _ _ _ _ (c .before .before .before .before .before .before .before .before .before .before .pre .known) (c .before .before .before .before .before .before .before .in-range .ensures) (c .before .before .before .before .before .before .if1 .taken)))
+
+ghost-at-requires : tie.Need-ghost-at-requires
+ghost-at-requires c κs = search needs
+
+find-ghost-requires : tie.Need-find-ghost-requires
+find-ghost-requires c κs = ascending-at _ _ _ (c .before .before .before .before .before .pre .known .ascending) (c .ghost-at .ensures)
+
+ghost-at-requires-2 : tie.Need-ghost-at-requires-2
+ghost-at-requires-2 c κs = search needs
+
+copy40-requires : tie.Need-copy40-requires
+copy40-requires c κs = (ghost-source _ _ _ _ _ _ _ _ (c .before .before .before .before .before .before .before .before .pre) (c .before .before .before .before .before .in-range .ensures) (c .before .before .before .before .if1 .left) (c .before .before .before .ghost-at .ensures) (c .before .before .find-ghost .ensures .0) (c .before .ghost-at2 .ensures), search needs)
+
+same-length-2 : tie.Need-same-length-2
+same-length-2 c = search needs
+
+returns-2 : tie.Need-returns-2
+returns-2 c = ghost-copied _ _ _ _ _ _ _ _ (c .before .before .before .before .before .before .before .before .before .before .before .pre) (c .before .before .before .before .before .before .before .before .in-range .ensures) (c .before .before .before .before .before .before .before .if1 .left) (c .before .before .before .before .before .before .ghost-at .ensures) (c .before .before .before .before .before .find-ghost .ensures .0) (c .before .before .before .before .ghost-at2 .ensures) (c .before .before .copy40 .ensures)
+
+pub write-ghost-spec : {M : Type 1} → statement M
+write-ghost-spec =
+    tie.close
+    (tie.spec
+    add-in-range
+    in-range-requires
+    to-local-requires
+    tree-at-requires
+    write-core-requires
+    same-length
+    returns
+    ghost-at-requires
+    find-ghost-requires
+    ghost-at-requires-2
+    copy40-requires
+    same-length-2
+    returns-2)

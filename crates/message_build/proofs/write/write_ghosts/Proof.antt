@@ -1,0 +1,70 @@
+use lib.ListN.{length}
+use Prim.Native.Nat.{_*_, _-_}
+use native.Mathlib.Omega.{arith}
+use Rattle.bits.specs.Bits.{inSet}
+use Rattle.part.specs.Part.{partCore}
+use Rattle.message_build.proofs.Ghosts.{member-behind, Going, ghosts-start, ghosts-room, ghosts-next, ghosts-end}
+use borrow.Author.Needs.{needs}
+use Rattle.message_build.proofs.write.write_ghosts.Statement.{statement}
+use Rattle.message_build.proofs.write.write_ghosts.Tie as tie
+
+abbrev Inv-loop : tie.InvT-loop
+Inv-loop part count ghosts faces first marks out₀ at end to₀ k₀ out to k = Going (partCore part) (inSet marks) (64 * length marks) out₀ at to k out
+
+abbrev μ-loop : tie.MeasureT-loop
+μ-loop part count ghosts faces first marks out₀ at end to₀ k₀ out to k = 64 * length marks - k
+
+cast-end : tie.Need-cast-end Inv-loop μ-loop
+cast-end c = search needs
+
+mul-end : tie.Need-mul-end Inv-loop μ-loop
+mul-end c = search needs
+
+next-member-requires : tie.Need-next-member-requires Inv-loop μ-loop
+next-member-requires c κs = search needs
+
+loop-holds : tie.Need-loop-holds Inv-loop μ-loop
+loop-holds c = ghosts-start _ _ _ _ _ (c .before .before .before .before .pre .members .long) (c .before .before .before .before .pre .room) (c .next-member .ensures)
+
+write-ghost-requires : tie.Need-write-ghost-requires Inv-loop μ-loop
+write-ghost-requires c κs = record { known = c .before .before .before .before .before .before .before .pre .known; has = c .before .before .before .before .before .before .before .pre .members .has _ (c .before .before .loop .inv .member (c .before .loop-test .taken)); target = ghosts-room _ _ _ _ _ (c .before .before .before .before .before .before .before .pre .members .long) (c .before .before .before .before .before .before .before .pre .room) (c .before .before .loop .inv) (c .before .loop-test .taken) }
+
+add-to : tie.Need-add-to Inv-loop μ-loop
+add-to c = omega (arith, ghosts-room _ _ _ _ _ (c .before .before .before .before .before .before .before .before .before .before .pre .members .long) (c .before .before .before .before .before .before .before .before .before .before .pre .room) (c .before .before .before .before .before .loop .inv) (c .before .before .before .before .loop-test .taken))
+
+add-next-member : tie.Need-add-next-member Inv-loop μ-loop
+add-next-member c = search needs
+
+next-member-requires-2 : tie.Need-next-member-requires-2 Inv-loop μ-loop
+next-member-requires-2 c κs = search needs
+
+loop-less : tie.Need-loop-less Inv-loop μ-loop
+loop-less c = omega (arith, member-behind _ _ _ (c .next-member2 .ensures))
+
+loop-again : tie.Need-loop-again Inv-loop μ-loop
+loop-again c = ghosts-next _ _ _ _ _ (c .before .before .before .before .before .before .before .before .before .before .before .pre .members .long) (c .before .before .before .before .before .before .before .before .before .before .before .pre .room) (c .before .before .before .before .before .before .loop .inv) (c .before .before .before .before .before .loop-test .taken) (c .before .before .before .write-ghost .ensures) (c .next-member2 .ensures)
+
+same-length : tie.Need-same-length Inv-loop μ-loop
+same-length c = c .before .loop .inv .same-length
+
+returns : tie.Need-returns Inv-loop μ-loop
+returns c = ghosts-end _ _ _ _ _ (c .before .before .before .before .before .before .pre .members .long) (c .before .before .before .before .before .before .pre .room) (c .before .loop .inv) (c .loop-test .left)
+
+pub write-ghosts-spec : {M : Type 1} → statement M
+write-ghosts-spec =
+    tie.close
+    (tie.spec
+    Inv-loop
+    μ-loop
+    cast-end
+    mul-end
+    next-member-requires
+    loop-holds
+    write-ghost-requires
+    add-to
+    add-next-member
+    next-member-requires-2
+    loop-less
+    loop-again
+    same-length
+    returns)

@@ -1,0 +1,49 @@
+use Rattle.message_build.proofs.Whole.{header-held, header-room, records-room, message-written}
+use borrow.Author.Needs.{needs}
+use Rattle.message_build.proofs.write.write_message.Statement.{statement}
+use Rattle.message_build.proofs.write.write_message.Tie as tie
+
+dimension-requires : tie.Need-dimension-requires
+dimension-requires c κs = header-held _ _ _ _ _ _ _ _ (c .before .before .before .before .before .pre)
+
+trees-requires : tie.Need-trees-requires
+trees-requires c κs = header-held _ _ _ _ _ _ _ _ (c .before .before .before .before .before .before .pre)
+
+ranks-requires : tie.Need-ranks-requires
+ranks-requires c κs = search needs
+
+cast-ranks : tie.Need-cast-ranks
+cast-ranks c = search needs
+
+sent-requires : tie.Need-sent-requires
+sent-requires c κs = search needs
+
+member-count-requires : tie.Need-member-count-requires
+member-count-requires c κs = search needs
+
+write-header-requires : tie.Need-write-header-requires
+write-header-requires c κs = header-room _ _ _ _ _ _ _ _ (c .before .before .before .before .before .before .before .before .before .before .before .pre)
+
+write-records-requires : tie.Need-write-records-requires
+write-records-requires c κs = records-room _ _ _ _ _ _ _ _ (c .before .before .before .before .before .before .before .before .before .before .before .before .before .before .before .pre) (c .before .before .before .before .before .before .before .before .before .dimension .ensures) (c .before .before .before .before .before .before .before .before .trees .ensures) (c .before .before .before .before .before .before .before .ranks .ensures .0) (c .before .before .before .before .before .before .sent .ensures .0) (c .before .before .before .before .before .before .sent .ensures .1) (c .before .before .before .before .before .member-count .ensures) (c .before .before .before .write-header .ensures)
+
+same-length : tie.Need-same-length
+same-length c = search needs
+
+returns : tie.Need-returns
+returns c = message-written _ _ _ _ _ _ _ _ (c .before .before .before .before .before .before .before .before .before .before .before .before .before .before .before .before .before .before .pre) (c .before .before .before .before .before .before .before .before .before .before .before .before .dimension .ensures) (c .before .before .before .before .before .before .before .before .before .before .before .trees .ensures) (c .before .before .before .before .before .before .before .before .before .before .ranks .ensures .0) (c .before .before .before .before .before .before .before .before .before .sent .ensures .0) (c .before .before .before .before .before .before .before .before .before .sent .ensures .1) (c .before .before .before .before .before .before .before .before .member-count .ensures) (c .before .before .before .before .before .before .write-header .ensures) (c .before .before .write-records .ensures)
+
+pub write-message-spec : {M : Type 1} → statement M
+write-message-spec =
+    tie.close
+    (tie.spec
+    dimension-requires
+    trees-requires
+    ranks-requires
+    cast-ranks
+    sent-requires
+    member-count-requires
+    write-header-requires
+    write-records-requires
+    same-length
+    returns)

@@ -1,0 +1,63 @@
+use Prim.Native.Nat.{_+_, _-_}
+use native.Mathlib.Omega.{arith}
+use Rattle.message_build.proofs.Trees.{place-is, TreesSent, trees-start, tree-from, tree-room, trees-next, trees-end}
+use borrow.Author.Needs.{needs}
+use Rattle.message_build.proofs.write.write_trees.Statement.{statement}
+use Rattle.message_build.proofs.write.write_trees.Tie as tie
+
+abbrev Inv-loop : tie.InvT-loop
+Inv-loop part count ghosts faces first low n out₀ end to₀ k₀ out to k = TreesSent part low n out₀ to k out
+
+abbrev μ-loop : tie.MeasureT-loop
+μ-loop part count ghosts faces first low n out₀ end to₀ k₀ out to k = low + n - k
+
+add-end : tie.Need-add-end Inv-loop μ-loop
+add-end c = search needs
+
+loop-holds : tie.Need-loop-holds Inv-loop μ-loop
+loop-holds c = trees-start _ _ _ _ _ _ _ _ (c .before .before .pre)
+
+to-local-requires : tie.Need-to-local-requires Inv-loop μ-loop
+to-local-requires c κs = tree-from _ _ _ _ _ _ _ _ (c .before .before .before .before .pre) (c .before .loop .inv) (c .loop-test .taken)
+
+tree-at-requires : tie.Need-tree-at-requires Inv-loop μ-loop
+tree-at-requires c κs = search needs
+
+write-tree-requires : tie.Need-write-tree-requires Inv-loop μ-loop
+write-tree-requires c κs = tree-room _ _ _ _ _ _ _ _ (c .before .before .before .before .before .before .before .pre) (c .before .before .before .before .loop .inv) (c .before .before .before .loop-test .taken) (place-is _ _ _ (c .before .before .to-local .ensures) (c .before .tree-at .ensures))
+
+add-to : tie.Need-add-to Inv-loop μ-loop
+add-to c = omega (arith, tree-room _ _ _ _ _ _ _ _ (c .before .before .before .before .before .before .before .before .before .before .pre) (c .before .before .before .before .before .before .before .loop .inv) (c .before .before .before .before .before .before .loop-test .taken) (place-is _ _ _ (c .before .before .before .before .before .to-local .ensures) (c .before .before .before .before .tree-at .ensures)) .target)
+
+add-k : tie.Need-add-k Inv-loop μ-loop
+add-k c = search needs
+
+loop-less : tie.Need-loop-less Inv-loop μ-loop
+loop-less c = search needs
+
+loop-again : tie.Need-loop-again Inv-loop μ-loop
+loop-again c = trees-next _ _ _ _ _ _ _ _ (c .before .before .before .before .before .before .before .before .before .before .pre) (c .before .before .before .before .before .before .before .loop .inv) (c .before .before .before .before .before .before .loop-test .taken) (place-is _ _ _ (c .before .before .before .before .before .to-local .ensures) (c .before .before .before .before .tree-at .ensures)) (c .before .before .write-tree .ensures)
+
+same-length : tie.Need-same-length Inv-loop μ-loop
+same-length c = c .before .loop .inv .same-length
+
+returns : tie.Need-returns Inv-loop μ-loop
+returns c = trees-end _ _ _ _ _ _ _ _ (c .before .before .before .before .pre) (c .before .loop .inv) (c .loop-test .left)
+
+pub write-trees-spec : {M : Type 1} → statement M
+write-trees-spec =
+    tie.close
+    (tie.spec
+    Inv-loop
+    μ-loop
+    add-end
+    loop-holds
+    to-local-requires
+    tree-at-requires
+    write-tree-requires
+    add-to
+    add-k
+    loop-less
+    loop-again
+    same-length
+    returns)

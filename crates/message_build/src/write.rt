@@ -1,0 +1,232 @@
+// Writing a message: the header, the trees, the ghosts.
+ghost use mathlib.Core.Path.{_≡_};
+ghost use mathlib.Core.List.{_++_};
+ghost use Prim.Native.Nat.{_*_, _≤_};
+ghost use lib.ListN.{length};
+ghost use Rattle.encoding.specs.Below.{countBelow};
+ghost use Rattle.encoding.specs.Pieces.{piece, splice};
+ghost use Rattle.records.specs.Record.{coreSize, treeSize};
+ghost use Rattle.part.specs.Cut.{renamed};
+ghost use Rattle.part.specs.Part.{globalIndex, partCore};
+ghost use Rattle.bits.specs.Bits.{inSet};
+ghost use Rattle.message.specs.Build.{partRecord, partMessage};
+ghost use Rattle.message.specs.Layout.{messageHeader, messageHeaderBytes};
+ghost use Rattle.message_build.specs.Mirror.{RecordRoom, globalLinks, recordsFrom, TreesRoom, coresBelow, GhostRoom, GhostsRoom, RecordsRoom, MessageRoom};
+use crate::index::global_rows;
+use part::cut::find_ghost;
+use part::inner::in_range;
+use part::sound::ghost_at;
+use part::sound::tree_at;
+use records::index::GlobalIndex;
+use records::index::to_local;
+
+fn write_header(
+    out: &mut [u8],
+    epoch: u32,
+    dimension: u32,
+    trees: u32,
+    ranks: u32,
+    p: u32,
+    q: u32,
+    n: u32,
+    g: u32,
+)
+    requires { ⌜ messageHeader ≤ length (now out) ⌝ }
+    ensures { λ u. ⌜ now (out .exit) ≡ splice (now (out .entry)) 0 (messageHeaderBytes epoch dimension trees ranks p q n g) ⌝ }
+{
+    encoding::write_u32(&mut *out, 0, epoch);
+    encoding::write_u32(&mut *out, 4, dimension);
+    encoding::write_u32(&mut *out, 8, trees);
+    encoding::write_u32(&mut *out, 12, ranks);
+    encoding::write_u32(&mut *out, 16, p);
+    encoding::write_u32(&mut *out, 20, q);
+    encoding::write_u32(&mut *out, 24, n);
+    encoding::write_u32(&mut *out, 28, g);
+}
+
+// Puts the links of the part's record at byte `from` into the record at byte `to`, with global numbers.
+fn put_links(
+    part: &[u8],
+    count: u32,
+    ghosts: u32,
+    faces: u32,
+    from: usize,
+    out: &mut [u8],
+    to: usize,
+)
+    requires { ⌜ RecordRoom (now part) (now out) count ghosts faces coreSize from to ⌝ }
+    ensures { λ u. ⌜ now (out .exit) ≡ splice (now (out .entry)) to (globalLinks (now (part .entry)) faces from (piece (now (out .entry)) to coreSize)) ⌝ }
+{
+    let rows = records::links::rows_of(part, from, faces);
+    let global = global_rows(part, count, ghosts, rows);
+    records::links::put_rows(&mut *out, to, global, faces);
+}
+
+// Writes the tree record at byte `from` of the part to byte `to`, with its data and global numbers.
+fn write_tree(
+    part: &[u8],
+    count: u32,
+    ghosts: u32,
+    faces: u32,
+    from: usize,
+    out: &mut [u8],
+    to: usize,
+)
+    requires { ⌜ RecordRoom (now part) (now out) count ghosts faces treeSize from to ⌝ }
+    ensures { λ u. ⌜ now (out .exit) ≡ splice (now (out .entry)) to (renamed (globalIndex (now (part .entry))) faces (piece (now (part .entry)) from treeSize)) ⌝ }
+{
+    encoding::record::copy64(part, from, &mut *out, to);
+    put_links(part, count, ghosts, faces, from, &mut *out, to);
+}
+
+// Writes its core alone.
+fn write_core(
+    part: &[u8],
+    count: u32,
+    ghosts: u32,
+    faces: u32,
+    from: usize,
+    out: &mut [u8],
+    to: usize,
+)
+    requires { ⌜ RecordRoom (now part) (now out) count ghosts faces coreSize from to ⌝ }
+    ensures { λ u. ⌜ now (out .exit) ≡ splice (now (out .entry)) to (renamed (globalIndex (now (part .entry))) faces (piece (now (part .entry)) from coreSize)) ⌝ }
+{
+    encoding::record::copy40(part, from, &mut *out, to);
+    put_links(part, count, ghosts, faces, from, &mut *out, to);
+}
+
+// Writes n trees from `low` on behind the header. `first` is the part's first tree.
+fn write_trees(
+    part: &[u8],
+    count: u32,
+    ghosts: u32,
+    faces: u32,
+    first: u32,
+    low: u32,
+    n: u32,
+    out: &mut [u8],
+)
+    requires { ⌜ TreesRoom (now part) (now out) count ghosts faces first low n ⌝ }
+    ensures { λ u. ⌜ now (out .exit) ≡ splice (now (out .entry)) messageHeader (recordsFrom (partRecord (now (part .entry))) low n) ⌝ }
+{
+    let end = low + n;
+    let mut to = 32;
+    let mut k = low;
+    while k < end {
+        let tree = to_local(GlobalIndex(k), GlobalIndex(first));
+        write_tree(part, count, ghosts, faces, tree_at(tree.0), &mut *out, to);
+        to += 64;
+        k += 1;
+    }
+}
+
+// Writes the core of the record with the number, a tree of the part or one of its ghosts.
+fn write_ghost(
+    part: &[u8],
+    count: u32,
+    ghosts: u32,
+    faces: u32,
+    first: u32,
+    number: GlobalIndex,
+    out: &mut [u8],
+    to: usize,
+)
+    requires { ⌜ GhostRoom (now part) (now out) count ghosts faces first (number .0) to ⌝ }
+    ensures { λ u. ⌜ now (out .exit) ≡ splice (now (out .entry)) to (partCore (now (part .entry)) (number .0)) ⌝ }
+{
+    let k = number.0;
+    if in_range(first, first + count, k) {
+        let tree = to_local(GlobalIndex(k), GlobalIndex(first));
+        write_core(part, count, ghosts, faces, tree_at(tree.0), &mut *out, to);
+        return;
+    }
+    let position = find_ghost(part, ghost_at(count, 0), ghosts, k);
+    encoding::record::copy40(part, ghost_at(count, position), &mut *out, to);
+}
+
+// How many members a set has, by the ones in its words.
+pub fn member_count(marks: &[u64]) -> u32
+    requires { ⌜ length (now marks) ≤ 16384 ⌝ }
+    ensures { λ r. ⌜ r ≡ countBelow (64 * length (now (marks .entry))) (inSet (now (marks .entry))) ⌝ }
+{
+    let mut count = 0;
+    let mut i = 0;
+    while i < marks.len() {
+        count += bits::ones(marks[i]);
+        i += 1;
+    }
+    count
+}
+
+// Writes the cores of a set from byte `at` on, ascending.
+fn write_ghosts(
+    part: &[u8],
+    count: u32,
+    ghosts: u32,
+    faces: u32,
+    first: u32,
+    marks: &[u64],
+    out: &mut [u8],
+    at: usize,
+)
+    requires { ⌜ GhostsRoom (now part) (now marks) (now out) count ghosts faces first at ⌝ }
+    ensures { λ u. ⌜ now (out .exit) ≡ splice (now (out .entry)) at (coresBelow (partCore (now (part .entry))) (inSet (now (marks .entry))) (64 * length (now (marks .entry)))) ⌝ }
+{
+    let end = 64 * (marks.len() as u32);
+    let mut to = at;
+    let mut k = bits::next_member(marks, 0);
+    while k < end {
+        write_ghost(
+            part,
+            count,
+            ghosts,
+            faces,
+            first,
+            GlobalIndex(k),
+            &mut *out,
+            to,
+        );
+        to += 40;
+        k = bits::next_member(marks, k + 1);
+    }
+}
+
+// Writes the records of a message behind its header: n trees from `low` on, and the ghosts of the set.
+fn write_records(part: &[u8], low: u32, n: u32, marks: &[u64], out: &mut [u8])
+    requires { ⌜ RecordsRoom (now part) (now marks) (now out) low n ⌝ }
+    ensures { λ u. ⌜ now (out .exit) ≡ splice (now (out .entry)) messageHeader (recordsFrom (partRecord (now (part .entry))) low n ++ coresBelow (partCore (now (part .entry))) (inSet (now (marks .entry))) (64 * length (now (marks .entry)))) ⌝ }
+{
+    let count = part::sound::tree_count(part);
+    let ghosts = part::sound::ghost_count(part);
+    let first = part::sound::first_tree(part);
+    let faces = records::faces_in(part::sound::dimension(part));
+    let at = 32 + 64 * (n as usize);
+    write_trees(part, count, ghosts, faces, first, low, n, &mut *out);
+    write_ghosts(part, count, ghosts, faces, first, marks, &mut *out, at);
+}
+
+// Writes the message from p's part to q, given the ghosts that go.
+pub fn write_message(
+    part: &[u8],
+    old: &[u8],
+    new: &[u8],
+    p: u32,
+    q: u32,
+    epoch: u32,
+    marks: &[u64],
+    out: &mut [u8],
+)
+    requires { ⌜ MessageRoom (now part) (now old) (now new) p q epoch (now marks) (now out) ⌝ }
+    ensures { λ u. ⌜ now (out .exit) ≡ splice (now (out .entry)) 0 (partMessage (now (part .entry)) (now (old .entry)) (now (new .entry)) p q epoch) ⌝ }
+{
+    let dimension = part::sound::dimension(part);
+    let trees = part::sound::trees(part);
+    let ranks = offsets::inner::ranks(old) as u32;
+    let sent = pattern::inner::sent(old, new, p as usize, q as usize);
+    let low = sent.first;
+    let n = sent.count;
+    let g = member_count(marks);
+    write_header(&mut *out, epoch, dimension, trees, ranks, p, q, n, g);
+    write_records(part, low, n, marks, &mut *out);
+}

@@ -12,6 +12,7 @@ use Rattle.encoding.specs.Below.{anyBelow, leastBelow}
 use Rattle.encoding.specs.Pieces.{piece, splice, Bytes}
 use Rattle.encoding.proofs.Below.{either, tests, clash, count-initial, least-lt, least-at}
 use Rattle.encoding.proofs.Pieces.{piece-length, splice-then}
+use Rattle.offsets.specs.Limits.{maxTrees}
 use Rattle.offsets.specs.Table.{firstTree, endTree, holds}
 use Rattle.offsets.proofs.Tables.{count-add}
 use Rattle.records.specs.Shape.{faceCount, facesIn}
@@ -94,19 +95,24 @@ module _ (a : List ℕ) (b : Bytes a) (sound : areaSound a ≡ true) where
   unfolding numberAt ghostSlot
   number-is j = sym (number-at a (at + coreSize * j))
 
-  -- the held ghosts ascend
-  pub ghosts-held : Held a (ghostSlotsPlace (areaP a) (areaCount a)) (areaGhosts a) (areaFirst a) (areaFirst a + areaCount a)
+  -- trees and ghosts are few
+  pub few-held : areaFirst a + areaCount a + areaGhosts a ≤ 7 * maxTrees
   unfolding areaBound
-  ghosts-held =
+  few-held =
       let bound = bound-read (areaDimension a) (areaCount a) refl (faces-six (areaDimension a)) in
       let fit : areaGhosts a ≤ ghostBound (facesIn (areaDimension a)) (areaCount a) = area-parts a sound .fit in
+      omega (arith, range-trees a header, few-trees _ _ (header .tables), bound .0, bound .1)
+
+  -- the held ghosts ascend
+  pub ghosts-held : Held a (ghostSlotsPlace (areaP a) (areaCount a)) (areaGhosts a) (areaFirst a) (areaFirst a + areaCount a)
+  ghosts-held =
       record {
         ghosts = record {
-          fits = omega (arith, long a sound, ghosts-place-is (areaP a) (areaCount a));
+          fits = omega (arith, long a sound, ghosts-place-is (areaP a) (areaCount a), area-parts a sound .fit);
           ascends = λ i j h l. rw (number-is i, number-is j) (G .ascends i j h l);
         };
         range = omega arith;
-        small = omega (arith, range-trees a header, few-trees _ _ (header .tables), bound .0, bound .1);
+        small = omega (arith, few-held);
       }
 
   -- one past the last tree of the range
@@ -145,22 +151,23 @@ module _ (a : List ℕ) (b : Bytes a) (sound : areaSound a ≡ true) where
       (λ p. rw p
       (either (inRange (areaFirst a) (areaFirst a + areaCount a) k) (λ q. rw q) (λ q. rw (q, smaller-is k (h p q))))))
 
+  -- a number held outside the range is a ghost's
+  pub ghost-held : (k : ℕ) → held (areaFirst a) (areaCount a) (areaGhosts a) (treeSlotCore a) (ghostSlot a) k ≡ true
+      → inRange (areaFirst a) (areaFirst a + areaCount a) k ≡ false → anyBelow (areaGhosts a) (λ j. eqb (numberOf (ghostSlot a j)) k) ≡ true
+  unfolding held isLocal inRange ghostIs
+  ghost-held k e o = rw o at e
+
   module _ (joined : joinSound a ≡ true) where
     tree-view : (i : ℕ) → i < areaCount a → TreeView (areaFirst a) (areaCount a) (areaGhosts a) (treeSlotCore a) (ghostSlot a) (areaDimension a) i
     unfolding joinSound
     tree-view = view-trees (areaFirst a) (areaCount a) (areaGhosts a) (treeSlotCore a) (ghostSlot a) (areaDimension a) (areaK a) joined
 
     -- the neighbour across a used face is held
-    neighbour-held : (i : ℕ) → i < areaCount a → (f : ℕ) → f < faceCount (shapeOf (treeSlotCore a i))
+    pub neighbour-held : (i : ℕ) → i < areaCount a → (f : ℕ) → f < faceCount (shapeOf (treeSlotCore a i))
         → held (areaFirst a) (areaCount a) (areaGhosts a) (treeSlotCore a) (ghostSlot a) (neighbourOf (treeSlotCore a i) f) ≡ true
     neighbour-held i h f l =
         rw (core-tree (areaFirst a) (areaCount a) (areaGhosts a) (treeSlotCore a) (ghostSlot a) i h)
         at (tree-link-held (areaFirst a) (areaCount a) (areaGhosts a) (treeSlotCore a) (ghostSlot a) (areaFirst a + i) f (tree-view i h .links f l))
-
-    ghost-held : (k : ℕ) → held (areaFirst a) (areaCount a) (areaGhosts a) (treeSlotCore a) (ghostSlot a) k ≡ true
-        → inRange (areaFirst a) (areaFirst a + areaCount a) k ≡ false → anyBelow (areaGhosts a) (is k) ≡ true
-    unfolding held isLocal inRange ghostIs
-    ghost-held k e o = rw o at e
 
     -- every neighbour of a tree gets its local index
     pub tree-index : (i : ℕ) → i < areaCount a → (f : ℕ) → f < 6

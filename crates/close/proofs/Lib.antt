@@ -1,3 +1,4 @@
 -- Laws, for this crate's proofs and for the crates above.
 pub mod Slots
 pub mod Joining
+pub mod Reading

@@ -2,3 +2,4 @@
 pub mod Slots
 pub mod Joining
 pub mod Reading
+pub mod Closing

@@ -8,13 +8,15 @@ use lib.Dec.{leb, eqb}
 use lib.ListN.{length}
 use borrow.Author.Tests.{ne-eqb, lt-leb, le-leb}
 use Rattle.encoding.specs.Answer.{lengthRefused, lengthAnswer, writeAnswer, written}
-use Rattle.encoding.specs.Pieces.{splice}
+use Rattle.encoding.specs.Pieces.{splice, Bytes}
 use Rattle.encoding.specs.Refusal.{check, firstFailed}
 use Rattle.part.specs.Layout.{partSize}
-use Rattle.assembly.specs.Area.{areaCount, areaGhosts, areaSound}
+use Rattle.part.specs.Part.{partSound}
+use Rattle.assembly.specs.Area.{areaRank, areaCount, areaGhosts, areaNew, areaSound}
 use Rattle.assembly.specs.Close.{allHeard, joinSound, joinedPart, closeChecks, closeOf}
 use Rattle.close.specs.Mirror.{JoinRoom}
 use Rattle.close.proofs.Joining.{join-length}
+use Rattle.close.proofs.Reading.{join-sound-part}
 
 -- a check that is not the one that failed
 passes : (b : Bool) (n m : ℕ) → cond b n (suc m) ≡ 0 → (b ≡ true) × (n ≡ 0)
@@ -41,6 +43,12 @@ module _ (a : List ℕ) where
       let p = passes (areaSound a) (cond (allHeard a) (cond (joinSound a) 0 21) 20) 9 e in
       let q = passes (allHeard a) (cond (joinSound a) 0 21) 19 (p .1) in
       record { isSound = p .0; heardAll = q .0; joined = passes (joinSound a) 0 20 (q .1) .0 }
+
+-- the part that a close writes is sound for the new table and the area's rank
+pub closed-sound : (a : List ℕ) → Bytes a → firstFailed (closeChecks a) ≡ 0 → partSound (joinedPart a) (areaNew a) (areaRank a) ≡ true
+closed-sound a b e =
+    let h = closable a e in
+    sym (join-sound-part a b (h .isSound) (h .heardAll)) ∙ h .joined
 
 module _ (a out : List ℕ) {r : ℕ} (checked : r ≡ firstFailed (closeChecks a)) where
   with-room : (b : Bool) → firstFailed (closeChecks a ++ (check b 22 ∷ [])) ≡ cond (eqb r 0) (cond b 0 22) r

@@ -1,0 +1,5 @@
+-- Laws, for this crate's proofs and for the crates above.
+pub mod Places
+pub mod Links
+pub mod Joining
+pub mod Checks

@@ -1,0 +1,53 @@
+use Rattle.close_checks.proofs.Links.{to-fits, ghost-none, ghost-some}
+use borrow.Author.Needs.{needs}
+use Rattle.close_checks.proofs.join.ghost_link.Statement.{statement}
+use Rattle.close_checks.proofs.join.ghost_link.Tie as tie
+
+mul-from : tie.Need-mul-from
+mul-from c = search needs
+
+add-from : tie.Need-add-from
+add-from c = search needs
+
+mul-from-2 : tie.Need-mul-from-2
+mul-from-2 c = search needs
+
+add-from-2 : tie.Need-add-from-2
+add-from-2 c = search needs
+
+neighbour-of-requires : tie.Need-neighbour-of-requires
+neighbour-of-requires c κs = search needs
+
+place-of-requires : tie.Need-place-of-requires
+place-of-requires c κs = search needs
+
+orientation-ok-requires : tie.Need-orientation-ok-requires
+orientation-ok-requires c κs = search needs
+
+returns : tie.Need-returns
+returns c = ghost-none _ _ _ _ _ (c .before .before .before .before .before .pre .0) _ (c .before .before .before .before .before .pre .1) _ _ (c .before .before .before .neighbour-of .ensures) (c .before .before .place-of .ensures) (c .before .if1 .taken) (c .orientation-ok .ensures)
+
+number-of-requires : tie.Need-number-of-requires
+number-of-requires c κs = search needs
+
+link-ok-requires : tie.Need-link-ok-requires
+link-ok-requires c κs = (search needs, search needs, to-fits _ _ _ _ _ (c .before .before .before .before .before .pre .0) _ (c .before .before .place-of .ensures) (c .before .if1 .left))
+
+returns-2 : tie.Need-returns-2
+returns-2 c = ghost-some _ _ _ _ _ (c .before .before .before .before .before .before .pre .0) _ (c .before .before .before .before .before .before .pre .1) _ _ (c .before .before .before .before .neighbour-of .ensures) (c .before .before .before .place-of .ensures) (c .before .before .if1 .left) (c .before .number-of .ensures) (c .link-ok .ensures)
+
+pub ghost-link-spec : {M : Type 1} → statement M
+ghost-link-spec =
+    tie.close
+    (tie.spec
+    mul-from
+    add-from
+    mul-from-2
+    add-from-2
+    neighbour-of-requires
+    place-of-requires
+    orientation-ok-requires
+    returns
+    number-of-requires
+    link-ok-requires
+    returns-2)

@@ -1,0 +1,54 @@
+use native.Mathlib.Omega.{arith}
+use Rattle.close_checks.proofs.Joining.{complete-long, first-word, slots-read, join-read}
+use borrow.Author.Needs.{needs}
+use Rattle.close_checks.proofs.join.join_sound.Statement.{statement}
+use Rattle.close_checks.proofs.join.join_sound.Tie as tie
+
+rank-requires : tie.Need-rank-requires
+rank-requires c κs = search needs
+
+first-tree-requires : tie.Need-first-tree-requires
+first-tree-requires c κs = omega (arith, complete-long (c .before .before .before .pre) (c .rank .ensures))
+
+ranks-requires : tie.Need-ranks-requires
+ranks-requires c κs = search needs
+
+slots-place-requires : tie.Need-slots-place-requires
+slots-place-requires c κs = search needs
+
+cast-records-join : tie.Need-cast-records-join
+cast-records-join c = omega (arith, first-word _ _ (λ i. c .before .before .before .before .before .shared-slice-known .given i .fits) (c .before .before .before .before .before .before .pre) (c .before .before .before .rank .ensures) (c .before .before .first-tree .ensures))
+
+count-requires : tie.Need-count-requires
+count-requires c κs = search needs
+
+ghosts-requires : tie.Need-ghosts-requires
+ghosts-requires c κs = search needs
+
+dimension-requires : tie.Need-dimension-requires
+dimension-requires c κs = search needs
+
+trees-requires : tie.Need-trees-requires
+trees-requires c κs = search needs
+
+records-join-requires : tie.Need-records-join-requires
+records-join-requires c κs = slots-read _ _ (λ i. c .before .before .before .before .before .before .before .before .before .shared-slice-known .given i .fits) (c .before .before .before .before .before .before .before .before .before .before .pre) (c .before .before .before .before .before .before .before .rank .ensures) (c .before .before .before .before .before .before .first-tree .ensures) (c .before .before .before .before .before .ranks .ensures) (c .before .before .before .before .slots-place .ensures .0) (c .before .before .before .count .ensures) (c .before .before .ghosts .ensures)
+
+returns : tie.Need-returns
+returns c = join-read _ _ (λ i. c .before .before .before .before .before .before .before .before .before .before .shared-slice-known .given i .fits) (c .before .before .before .before .before .before .before .before .before .before .before .pre) (c .before .before .before .before .before .before .before .before .rank .ensures) (c .before .before .before .before .before .before .before .first-tree .ensures) (c .before .before .before .before .before .before .ranks .ensures) (c .before .before .before .before .before .slots-place .ensures .0) (c .before .before .before .before .count .ensures) (c .before .before .before .ghosts .ensures) (c .before .before .dimension .ensures) (c .before .trees .ensures) (c .records-join .ensures)
+
+pub join-sound-spec : {M : Type 1} → statement M
+join-sound-spec =
+    tie.close
+    (tie.spec
+    rank-requires
+    first-tree-requires
+    ranks-requires
+    slots-place-requires
+    cast-records-join
+    count-requires
+    ghosts-requires
+    dimension-requires
+    trees-requires
+    records-join-requires
+    returns)

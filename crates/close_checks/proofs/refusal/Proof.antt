@@ -1,0 +1,78 @@
+use native.Mathlib.Omega.{arith}
+use mathlib.Core.Path.{sym, _∙_}
+use borrow.Author.Tests.{not-true, not-false}
+use Rattle.assembly.proofs.Headers.{tabled}
+use Rattle.assembly.proofs.Progressing.{sound-holds}
+use Rattle.close_checks.proofs.Checks.{refused-area, refused-heard, refused-join, not-refused}
+use borrow.Author.Needs.{needs}
+use Rattle.close_checks.proofs.refusal.Statement.{statement}
+use Rattle.close_checks.proofs.refusal.Tie as tie
+
+area-sound-requires : tie.Need-area-sound-requires
+area-sound-requires c κs = search needs
+
+returns : tie.Need-returns
+returns c = refused-area _ (sym (c .before .area-sound .ensures) ∙ not-true _ (c .if1 .taken))
+
+ranks-requires : tie.Need-ranks-requires
+ranks-requires c κs = omega (arith, (sound-holds _ (sym (c .before .area-sound .ensures) ∙ not-false _ (c .if1 .left)) (λ i. c .before .before .shared-slice-known .given i .fits)) .long)
+
+new-place-requires : tie.Need-new-place-requires
+new-place-requires c κs = omega (arith, (sound-holds _ (sym (c .before .before .area-sound .ensures) ∙ not-false _ (c .before .if1 .left)) (λ i. c .before .before .before .shared-slice-known .given i .fits)) .ranksHigh, c .ranks .ensures)
+
+words-place-requires : tie.Need-words-place-requires
+words-place-requires c κs = omega (arith, (sound-holds _ (sym (c .before .before .before .area-sound .ensures) ∙ not-false _ (c .before .before .if1 .left)) (λ i. c .before .before .before .before .shared-slice-known .given i .fits)) .ranksHigh, c .before .ranks .ensures)
+
+sub-old : tie.Need-sub-old
+sub-old c = search needs
+
+part-old-start : tie.Need-part-old-start
+part-old-start c = search needs
+
+part-old-end : tie.Need-part-old-end
+part-old-end c = omega (arith, (sound-holds _ (sym (c .before .before .before .before .area-sound .ensures) ∙ not-false _ (c .before .before .before .if1 .left)) (λ i. c .before .before .before .before .before .shared-slice-known .given i .fits)) .long, c .before .before .ranks .ensures, c .before .new-place .ensures .1)
+
+sub-new : tie.Need-sub-new
+sub-new c = search needs
+
+part-new-start : tie.Need-part-new-start
+part-new-start c = search needs
+
+part-new-end : tie.Need-part-new-end
+part-new-end c = omega (arith, (sound-holds _ (sym (c .before .before .before .before .before .area-sound .ensures) ∙ not-false _ (c .before .before .before .before .if1 .left)) (λ i. c .before .before .before .before .before .before .shared-slice-known .given i .fits)) .long, c .before .before .before .ranks .ensures, c .before .words-place .ensures .1)
+
+all-heard-requires : tie.Need-all-heard-requires
+all-heard-requires c κs = tabled _ (c .before .before .before .before .ranks .ensures) (c .before .before .before .new-place .ensures .0) (c .before .before .words-place .ensures .0) (sound-holds _ (sym (c .before .before .before .before .before .before .area-sound .ensures) ∙ not-false _ (c .before .before .before .before .before .if1 .left)) (λ i. c .before .before .before .before .before .before .before .shared-slice-known .given i .fits))
+
+returns-2 : tie.Need-returns-2
+returns-2 c = refused-heard _ (sym (c .before .before .before .before .before .before .before .before .area-sound .ensures) ∙ not-false _ (c .before .before .before .before .before .before .before .if1 .left)) (sym (c .before .all-heard .ensures) ∙ not-true _ (c .if2 .taken))
+
+join-sound-requires : tie.Need-join-sound-requires
+join-sound-requires c κs = record { header = sound-holds _ (sym (c .before .before .before .before .before .before .before .before .area-sound .ensures) ∙ not-false _ (c .before .before .before .before .before .before .before .if1 .left)) (λ i. c .before .before .before .before .before .before .before .before .before .shared-slice-known .given i .fits); isNew = (tabled _ (c .before .before .before .before .before .before .ranks .ensures) (c .before .before .before .before .before .new-place .ensures .0) (c .before .before .before .before .words-place .ensures .0) (sound-holds _ (sym (c .before .before .before .before .before .before .before .before .area-sound .ensures) ∙ not-false _ (c .before .before .before .before .before .before .before .if1 .left)) (λ i. c .before .before .before .before .before .before .before .before .before .shared-slice-known .given i .fits))) .isNew; sound = sym (c .before .before .before .before .before .before .before .before .area-sound .ensures) ∙ not-false _ (c .before .before .before .before .before .before .before .if1 .left); all = sym (c .before .all-heard .ensures) ∙ not-false _ (c .if2 .left) }
+
+returns-3 : tie.Need-returns-3
+returns-3 c = refused-join _ (sym (c .before .before .before .before .before .before .before .before .before .before .area-sound .ensures) ∙ not-false _ (c .before .before .before .before .before .before .before .before .before .if1 .left)) (sym (c .before .before .before .all-heard .ensures) ∙ not-false _ (c .before .before .if2 .left)) (sym (c .before .join-sound .ensures) ∙ not-true _ (c .if3 .taken))
+
+returns-4 : tie.Need-returns-4
+returns-4 c = not-refused _ (sym (c .before .before .before .before .before .before .before .before .before .before .area-sound .ensures) ∙ not-false _ (c .before .before .before .before .before .before .before .before .before .if1 .left)) (sym (c .before .before .before .all-heard .ensures) ∙ not-false _ (c .before .before .if2 .left)) (sym (c .before .join-sound .ensures) ∙ not-false _ (c .if3 .left))
+
+pub refusal-spec : {M : Type 1} → statement M
+refusal-spec =
+    tie.close
+    (tie.spec
+    area-sound-requires
+    returns
+    ranks-requires
+    new-place-requires
+    words-place-requires
+    sub-old
+    part-old-start
+    part-old-end
+    sub-new
+    part-new-start
+    part-new-end
+    all-heard-requires
+    returns-2
+    join-sound-requires
+    returns-3
+    returns-4)

@@ -1,0 +1,241 @@
+// Whether the records in an area's slots make a sound part. Trees and ghosts have global numbers here, and links are followed by these.
+use part::cut::find_ghost;
+use part::inner::beside;
+use part::inner::in_range;
+use records::index::GlobalIndex;
+use records::index::to_local;
+ghost use mathlib.Core.Path.{_≡_};
+ghost use Prim.Native.Nat.{_+_, _≤_, _<_};
+ghost use lib.ListN.{length};
+ghost use Rattle.encoding.specs.Below.{allBelow};
+ghost use Rattle.encoding.specs.Pieces.{piece};
+ghost use Rattle.records.specs.Record.{coreSize};
+ghost use Rattle.part.specs.Mirror.{linkBetween};
+ghost use Rattle.assembly.specs.Close.{joinSound};
+ghost use Rattle.close_checks.specs.Mirror.{Slots, placeOf, linkOfTree, linkOfGhost, treeJoins, ghostJoins, recordsJoin, Complete};
+
+// Where the record with number k begins, a tree by subtraction, a ghost by halves; 0 where no slot has it.
+fn place_of(area: &[u8], at: usize, first: u32, count: u32, ghosts: u32, k: u32) -> usize
+    requires { ⌜ Slots (now area) at first count ghosts ⌝ }
+    ensures { λ r. ⌜ r ≡ placeOf (now (area .entry)) at first count ghosts k ⌝ }
+{
+    if in_range(first, first + count, k) {
+        let tree = to_local(GlobalIndex(k), GlobalIndex(first));
+        let i = tree.0;
+        return at + 64 * (i as usize);
+    }
+    let ghosts_at = at + 64 * (count as usize);
+    let position = find_ghost(area, ghosts_at, ghosts, k);
+    if ghosts <= position {
+        return 0;
+    }
+    let to = ghosts_at + 40 * (position as usize);
+    if records::number_of(area, to) != k {
+        return 0;
+    }
+    to
+}
+
+// The rule of a link between two records. The neighbour's link leads back to k.
+fn link_ok(area: &[u8], k: u32, from: usize, face: u32, to: usize) -> bool
+    requires { ⌜ (from + coreSize ≤ length (now area)) × (face < 6) × (to + coreSize ≤ length (now area)) ⌝ }
+    ensures { λ r. ⌜ r ≡ linkBetween k (piece (now (area .entry)) from coreSize) face (piece (now (area .entry)) to coreSize) ⌝ }
+{
+    mesh::inner::orientation_ok(area, from, face)
+        & mesh::inner::same_corners(area, from, face, to)
+        & mesh::inner::answered(area, k, from, face, to)
+}
+
+// ---- trees
+
+fn tree_link(area: &[u8], at: usize, first: u32, count: u32, ghosts: u32, i: u32, face: u32) -> bool
+    requires { ⌜ Slots (now area) at first count ghosts × (i < count) × (face < 6) ⌝ }
+    ensures { λ r. ⌜ r ≡ linkOfTree (now (area .entry)) at first count ghosts i face ⌝ }
+{
+    let from = at + 64 * (i as usize);
+    let k = records::neighbour_of(area, from, face);
+    let to = place_of(area, at, first, count, ghosts, k);
+    if to != 0 {
+        return link_ok(area, first + i, from, face, to);
+    }
+    false
+}
+
+fn tree_links(
+    area: &[u8],
+    at: usize,
+    first: u32,
+    count: u32,
+    ghosts: u32,
+    i: u32,
+    faces: u32,
+) -> bool
+    requires { ⌜ Slots (now area) at first count ghosts × (i < count) × (faces ≤ 6) ⌝ }
+    ensures { λ r. ⌜ r ≡ allBelow faces (linkOfTree (now (area .entry)) at first count ghosts i) ⌝ }
+{
+    let mut face = 0;
+    while face < faces {
+        if !tree_link(area, at, first, count, ghosts, i, face) {
+            return false;
+        }
+        face += 1;
+    }
+    true
+}
+
+fn tree_joins(
+    area: &[u8],
+    at: usize,
+    first: u32,
+    count: u32,
+    ghosts: u32,
+    dimension: u32,
+    i: u32,
+) -> bool
+    requires { ⌜ Slots (now area) at first count ghosts × (i < count) ⌝ }
+    ensures { λ r. ⌜ r ≡ treeJoins (now (area .entry)) at first count ghosts dimension i ⌝ }
+{
+    let shape = records::shape_of(area, at + 64 * (i as usize));
+    let faces = records::face_count(shape);
+    (records::dimension_of(shape) == dimension)
+        & tree_links(area, at, first, count, ghosts, i, faces)
+}
+
+fn trees_join(area: &[u8], at: usize, first: u32, count: u32, ghosts: u32, dimension: u32) -> bool
+    requires { ⌜ Slots (now area) at first count ghosts ⌝ }
+    ensures { λ r. ⌜ r ≡ allBelow count (treeJoins (now (area .entry)) at first count ghosts dimension) ⌝ }
+{
+    let mut i = 0;
+    while i < count {
+        if !tree_joins(area, at, first, count, ghosts, dimension, i) {
+            return false;
+        }
+        i += 1;
+    }
+    true
+}
+
+// ---- ghosts
+
+// A link of a ghost to a tree that isn't held has a number below K and an orientation below the corners.
+fn ghost_link(
+    area: &[u8],
+    at: usize,
+    first: u32,
+    count: u32,
+    ghosts: u32,
+    trees: u32,
+    j: u32,
+    face: u32,
+) -> bool
+    requires { ⌜ Slots (now area) at first count ghosts × (j < ghosts) × (face < 6) ⌝ }
+    ensures { λ r. ⌜ r ≡ linkOfGhost (now (area .entry)) at first count ghosts trees j face ⌝ }
+{
+    let from = at + 64 * (count as usize) + 40 * (j as usize);
+    let k = records::neighbour_of(area, from, face);
+    let to = place_of(area, at, first, count, ghosts, k);
+    if to == 0 {
+        return (k < trees) & mesh::inner::orientation_ok(area, from, face);
+    }
+    let number = records::number_of(area, from);
+    link_ok(area, number, from, face, to)
+}
+
+fn ghost_links(
+    area: &[u8],
+    at: usize,
+    first: u32,
+    count: u32,
+    ghosts: u32,
+    trees: u32,
+    j: u32,
+    faces: u32,
+) -> bool
+    requires { ⌜ Slots (now area) at first count ghosts × (j < ghosts) × (faces ≤ 6) ⌝ }
+    ensures { λ r. ⌜ r ≡ allBelow faces (linkOfGhost (now (area .entry)) at first count ghosts trees j) ⌝ }
+{
+    let mut face = 0;
+    while face < faces {
+        if !ghost_link(area, at, first, count, ghosts, trees, j, face) {
+            return false;
+        }
+        face += 1;
+    }
+    true
+}
+
+fn ghost_joins(
+    area: &[u8],
+    at: usize,
+    first: u32,
+    count: u32,
+    ghosts: u32,
+    dimension: u32,
+    trees: u32,
+    j: u32,
+) -> bool
+    requires { ⌜ Slots (now area) at first count ghosts × (j < ghosts) ⌝ }
+    ensures { λ r. ⌜ r ≡ ghostJoins (now (area .entry)) at first count ghosts dimension trees j ⌝ }
+{
+    let from = at + 64 * (count as usize) + 40 * (j as usize);
+    let shape = records::shape_of(area, from);
+    let faces = records::face_count(shape);
+    (records::dimension_of(shape) == dimension)
+        & beside(area, from, faces, first, first + count)
+        & ghost_links(area, at, first, count, ghosts, trees, j, faces)
+}
+
+fn ghosts_join(
+    area: &[u8],
+    at: usize,
+    first: u32,
+    count: u32,
+    ghosts: u32,
+    dimension: u32,
+    trees: u32,
+) -> bool
+    requires { ⌜ Slots (now area) at first count ghosts ⌝ }
+    ensures { λ r. ⌜ r ≡ allBelow ghosts (ghostJoins (now (area .entry)) at first count ghosts dimension trees) ⌝ }
+{
+    let mut j = 0;
+    while j < ghosts {
+        if !ghost_joins(area, at, first, count, ghosts, dimension, trees, j) {
+            return false;
+        }
+        j += 1;
+    }
+    true
+}
+
+fn records_join(
+    area: &[u8],
+    at: usize,
+    first: u32,
+    count: u32,
+    ghosts: u32,
+    dimension: u32,
+    trees: u32,
+) -> bool
+    requires { ⌜ Slots (now area) at first count ghosts ⌝ }
+    ensures { λ r. ⌜ r ≡ recordsJoin (now (area .entry)) at first count ghosts dimension trees ⌝ }
+{
+    trees_join(area, at, first, count, ghosts, dimension)
+        & ghosts_join(area, at, first, count, ghosts, dimension, trees)
+}
+
+// Whether the part that a sound area with every due sender heard makes is sound.
+pub fn join_sound(area: &[u8], new: &[u8]) -> bool
+    requires { ⌜ Complete (now area) (now new) ⌝ }
+    ensures { λ r. ⌜ r ≡ joinSound (now (area .entry)) ⌝ }
+{
+    let first = offsets::inner::first_tree(new, assembly::area::rank(area));
+    records_join(
+        area,
+        assembly::place::slots_place(assembly::area::ranks(area)),
+        first as u32,
+        assembly::area::count(area),
+        assembly::area::ghosts(area),
+        assembly::area::dimension(area),
+        assembly::area::trees(area),
+    )
+}

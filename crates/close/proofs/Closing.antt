@@ -1,5 +1,5 @@
 -- Laws of the call.
-use Prim.Native.Nat.{ℕ, suc, _≤_, _<_}
+use Prim.Native.Nat.{ℕ, _≤_, _<_}
 use native.Mathlib.Omega.{arith}
 use mathlib.Core.Path.{_≡_, refl, sym, _∙_}
 use mathlib.Core.Bool.{Bool, true, false, cond}
@@ -10,18 +10,14 @@ use borrow.Author.Tests.{ne-eqb, lt-leb, le-leb}
 use Rattle.encoding.specs.Answer.{lengthRefused, lengthAnswer, writeAnswer, written}
 use Rattle.encoding.specs.Pieces.{splice, Bytes}
 use Rattle.encoding.specs.Refusal.{check, firstFailed}
+use Rattle.encoding.proofs.Below.{either}
 use Rattle.part.specs.Layout.{partSize}
 use Rattle.part.specs.Part.{partSound}
 use Rattle.assembly.specs.Area.{areaRank, areaCount, areaGhosts, areaNew, areaSound}
 use Rattle.assembly.specs.Close.{allHeard, joinSound, joinedPart, closeChecks, closeOf}
 use Rattle.close.specs.Mirror.{JoinRoom}
-use Rattle.close.proofs.Joining.{join-length}
+use Rattle.close_checks.proofs.Checks.{closes-sound, refused-heard, refused-join, joined-length}
 use Rattle.close.proofs.Reading.{join-sound-part}
-
--- a check that is not the one that failed
-passes : (b : Bool) (n m : ℕ) → cond b n (suc m) ≡ 0 → (b ≡ true) × (n ≡ 0)
-passes true n m e = (refl, e)
-passes false n m e = absurd (omega arith)
 
 -- one more check behind the three
 more-checks : (b c d : Bool) (x : ℕ) → cond b (cond c (cond d x 21) 20) 10 ≡ cond (eqb (cond b (cond c (cond d 0 21) 20) 10) 0) x (cond b (cond c (cond d 0 21) 20) 10)
@@ -38,11 +34,10 @@ module _ (a : List ℕ) where
     pub joined : joinSound a ≡ true
 
   pub closable : firstFailed (closeChecks a) ≡ 0 → Closable
-  unfolding firstFailed closeChecks
   closable e =
-      let p = passes (areaSound a) (cond (allHeard a) (cond (joinSound a) 0 21) 20) 9 e in
-      let q = passes (allHeard a) (cond (joinSound a) 0 21) 19 (p .1) in
-      record { isSound = p .0; heardAll = q .0; joined = passes (joinSound a) 0 20 (q .1) .0 }
+      let s : areaSound a ≡ true = closes-sound a e in
+      let h : allHeard a ≡ true = either (allHeard a) (λ t. t) (λ f. absurd (omega (arith, refused-heard a s f))) in
+      record { isSound = s; heardAll = h; joined = either (joinSound a) (λ t. t) (λ f. absurd (omega (arith, refused-join a s h f))) }
 
 -- the part that a close writes is sound for the new table and the area's rank
 pub closed-sound : (a : List ℕ) → Bytes a → firstFailed (closeChecks a) ≡ 0 → partSound (joinedPart a) (areaNew a) (areaRank a) ≡ true
@@ -63,10 +58,10 @@ module _ (a out : List ℕ) {r : ℕ} (checked : r ≡ firstFailed (closeChecks 
     pub all-hold : Closable a
     all-hold = closable a (sym checked ∙ ok)
 
-    module _ {n g size : ℕ} (is-n : n ≡ areaCount a) (is-g : g ≡ areaGhosts a) (is-size : size ≡ partSize n g) where
+    module _ (b : Bytes a) {n g size : ℕ} (is-n : n ≡ areaCount a) (is-g : g ≡ areaGhosts a) (is-size : size ≡ partSize n g) where
       -- the length that the code compares
       part-long : size ≡ length (joinedPart a)
-      part-long = is-size ∙ rw (is-n, is-g) (sym (join-length a (all-hold .isSound)))
+      part-long = is-size ∙ rw (is-n, is-g) (sym (joined-length a b (all-hold .isSound)))
 
       pub close-short : length out < size → (lengthRefused 22, out) ≡ closeOf a out
       unfolding closeOf writeAnswer lengthAnswer written

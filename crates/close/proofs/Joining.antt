@@ -20,7 +20,7 @@ use Rattle.records.specs.Record.{coreSize, treeSize, unused, numberOf, shapeOf,
 use Rattle.records.specs.Links.{rowOf, rowsOf}
 use Rattle.records.proofs.Forms.{at-piece, number-at, form-unused, unused-neighbour}
 use Rattle.records.proofs.Shapes.{faces-positive, faces-six}
-use Rattle.part.specs.Layout.{partHeader, partSize, headerBytes}
+use Rattle.part.specs.Layout.{partHeader, headerBytes}
 use Rattle.part.specs.Cut.{renamed, renameRow}
 use Rattle.part.specs.Mirror.{inRange, numberAt, smaller, Held, localRead}
 use Rattle.part.specs.View.{isLocal, ghostIs, held}
@@ -41,7 +41,7 @@ use Rattle.assembly_laws.proofs.Zones.{few-trees}
 use Rattle.close.specs.Mirror.{GhostsRoom, SlotsRoom, slotRecord, JoinRoom}
 use Rattle.close.proofs.Slots.{renamed-length}
 
--- ---- the length
+-- ---- the slots
 
 module _ (a : List ℕ) (sound : areaSound a ≡ true) where
   long : 176 + 16 * areaP a + treeSize * areaCount a + coreSize * areaBound a ≤ length a
@@ -61,12 +61,6 @@ module _ (a : List ℕ) (sound : areaSound a ≡ true) where
 
   pub tree-long : (i : ℕ) → i < areaCount a → length (renamed (joinIndex a) (facesIn (areaDimension a)) (treeSlot a i)) ≡ treeSize
   tree-long i h = renamed-length (joinIndex a) (facesIn (areaDimension a)) (treeSlot a i) (slot-long i h)
-
-  -- the length of the joined part
-  pub join-length : length (joinedPart a) ≡ partSize (areaCount a) (areaGhosts a)
-  unfolding joinedPart
-  join-length =
-      rw (length-append, header-length _ _ _ _ _ _ _, length-append, slots-length tree treeSize (areaCount a) tree-long, slots-length (ghostSlot a) coreSize (areaGhosts a) ghost-long)
 
 -- ---- the local indices
 

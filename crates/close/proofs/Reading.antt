@@ -47,7 +47,8 @@ use Rattle.assembly_laws.proofs.Again.{area-parts, new-ranks, sound-rank, sound
 use Rattle.assembly_laws.proofs.Joined.{words, word-at, piece-first, piece-behind, slots-length, slots-at}
 use Rattle.assembly_laws.proofs.Kept.{Ghosts}
 use Rattle.assembly_laws.proofs.Zones.{few-trees, core-slot}
-use Rattle.close.proofs.Joining.{slot-long, ghost-long, tree-long, join-length, few-held, range-is, ghost-held, neighbour-held}
+use Rattle.close_checks.proofs.Checks.{joined-length}
+use Rattle.close.proofs.Joining.{slot-long, ghost-long, tree-long, few-held, range-is, ghost-held, neighbour-held}
 
 -- ---- a record
 
@@ -183,7 +184,7 @@ module _ (a : List ℕ) (b : Bytes a) (sound : areaSound a ≡ true) where
       )
 
   length-ok : eqb (length part) (partSize (partCount part) (partGhostCount part)) ≡ true
-  length-ok = eq-eqb (length part) (partSize (partCount part) (partGhostCount part)) (rw (read-count, read-ghosts) (join-length a sound))
+  length-ok = eq-eqb (length part) (partSize (partCount part) (partGhostCount part)) (rw (read-count, read-ghosts) (joined-length a b sound))
 
   -- ---- trees and ghosts
 

@@ -1,0 +1,245 @@
+-- The part that the code writes is the joined part of the definition.
+use Prim.Native.Nat.{ℕ, _+_, _*_, _≤_, _<_}
+use native.Mathlib.Nat.{zero-add, add-sub-cancel-left}
+use native.Mathlib.Omega.{arith}
+use mathlib.Core.Path.{_≡_, refl, sym, ap, ap₂, _∙_}
+use mathlib.Core.Bool.{Bool, true, false}
+use mathlib.Core.List.{List, _++_, append-assoc}
+use lib.Dec.{ltb, eqb}
+use lib.ListN.{length, length-append}
+use borrow.Author.Tests.{ltb-true, eqb-true, lt-ltb, le-ltb, eq-eqb}
+use Rattle.encoding.specs.Below.{anyBelow, leastBelow}
+use Rattle.encoding.specs.Pieces.{piece, splice, Bytes}
+use Rattle.encoding.proofs.Below.{either, tests, clash, count-initial, least-lt, least-at}
+use Rattle.encoding.proofs.Pieces.{piece-length, splice-then}
+use Rattle.offsets.specs.Limits.{maxTrees}
+use Rattle.offsets.specs.Table.{firstTree, endTree, holds}
+use Rattle.offsets.proofs.Tables.{count-add}
+use Rattle.records.specs.Shape.{faceCount, facesIn}
+use Rattle.records.specs.Record.{coreSize, treeSize, unused, numberOf, shapeOf, neighbourOf}
+use Rattle.records.specs.Links.{rowOf, rowsOf}
+use Rattle.records.proofs.Forms.{at-piece, number-at, form-unused, unused-neighbour}
+use Rattle.records.proofs.Shapes.{faces-positive, faces-six}
+use Rattle.part.specs.Layout.{partHeader, headerBytes}
+use Rattle.part.specs.Cut.{renamed, renameRow}
+use Rattle.part.specs.Mirror.{inRange, numberAt, smaller, Held, localRead}
+use Rattle.part.specs.View.{isLocal, ghostIs, held}
+use Rattle.part.proofs.Cutting.{header-length}
+use Rattle.part_laws.proofs.Views.{TreeView, view-trees, core-tree, tree-link-held}
+use Rattle.assembly.specs.Layout.{ghostBound, slotsPlace, ghostSlotsPlace, slotsOf}
+use Rattle.assembly.specs.Area.{areaDimension, areaK, areaP, areaRank, areaCount, areaGhosts, areaNew, areaFirst, treeSlot, treeSlotCore, ghostSlot, areaBound, areaSound}
+use Rattle.assembly.specs.Close.{joinSound, joinIndex, joinedPart}
+use Rattle.assembly.specs.Mirror.{HeaderHolds}
+use Rattle.assembly.proofs.Headers.{slots-place-is, ghosts-place-is, size-long}
+use Rattle.assembly.proofs.Opening.{bound-read}
+use Rattle.assembly.proofs.Progressing.{sound-holds}
+use Rattle.assembly.proofs.Slots.{range-trees}
+use Rattle.assembly_laws.proofs.Again.{area-parts, sound-ghosts}
+use Rattle.assembly_laws.proofs.Joined.{slots-length, slots-same, slots-piece}
+use Rattle.assembly_laws.proofs.Kept.{Ghosts}
+use Rattle.assembly_laws.proofs.Zones.{few-trees}
+use Rattle.close.specs.Mirror.{GhostsRoom, SlotsRoom, slotRecord, JoinRoom}
+use Rattle.close.proofs.Slots.{renamed-length}
+
+-- ---- the slots
+
+module _ (a : List ℕ) (sound : areaSound a ≡ true) where
+  long : 176 + 16 * areaP a + treeSize * areaCount a + coreSize * areaBound a ≤ length a
+  long = size-long a (area-parts a sound .header .long)
+
+  pub slot-long : (i : ℕ) → i < areaCount a → length (treeSlot a i) ≡ treeSize
+  unfolding treeSlot
+  slot-long i h = piece-length a (slotsPlace (areaP a) + treeSize * i) treeSize (omega (arith, long, slots-place-is (areaP a)))
+
+  pub ghost-long : (j : ℕ) → j < areaGhosts a → length (ghostSlot a j) ≡ coreSize
+  unfolding ghostSlot
+  ghost-long j h =
+      piece-length a (ghostSlotsPlace (areaP a) (areaCount a) + coreSize * j) coreSize (omega (arith, long, ghosts-place-is (areaP a) (areaCount a), area-parts a sound .fit))
+
+  abbrev tree : ℕ → List ℕ
+  tree i = renamed (joinIndex a) (facesIn (areaDimension a)) (treeSlot a i)
+
+  pub tree-long : (i : ℕ) → i < areaCount a → length (renamed (joinIndex a) (facesIn (areaDimension a)) (treeSlot a i)) ≡ treeSize
+  tree-long i h = renamed-length (joinIndex a) (facesIn (areaDimension a)) (treeSlot a i) (slot-long i h)
+
+-- ---- the local indices
+
+-- records whose neighbours get the same names
+pub same-names : (a b : ℕ → ℕ) (F : ℕ) (r : List ℕ) → ((f : ℕ) → f < 6 → a (neighbourOf r f) ≡ b (neighbourOf r f)) → renamed a F r ≡ renamed b F r
+unfolding renamed renameRow rowsOf rowOf
+same-names a b F r e = rw (e 0 (omega arith), e 1 (omega arith), e 2 (omega arith), e 3 (omega arith), e 4 (omega arith), e 5 (omega arith))
+
+-- the neighbours of a slot's record are those of its core
+pub slot-neighbour : (a : List ℕ) (i f : ℕ) → f < 6 → neighbourOf (treeSlot a i) f ≡ neighbourOf (treeSlotCore a i) f
+unfolding neighbourOf treeSlot treeSlotCore
+slot-neighbour a i f h =
+    at-piece 4 a (slotsPlace (areaP a) + treeSize * i) treeSize (8 + 4 * f) (omega arith) ∙ sym (at-piece 4 a (slotsPlace (areaP a) + treeSize * i) coreSize (8 + 4 * f) (omega arith))
+
+module _ (a : List ℕ) (b : Bytes a) (sound : areaSound a ≡ true) where
+  header : HeaderHolds a
+  header = sound-holds a sound b
+
+  G : Ghosts (areaK a) (areaNew a) (areaRank a) (areaGhosts a) (ghostSlot a)
+  G = sound-ghosts a b sound
+
+  abbrev at : ℕ
+  at = ghostSlotsPlace (areaP a) (areaCount a)
+
+  number-is : (j : ℕ) → numberAt a at j ≡ numberOf (ghostSlot a j)
+  unfolding numberAt ghostSlot
+  number-is j = sym (number-at a (at + coreSize * j))
+
+  -- trees and ghosts are few
+  pub few-held : areaFirst a + areaCount a + areaGhosts a ≤ 7 * maxTrees
+  unfolding areaBound
+  few-held =
+      let bound = bound-read (areaDimension a) (areaCount a) refl (faces-six (areaDimension a)) in
+      let fit : areaGhosts a ≤ ghostBound (facesIn (areaDimension a)) (areaCount a) = area-parts a sound .fit in
+      omega (arith, range-trees a header, few-trees _ _ (header .tables), bound .0, bound .1)
+
+  -- the held ghosts ascend
+  pub ghosts-held : Held a (ghostSlotsPlace (areaP a) (areaCount a)) (areaGhosts a) (areaFirst a) (areaFirst a + areaCount a)
+  ghosts-held =
+      record {
+        ghosts = record {
+          fits = omega (arith, long a sound, ghosts-place-is (areaP a) (areaCount a), area-parts a sound .fit);
+          ascends = λ i j h l. rw (number-is i, number-is j) (G .ascends i j h l);
+        };
+        range = omega arith;
+        small = omega (arith, few-held);
+      }
+
+  -- one past the last tree of the range
+  range-end : areaFirst a + areaCount a ≡ endTree (areaNew a) (areaRank a)
+  unfolding areaFirst
+  range-end =
+      ap (λ (m : ℕ). firstTree (areaNew a) (areaRank a) + m) (header .countIs)
+      ∙ count-add (areaNew a) (header .tables .newBytes) (header .tables .newRanks) (header .tables .newValid) (areaRank a) (omega (arith, header .rankBelow, header .ranksAre, header .tables .sameRanks))
+
+  pub range-is : (k : ℕ) → inRange (areaFirst a) (areaFirst a + areaCount a) k ≡ holds (areaNew a) (areaRank a) k
+  unfolding inRange holds areaFirst
+  range-is k = rw range-end
+
+  abbrev is : ℕ → ℕ → Bool
+  is k j = eqb (numberOf (ghostSlot a j)) k
+
+  -- the ghosts below a held one are its position
+  smaller-is : (k : ℕ) → anyBelow (areaGhosts a) (is k) ≡ true → smaller a at (areaGhosts a) k ≡ leastBelow (areaGhosts a) (is k)
+  unfolding smaller
+  smaller-is k e =
+      let m : ℕ = leastBelow (areaGhosts a) (is k) in
+      let l : m < areaGhosts a = least-lt (areaGhosts a) (is k) e in
+      let n : numberOf (ghostSlot a m) ≡ k = eqb-true (numberOf (ghostSlot a m)) k (least-at (areaGhosts a) (is k) e) in
+      count-initial (areaGhosts a) (λ j. ltb (numberAt a at j) k) m (omega arith)
+      (λ i p. rw (number-is i) (lt-ltb (numberOf (ghostSlot a i)) k (omega (arith, G .ascends i m p l))))
+      (λ i p q. rw (number-is i) (le-ltb (numberOf (ghostSlot a i)) k
+      (either (ltb m i) (λ s. omega (arith, G .ascends m i (ltb-true m i s) q)) (λ s. let r : i ≡ m = omega tests in omega (arith, ap (λ (j : ℕ). numberOf (ghostSlot a j)) r)))))
+
+  -- the local index read is the one defined, where a neighbour outside the range is a held ghost
+  index-is : (k : ℕ) → (eqb k unused ≡ false → inRange (areaFirst a) (areaFirst a + areaCount a) k ≡ false → anyBelow (areaGhosts a) (is k) ≡ true)
+      → localRead a at (areaGhosts a) (areaFirst a) (areaFirst a + areaCount a) k ≡ joinIndex a k
+  unfolding localRead joinIndex
+  index-is k h =
+      rw (← range-is k, add-sub-cancel-left (areaFirst a) (areaCount a))
+      (either (eqb k unused) (λ p. rw p)
+      (λ p. rw p
+      (either (inRange (areaFirst a) (areaFirst a + areaCount a) k) (λ q. rw q) (λ q. rw (q, smaller-is k (h p q))))))
+
+  -- a number held outside the range is a ghost's
+  pub ghost-held : (k : ℕ) → held (areaFirst a) (areaCount a) (areaGhosts a) (treeSlotCore a) (ghostSlot a) k ≡ true
+      → inRange (areaFirst a) (areaFirst a + areaCount a) k ≡ false → anyBelow (areaGhosts a) (λ j. eqb (numberOf (ghostSlot a j)) k) ≡ true
+  unfolding held isLocal inRange ghostIs
+  ghost-held k e o = rw o at e
+
+  module _ (joined : joinSound a ≡ true) where
+    tree-view : (i : ℕ) → i < areaCount a → TreeView (areaFirst a) (areaCount a) (areaGhosts a) (treeSlotCore a) (ghostSlot a) (areaDimension a) i
+    unfolding joinSound
+    tree-view = view-trees (areaFirst a) (areaCount a) (areaGhosts a) (treeSlotCore a) (ghostSlot a) (areaDimension a) (areaK a) joined
+
+    -- the neighbour across a used face is held
+    pub neighbour-held : (i : ℕ) → i < areaCount a → (f : ℕ) → f < faceCount (shapeOf (treeSlotCore a i))
+        → held (areaFirst a) (areaCount a) (areaGhosts a) (treeSlotCore a) (ghostSlot a) (neighbourOf (treeSlotCore a i) f) ≡ true
+    neighbour-held i h f l =
+        rw (core-tree (areaFirst a) (areaCount a) (areaGhosts a) (treeSlotCore a) (ghostSlot a) i h)
+        at (tree-link-held (areaFirst a) (areaCount a) (areaGhosts a) (treeSlotCore a) (ghostSlot a) (areaFirst a + i) f (tree-view i h .links f l))
+
+    -- every neighbour of a tree gets its local index
+    pub tree-index : (i : ℕ) → i < areaCount a → (f : ℕ) → f < 6
+        → localRead a (ghostSlotsPlace (areaP a) (areaCount a)) (areaGhosts a) (areaFirst a) (areaFirst a + areaCount a) (neighbourOf (treeSlot a i) f) ≡ joinIndex a (neighbourOf (treeSlot a i) f)
+    tree-index i h f l =
+        let r : List ℕ = treeSlotCore a i in
+        rw (slot-neighbour a i f l)
+        (index-is (neighbourOf r f)
+        (λ u o. either (ltb f (faceCount (shapeOf r))) (λ p. ghost-held (neighbourOf r f) (neighbour-held i h f (ltb-true f (faceCount (shapeOf r)) p)) o)
+        (λ p. clash (eq-eqb (neighbourOf r f) unused (unused-neighbour r f (form-unused (areaFirst a + i) r (tree-view i h .form) f (omega tests) l))) u)))
+
+    slot-is : (i : ℕ) → i < areaCount a
+        → slotRecord (localRead a (ghostSlotsPlace (areaP a) (areaCount a)) (areaGhosts a) (areaFirst a) (areaFirst a + areaCount a)) (facesIn (areaDimension a)) a (slotsPlace (areaP a)) i
+        ≡ renamed (joinIndex a) (facesIn (areaDimension a)) (treeSlot a i)
+    unfolding slotRecord treeSlot
+    slot-is i h = same-names (localRead a (ghostSlotsPlace (areaP a) (areaCount a)) (areaGhosts a) (areaFirst a) (areaFirst a + areaCount a)) (joinIndex a) (facesIn (areaDimension a)) (treeSlot a i) (tree-index i h)
+
+-- ---- the three writes
+
+-- what the code reads of an area before it writes
+pub record Read (a : List ℕ) (P first n g F from at : ℕ) : Type 0 where
+  pub is-P : P ≡ areaP a
+  pub is-first : first ≡ areaFirst a
+  pub is-n : n ≡ areaCount a
+  pub is-g : g ≡ areaGhosts a
+  pub is-F : F ≡ facesIn (areaDimension a)
+  pub is-from : from ≡ slotsPlace P
+  pub is-at : at ≡ ghostSlotsPlace P n
+
+module _ (a out : List ℕ) (room : JoinRoom a out) (b : Bytes a) {P first n g F from at : ℕ} (read : Read a P first n g F from at) where
+  place-from : from ≡ slotsPlace (areaP a)
+  place-from = read .is-from ∙ ap slotsPlace (read .is-P)
+
+  place-at : at ≡ ghostSlotsPlace (areaP a) (areaCount a)
+  place-at = read .is-at ∙ ap₂ ghostSlotsPlace (read .is-P) (read .is-n)
+
+  held-read : Held a at g first (first + n)
+  held-read = rw (place-at, read .is-g, read .is-first, read .is-n) (ghosts-held a b (room .isSound))
+
+  pub trees-room : {o1 : List ℕ} → length o1 ≡ length out → SlotsRoom a o1 from F first n at g
+  trees-room l =
+      record {
+        source = omega (arith, place-from, read .is-n, slots-place-is (areaP a), long a (room .isSound));
+        target = omega (arith, read .is-n, room .room);
+        faced = rw (read .is-F) (faces-positive (areaDimension a));
+        held = held-read;
+      }
+
+  pub ghosts-room : {o2 : List ℕ} → length o2 ≡ length out → GhostsRoom a o2 at g (partHeader + treeSize * n)
+  ghosts-room l =
+      record {
+        source = omega (arith, held-read .ghosts .fits);
+        target = omega (arith, read .is-n, read .is-g, room .room);
+      }
+
+  abbrev trees : List ℕ
+  trees = slotsOf (λ i. renamed (joinIndex a) (facesIn (areaDimension a)) (treeSlot a i)) (areaCount a)
+
+  ghosts-are : piece a (ghostSlotsPlace (areaP a) (areaCount a)) (coreSize * areaGhosts a) ≡ slotsOf (ghostSlot a) (areaGhosts a)
+  unfolding ghostSlot
+  ghosts-are = sym (slots-piece a (ghostSlotsPlace (areaP a) (areaCount a)) coreSize (areaGhosts a))
+
+  -- header, trees and ghosts, one behind the other, are the joined part
+  pub join-written : {d K rank : ℕ} {o1 o2 o3 : List ℕ} → d ≡ areaDimension a → K ≡ areaK a → rank ≡ areaRank a
+      → o1 ≡ splice out 0 (headerBytes d K P rank first n g)
+      → o2 ≡ splice o1 partHeader (slotsOf (slotRecord (localRead a at g first (first + n)) F a from) n)
+      → o3 ≡ splice o2 (partHeader + treeSize * n) (piece a at (coreSize * g))
+      → o3 ≡ splice out 0 (joinedPart a)
+  unfolding joinedPart
+  join-written {d} {K} {rank} {o1} {o2} {o3} is-d is-K is-rank e1 e2 e3 =
+      let H : List ℕ = headerBytes (areaDimension a) (areaK a) (areaP a) (areaRank a) (areaFirst a) (areaCount a) (areaGhosts a) in
+      let ghosts : List ℕ = slotsOf (ghostSlot a) (areaGhosts a) in
+      let lH : length H ≡ 32 = header-length (areaDimension a) (areaK a) (areaP a) (areaRank a) (areaFirst a) (areaCount a) (areaGhosts a) in
+      let lT : length trees ≡ treeSize * areaCount a = slots-length (tree a (room .isSound)) treeSize (areaCount a) (tree-long a (room .isSound)) in
+      let q1 : o1 ≡ splice out 0 H = rw (is-d, is-K, read .is-P, is-rank, read .is-first, read .is-n, read .is-g) at e1 in
+      let r2 : o2 ≡ splice o1 32 (slotsOf (slotRecord (localRead a (ghostSlotsPlace (areaP a) (areaCount a)) (areaGhosts a) (areaFirst a) (areaFirst a + areaCount a)) (facesIn (areaDimension a)) a (slotsPlace (areaP a))) (areaCount a)) =
+      rw (place-at, read .is-g, read .is-first, read .is-n, read .is-F, place-from) at e2 in
+      let q2 : o2 ≡ splice o1 32 trees = r2 ∙ ap (splice o1 32) (slots-same _ _ (areaCount a) (slot-is a b (room .isSound) (room .joined))) in
+      let q3 : o3 ≡ splice o2 (32 + treeSize * areaCount a) ghosts = (rw (place-at, read .is-n, read .is-g) at e3) ∙ ap (splice o2 (32 + treeSize * areaCount a)) ghosts-are in
+      let two : o2 ≡ splice out 0 (H ++ trees) = splice-then out 0 32 H trees lH (omega (arith, room .room)) q1 q2 in
+      splice-then out 0 (32 + treeSize * areaCount a) (H ++ trees) ghosts (rw (length-append, lH, lT)) (omega (arith, room .room)) two (rw zero-add q3) ∙ ap (splice out 0) (append-assoc H trees ghosts)

@@ -1,0 +1,5 @@
+-- Laws, for this crate's proofs and for the crates above.
+pub mod Slots
+pub mod Joining
+pub mod Reading
+pub mod Closing

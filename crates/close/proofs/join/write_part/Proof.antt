@@ -1,0 +1,93 @@
+use Rattle.records.specs.Shape.{facesIn}
+use native.Mathlib.Omega.{arith}
+use mathlib.Core.Path.{ap, _∙_}
+use Rattle.assembly.proofs.Progressing.{sound-holds}
+use Rattle.close.proofs.Joining.{trees-room, ghosts-room, join-written}
+use borrow.Author.Needs.{needs}
+use Rattle.close.proofs.join.write_part.Statement.{statement}
+use Rattle.close.proofs.join.write_part.Tie as tie
+
+dimension-requires : tie.Need-dimension-requires
+dimension-requires c κs = omega (arith, sound-holds _ (c .before .before .pre .isSound) (λ i. c .before .shared-slice-known .given i .fits) .long)
+
+ranks-requires : tie.Need-ranks-requires
+ranks-requires c κs = omega (arith, sound-holds _ (c .before .before .before .pre .isSound) (λ i. c .before .before .shared-slice-known .given i .fits) .long)
+
+first-tree-requires : tie.Need-first-tree-requires
+first-tree-requires c κs = sound-holds _ (c .before .before .before .before .pre .isSound) (λ i. c .before .before .before .shared-slice-known .given i .fits)
+
+count-requires : tie.Need-count-requires
+count-requires c κs = omega (arith, sound-holds _ (c .before .before .before .before .before .pre .isSound) (λ i. c .before .before .before .before .shared-slice-known .given i .fits) .long)
+
+ghosts-requires : tie.Need-ghosts-requires
+ghosts-requires c κs = omega (arith, sound-holds _ (c .before .before .before .before .before .before .pre .isSound) (λ i. c .before .before .before .before .before .shared-slice-known .given i .fits) .long)
+
+slots-place-requires : tie.Need-slots-place-requires
+slots-place-requires c κs = omega (arith, c .before .before .before .ranks .ensures, sound-holds _ (c .before .before .before .before .before .before .before .pre .isSound) (λ i. c .before .before .before .before .before .before .shared-slice-known .given i .fits) .ranksHigh)
+
+ghost-slots-place-requires : tie.Need-ghost-slots-place-requires
+ghost-slots-place-requires c κs = omega (arith, c .before .before .before .before .ranks .ensures, sound-holds _ (c .before .before .before .before .before .before .before .before .pre .isSound) (λ i. c .before .before .before .before .before .before .before .shared-slice-known .given i .fits) .ranksHigh)
+
+faces-in-requires : tie.Need-faces-in-requires
+faces-in-requires c κs = search needs
+
+trees-requires : tie.Need-trees-requires
+trees-requires c κs = omega (arith, sound-holds _ (c .before .before .before .before .before .before .before .before .before .before .before .pre .isSound) (λ i. c .before .before .before .before .before .before .before .before .before .before .shared-slice-known .given i .fits) .long)
+
+cast-write-header : tie.Need-cast-write-header
+cast-write-header c = omega (arith, c .before .before .before .before .before .before .before .before .ranks .ensures, sound-holds _ (c .before .before .before .before .before .before .before .before .before .before .before .before .pre .isSound) (λ i. c .before .before .before .before .before .before .before .before .before .before .before .shared-slice-known .given i .fits) .ranksHigh)
+
+rank-requires : tie.Need-rank-requires
+rank-requires c κs = omega (arith, sound-holds _ (c .before .before .before .before .before .before .before .before .before .before .before .before .pre .isSound) (λ i. c .before .before .before .before .before .before .before .before .before .before .before .shared-slice-known .given i .fits) .long)
+
+cast-write-header-2 : tie.Need-cast-write-header-2
+cast-write-header-2 c = omega (arith, c .rank .ensures, sound-holds _ (c .before .before .before .before .before .before .before .before .before .before .before .before .before .pre .isSound) (λ i. c .before .before .before .before .before .before .before .before .before .before .before .before .shared-slice-known .given i .fits) .rankBelow, sound-holds _ (c .before .before .before .before .before .before .before .before .before .before .before .before .before .pre .isSound) (λ i. c .before .before .before .before .before .before .before .before .before .before .before .before .shared-slice-known .given i .fits) .ranksHigh)
+
+write-header-requires : tie.Need-write-header-requires
+write-header-requires c κs = search needs
+
+write-trees-requires : tie.Need-write-trees-requires
+write-trees-requires c κs = trees-room _ _ (c .before .before .before .before .before .before .before .before .before .before .before .before .before .before .before .before .before .pre) (λ i. c .before .before .before .before .before .before .before .before .before .before .before .before .before .before .before .before .shared-slice-known .given i .fits) (record { is-P = c .before .before .before .before .before .before .before .before .before .before .before .before .before .ranks .ensures; is-first = c .before .before .before .before .before .before .before .before .before .before .before .before .first-tree .ensures .0; is-n = c .before .before .before .before .before .before .before .before .before .before .before .count .ensures; is-g = c .before .before .before .before .before .before .before .before .before .before .ghosts .ensures; is-F = c .before .before .before .before .before .before .before .faces-in .ensures .0 ∙ ap facesIn (c .before .before .before .before .before .before .before .before .before .before .before .before .before .before .dimension .ensures); is-from = c .before .before .before .before .before .before .before .before .before .slots-place .ensures .0; is-at = c .before .before .before .before .before .before .before .before .ghost-slots-place .ensures .0 }) (search needs)
+
+cast-write-ghosts : tie.Need-cast-write-ghosts
+cast-write-ghosts c = search needs
+
+mul-write-ghosts : tie.Need-mul-write-ghosts
+mul-write-ghosts c = search needs
+
+add-write-ghosts : tie.Need-add-write-ghosts
+add-write-ghosts c = search needs
+
+write-ghosts-requires : tie.Need-write-ghosts-requires
+write-ghosts-requires c κs = ghosts-room _ _ (c .before .before .before .before .before .before .before .before .before .before .before .before .before .before .before .before .before .before .before .before .before .pre) (λ i. c .before .before .before .before .before .before .before .before .before .before .before .before .before .before .before .before .before .before .before .before .shared-slice-known .given i .fits) (record { is-P = c .before .before .before .before .before .before .before .before .before .before .before .before .before .before .before .before .before .ranks .ensures; is-first = c .before .before .before .before .before .before .before .before .before .before .before .before .before .before .before .before .first-tree .ensures .0; is-n = c .before .before .before .before .before .before .before .before .before .before .before .before .before .before .before .count .ensures; is-g = c .before .before .before .before .before .before .before .before .before .before .before .before .before .before .ghosts .ensures; is-F = c .before .before .before .before .before .before .before .before .before .before .before .faces-in .ensures .0 ∙ ap facesIn (c .before .before .before .before .before .before .before .before .before .before .before .before .before .before .before .before .before .before .dimension .ensures); is-from = c .before .before .before .before .before .before .before .before .before .before .before .before .before .slots-place .ensures .0; is-at = c .before .before .before .before .before .before .before .before .before .before .before .before .ghost-slots-place .ensures .0 }) (search needs)
+
+same-length : tie.Need-same-length
+same-length c = search needs
+
+returns : tie.Need-returns
+returns c = join-written _ _ (c .before .before .before .before .before .before .before .before .before .before .before .before .before .before .before .before .before .before .before .before .before .before .before .before .pre) (λ i. c .before .before .before .before .before .before .before .before .before .before .before .before .before .before .before .before .before .before .before .before .before .before .before .shared-slice-known .given i .fits) (record { is-P = c .before .before .before .before .before .before .before .before .before .before .before .before .before .before .before .before .before .before .before .before .ranks .ensures; is-first = c .before .before .before .before .before .before .before .before .before .before .before .before .before .before .before .before .before .before .before .first-tree .ensures .0; is-n = c .before .before .before .before .before .before .before .before .before .before .before .before .before .before .before .before .before .before .count .ensures; is-g = c .before .before .before .before .before .before .before .before .before .before .before .before .before .before .before .before .before .ghosts .ensures; is-F = c .before .before .before .before .before .before .before .before .before .before .before .before .before .before .faces-in .ensures .0 ∙ ap facesIn (c .before .before .before .before .before .before .before .before .before .before .before .before .before .before .before .before .before .before .before .before .before .dimension .ensures); is-from = c .before .before .before .before .before .before .before .before .before .before .before .before .before .before .before .before .slots-place .ensures .0; is-at = c .before .before .before .before .before .before .before .before .before .before .before .before .before .before .before .ghost-slots-place .ensures .0 }) (c .before .before .before .before .before .before .before .before .before .before .before .before .before .before .before .before .before .before .before .before .before .dimension .ensures) (c .before .before .before .before .before .before .before .before .before .before .before .before .trees .ensures) (c .before .before .before .before .before .before .before .before .before .before .before .rank .ensures) (c .before .before .before .before .before .before .before .before .before .before .write-header .ensures) (c .before .before .before .before .before .before .write-trees .ensures) (c .before .before .write-ghosts .ensures)
+
+pub write-part-spec : {M : Type 1} → statement M
+write-part-spec =
+    tie.close
+    (tie.spec
+    dimension-requires
+    ranks-requires
+    first-tree-requires
+    count-requires
+    ghosts-requires
+    slots-place-requires
+    ghost-slots-place-requires
+    faces-in-requires
+    trees-requires
+    cast-write-header
+    rank-requires
+    cast-write-header-2
+    write-header-requires
+    write-trees-requires
+    cast-write-ghosts
+    mul-write-ghosts
+    add-write-ghosts
+    write-ghosts-requires
+    same-length
+    returns)

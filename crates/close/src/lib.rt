@@ -1,0 +1,29 @@
+// Closing an area: its joined part is written into a lent buffer.
+use encoding::answer::Length;
+ghost use mathlib.Core.Path.{_≡_};
+ghost use Rattle.assembly.specs.Close.{closeOf};
+
+pub mod join;
+
+// Close an area: write the part that its slots make (10, 20, 21, 22). The area stays as it is.
+pub fn close_area(area: &[u8], out: &mut [u8]) -> Length
+    ensures { λ r. ⌜ (r, now (out .exit)) ≡ closeOf (now (area .entry)) (now (out .entry)) ⌝ }
+{
+    let refusal = close_checks::refusal(area);
+    if refusal != 0 {
+        return Length { refusal, length: 0 };
+    }
+    let count = assembly::area::count(area);
+    let n = part::sound::ghost_at(count, assembly::area::ghosts(area));
+    if out.len() < n {
+        return Length {
+            refusal: 22,
+            length: 0,
+        };
+    }
+    join::write_part(area, &mut *out);
+    Length {
+        refusal: 0,
+        length: n as u64,
+    }
+}

@@ -2,7 +2,8 @@
  *
  * Repartitioning of coarse meshes for tree-based adaptive mesh refinement:
  * offset tables, the communication pattern between two of them, whole meshes,
- * the part of a mesh that a rank has, and the messages between ranks.
+ * the part of a mesh that a rank has, the messages between ranks, and the area
+ * in which a rank's new part is assembled from them.
  *
  * Link with libvejgodat.a, which `rt staticlib vejgodat` writes to
  * target/staticlib/. The library is proved to do what its definitions say for
@@ -167,6 +168,49 @@
  * So each ghost of q comes from exactly one rank, and the part of p under the
  * old table has all that p needs to know of its own.
  *
+ * ## Areas
+ *
+ * Rank q gathers the messages meant for it in an area, one for each epoch,
+ * which the caller makes room for and lends to each call. An area is bytes at
+ * any address, with n the number of trees of q under the new table, F the
+ * largest number of faces of the dimension (4 or 6) and every number
+ * little-endian:
+ *
+ *     at 0                   uint32_t      the epoch
+ *     at 4                   uint32_t      the dimension, 2 or 3
+ *     at 8                   uint32_t      K
+ *     at 12                  uint32_t      P
+ *     at 16                  uint32_t      the rank q
+ *     at 20                  uint32_t      n
+ *     at 24                  uint32_t      h, the number of ghosts held
+ *     at 28                  uint32_t      0
+ *     at 32                  8 (P + 1)     the old table
+ *     at 40 + 8 P            8 (P + 1)     the new table
+ *     at 48 + 16 P           uint64_t[16]  the senders heard: bit s mod 64 of
+ *                                          word s div 64 for sender s
+ *     at 176 + 16 P          64 n          a slot for each tree of f'(q)
+ *     at 176 + 16 P + 64 n   40 F n        slots for ghosts
+ *
+ * so 176 + 16 P + (64 + 40 F) n bytes in all; the buffer may be longer, and what
+ * lies behind the area is never read or written. The first h ghost slots hold
+ * the ghosts that have come, ascending by number; every slot without a record
+ * is zero. Which senders are heard decides every byte of an area, in whatever
+ * order their messages came.
+ *
+ * An area is sound if
+ *
+ *  - it is long enough, the dimension is 2 or 3, both tables are valid, and the
+ *    header is as they say;
+ *  - only ranks of the receive set of q are heard;
+ *  - the slot of each tree that a heard sender sends to q holds a record with
+ *    that tree's number whose zero bytes, shape and unused faces are as in a
+ *    whole mesh, and every other tree slot is zero;
+ *  - h is at most F n; the ghosts held are laid out so too, are below K and
+ *    outside f'(q), and ascend strictly; every other ghost slot is zero.
+ *
+ * Neighbours in the slots may be any numbers. Whether all links fit together is
+ * looked at when the area is closed.
+ *
  * ## Refusals
  *
  * Each call checks its input itself and returns a refusal: 0, or the number of
@@ -226,6 +270,11 @@ extern "C" {
 /** The bytes of a message with n trees and g ghosts. */
 #define VEJGODAT_MESSAGE_BYTES(n, g) VEJGODAT_PART_BYTES (n, g)
 
+/** The bytes of an area for P ranks and n trees, with F faces at most: 4 in
+ * dimension 2, 6 in dimension 3. */
+#define VEJGODAT_AREA_BYTES(P, n, F) \
+  (176 + 16 * (size_t) (P) + (64 + 40 * (size_t) (F)) * (size_t) (n))
+
 /** What the number `refusal` of a result means. */
 enum
 {
@@ -237,14 +286,33 @@ enum
   VEJGODAT_TABLE = 3,           /**< A table isn't valid. */
   VEJGODAT_DIFFER = 4,          /**< Old and new table differ in P or K. */
   VEJGODAT_INDEX = 5,           /**< A rank is >= P, a tree >= K, a local index
-                                     >= the table's count for the rank, or a
-                                     face >= 6. */
+                                     >= the table's count for the rank, a face
+                                     >= 6, or a dimension given for an area is
+                                     neither 2 nor 3. */
   VEJGODAT_PARTITION = 6,       /**< Ranges or leaf counts fit no table, or a
                                      limit isn't kept. */
   VEJGODAT_MESH = 7,            /**< A whole mesh isn't sound, or its K isn't
                                      the table's. */
   VEJGODAT_PART = 8,            /**< A part isn't sound for table and rank. */
+  VEJGODAT_NOTHING = 9,         /**< The sender sends the receiver no tree, so
+                                     there is no message. */
+  VEJGODAT_AREA = 10,           /**< An area isn't sound. */
   VEJGODAT_LAYOUT = 11,         /**< A message breaks its layout. */
+  VEJGODAT_RUN = 12,            /**< A message's epoch, dimension, K or P isn't
+                                     the area's. */
+  VEJGODAT_RECEIVER = 13,       /**< A message is for another rank. */
+  VEJGODAT_SENDER = 14,         /**< A message's sender isn't in the receive
+                                     set. */
+  VEJGODAT_HEARD = 15,          /**< The sender is already heard. */
+  VEJGODAT_TREES = 16,          /**< A message's trees aren't exactly those that
+                                     its sender sends to the rank. */
+  VEJGODAT_GHOSTS = 17,         /**< A ghost of a message is local under the new
+                                     table, or is across no face of a tree of
+                                     the message. */
+  VEJGODAT_HELD = 18,           /**< A ghost of a message is already held. */
+  VEJGODAT_FULL = 19,           /**< There are more ghosts than slots. */
+  VEJGODAT_MISSING = 20,        /**< Not every sender is heard. */
+  VEJGODAT_JOIN = 21,           /**< The joined part isn't sound. */
   VEJGODAT_BUFFER = 22          /**< A buffer is too short. */
 };
 
@@ -282,6 +350,15 @@ typedef struct
   uint64_t            length;   /**< The number of bytes. */
 }
 vejgodat_length;
+
+/** How far the assembly of a part has come. */
+typedef struct
+{
+  uint32_t            refusal;  /**< 0, or why the call declined. */
+  uint32_t            heard;    /**< How many senders are heard. */
+  uint32_t            due;      /**< How many there are in the receive set. */
+}
+vejgodat_progress;
 
 /** What the number `kind` of a \ref vejgodat_neighbour means. */
 enum
@@ -711,6 +788,210 @@ vejgodat_found      vejgodat_lookup (const uint8_t * trees, size_t trees_len,
  */
 uint32_t            vejgodat_check_message (const uint8_t * message,
                                             size_t message_len);
+
+/** Compute the length of the message from one rank to another.
+ *
+ * Checks, in this order: 2, 3 and 4 as under Who sends; \ref VEJGODAT_INDEX (5)
+ * if \a sender or \a receiver is not below P; \ref VEJGODAT_PART (8) if the part
+ * isn't sound for the old table and the sender; \ref VEJGODAT_NOTHING (9) if the
+ * sender sends the receiver no tree.
+ * Cost: O(P) for the check of the tables and that of \ref vejgodat_check_part;
+ * then the trees sent and their neighbours, whose ghosts are searched by halves,
+ * and one pass over a set of 128 KiB on the stack.
+ *
+ * \param [in] part       The part of \a sender under the old table; any bytes.
+ *                        Not changed.
+ * \param [in] part_len   The number of its bytes.
+ * \param [in] old_table  The old table; any bytes. Not changed.
+ * \param [in] old_len    The number of its bytes.
+ * \param [in] new_table  The new table; any bytes. Not changed.
+ * \param [in] new_len    The number of its bytes.
+ * \param [in] sender     A rank p; any number.
+ * \param [in] receiver   A rank q; any number.
+ * \return                32 + 64 n + 40 g, which \ref vejgodat_build_message
+ *                        needs as buffer.
+ */
+vejgodat_length     vejgodat_message_length (const uint8_t * part,
+                                             size_t part_len,
+                                             const uint8_t * old_table,
+                                             size_t old_len,
+                                             const uint8_t * new_table,
+                                             size_t new_len,
+                                             uint32_t sender,
+                                             uint32_t receiver);
+
+/** Build the message from one rank to another.
+ *
+ * The message has the trees that the sender sends to the receiver, with their
+ * data, and the ghosts that the rule above gives to this sender. It is in
+ * layout. A rank builds one for itself too if it keeps a tree.
+ *
+ * Checks, in this order: 2, 3, 4, 5, 8 and 9 as \ref vejgodat_message_length;
+ * \ref VEJGODAT_BUFFER (22) if \a out_len is below the length of the message.
+ * Cost: that of \ref vejgodat_message_length, and the bytes written.
+ *
+ * \param [in] part       The part of \a sender under the old table; any bytes.
+ *                        Not changed.
+ * \param [in] part_len   The number of its bytes.
+ * \param [in] old_table  The old table; any bytes. Not changed.
+ * \param [in] old_len    The number of its bytes.
+ * \param [in] new_table  The new table; any bytes. Not changed.
+ * \param [in] new_len    The number of its bytes.
+ * \param [in] sender     A rank p; any number.
+ * \param [in] receiver   A rank q; any number.
+ * \param [in] epoch      Any number, the same for all messages of one move.
+ * \param [out] out       Its first bytes become the message; the bytes behind
+ *                        them stay. When refused, all of them stay.
+ * \param [in] out_len    The number of bytes of \a out.
+ * \return                The bytes written, 32 + 64 n + 40 g.
+ */
+vejgodat_length     vejgodat_build_message (const uint8_t * part,
+                                            size_t part_len,
+                                            const uint8_t * old_table,
+                                            size_t old_len,
+                                            const uint8_t * new_table,
+                                            size_t new_len,
+                                            uint32_t sender,
+                                            uint32_t receiver,
+                                            uint32_t epoch,
+                                            uint8_t * out, size_t out_len);
+
+/** @} */
+
+/** \name Assembly
+ *
+ * The layout and what makes an area sound are above, under Areas. A rank opens
+ * its area, delivers every message meant for it in whatever order they come,
+ * and closes the area once all senders are heard. A rank without trees under
+ * the new table is due no message and may close at once.
+ * @{ */
+
+/** Compute the length of a rank's area.
+ *
+ * Checks, in this order: 2, 3 and 4 as under Who sends; \ref VEJGODAT_INDEX (5)
+ * if \a rank is not below P or \a dimension is neither 2 nor 3.
+ * Cost: O(P).
+ *
+ * \param [in] old_table  The old table; any bytes. Not changed.
+ * \param [in] old_len    The number of its bytes.
+ * \param [in] new_table  The new table; any bytes. Not changed.
+ * \param [in] new_len    The number of its bytes.
+ * \param [in] rank       The receiving rank q; any number.
+ * \param [in] dimension  The dimension of the mesh; any number.
+ * \return                176 + 16 P + (64 + 40 F) n, which
+ *                        \ref vejgodat_open_area needs as buffer.
+ */
+vejgodat_length     vejgodat_area_length (const uint8_t * old_table,
+                                          size_t old_len,
+                                          const uint8_t * new_table,
+                                          size_t new_len,
+                                          uint32_t rank, uint32_t dimension);
+
+/** Open an area: nobody is heard, and every slot is zero.
+ *
+ * Checks, in this order: 2, 3, 4 and 5 as \ref vejgodat_area_length;
+ * \ref VEJGODAT_BUFFER (22) if \a out_len is below the length of the area.
+ * Cost: O(P + n).
+ *
+ * \param [in] old_table  The old table; any bytes. Not changed.
+ * \param [in] old_len    The number of its bytes.
+ * \param [in] new_table  The new table; any bytes. Not changed.
+ * \param [in] new_len    The number of its bytes.
+ * \param [in] rank       The receiving rank q; any number.
+ * \param [in] dimension  The dimension of the mesh; any number.
+ * \param [in] epoch      The epoch that the messages must have; any number.
+ * \param [out] out       Its first bytes become the area; the bytes behind
+ *                        them stay. When refused, all of them stay.
+ * \param [in] out_len    The number of bytes of \a out.
+ * \return                The bytes written, 176 + 16 P + (64 + 40 F) n.
+ */
+vejgodat_length     vejgodat_open_area (const uint8_t * old_table,
+                                        size_t old_len,
+                                        const uint8_t * new_table,
+                                        size_t new_len,
+                                        uint32_t rank, uint32_t dimension,
+                                        uint32_t epoch,
+                                        uint8_t * out, size_t out_len);
+
+/** Deliver a message to an area.
+ *
+ * Its trees go to their slots, its ghosts among those held, and its sender is
+ * heard from now on. The area stays sound.
+ *
+ * Checks, in this order: \ref VEJGODAT_AREA (10) if the area isn't sound;
+ * \ref VEJGODAT_LAYOUT (11) if the message isn't in layout; \ref VEJGODAT_RUN
+ * (12) if its epoch, dimension, K or P isn't the area's;
+ * \ref VEJGODAT_RECEIVER (13) if it is for another rank; \ref VEJGODAT_SENDER
+ * (14) if its sender isn't in the receive set; \ref VEJGODAT_HEARD (15) if that
+ * sender is heard already; \ref VEJGODAT_TREES (16) if its trees aren't exactly
+ * those due from the sender; \ref VEJGODAT_GHOSTS (17) if one of its ghosts is
+ * in f'(q) or across no face of its trees; \ref VEJGODAT_HELD (18) if one of its
+ * ghosts is held already; \ref VEJGODAT_FULL (19) if there are more ghosts than
+ * slots.
+ * Cost: one pass over area and message, a search by halves for each ghost of the
+ * message, and a set of 128 KiB on the stack.
+ *
+ * \param [in,out] area    An area; any bytes. When refused, all of them stay;
+ *                         those behind the area always do.
+ * \param [in] area_len    The number of its bytes.
+ * \param [in] message     A message; any bytes. Not changed.
+ * \param [in] message_len The number of its bytes.
+ * \return                 0 if the message was taken, else the refusal.
+ */
+uint32_t            vejgodat_deliver (uint8_t * area, size_t area_len,
+                                      const uint8_t * message,
+                                      size_t message_len);
+
+/** Find how many senders are heard and how many are due.
+ *
+ * Checks: \ref VEJGODAT_AREA (10) if the area isn't sound.
+ * Cost: one pass over the area.
+ *
+ * \param [in] area       An area; any bytes. Not changed.
+ * \param [in] area_len   The number of its bytes.
+ * \return                How many senders are heard, and how many are in the
+ *                        receive set. The area may be closed once they are
+ *                        equal.
+ */
+vejgodat_progress   vejgodat_progress_of (const uint8_t * area,
+                                          size_t area_len);
+
+/** Compute the length of the part that an area gives.
+ *
+ * Checks, in this order: \ref VEJGODAT_AREA (10) if the area isn't sound;
+ * \ref VEJGODAT_MISSING (20) if a sender of the receive set isn't heard;
+ * \ref VEJGODAT_JOIN (21) if the part that the slots give isn't sound.
+ * Cost: one pass over the area, which looks for each face at its neighbour,
+ * whose ghosts are searched by halves.
+ *
+ * \param [in] area       An area; any bytes. Not changed.
+ * \param [in] area_len   The number of its bytes.
+ * \return                32 + 64 n + 40 h, which \ref vejgodat_close_area needs
+ *                        as buffer.
+ */
+vejgodat_length     vejgodat_part_of_area_length (const uint8_t * area,
+                                                  size_t area_len);
+
+/** Close an area: write the rank's part under the new table.
+ *
+ * Neighbours are renamed to local indices. Where all messages were built from
+ * parts of one sound mesh, the part is the one that \ref vejgodat_cut_part cuts
+ * from that mesh by the new table, in every byte. The area stays as it is.
+ *
+ * Checks, in this order: 10, 20 and 21 as \ref vejgodat_part_of_area_length;
+ * \ref VEJGODAT_BUFFER (22) if \a out_len is below the length of the part.
+ * Cost: that of \ref vejgodat_part_of_area_length, and the bytes written.
+ *
+ * \param [in] area       An area; any bytes. Not changed.
+ * \param [in] area_len   The number of its bytes.
+ * \param [out] out       Its first bytes become the part; the bytes behind
+ *                        them stay. When refused, all of them stay.
+ * \param [in] out_len    The number of bytes of \a out.
+ * \return                The bytes written, 32 + 64 n + 40 h.
+ */
+vejgodat_length     vejgodat_close_area (const uint8_t * area,
+                                         size_t area_len,
+                                         uint8_t * out, size_t out_len);
 
 /** @} */
 

@@ -2,9 +2,6 @@
  * It says what differs, and its exit status is 0 only where nothing did. */
 #include <vejgodat.h>
 
-/* A line '#define MESSAGES' or '#define AREAS' here switches these calls on; each needs those before. */
-#define PARTS
-
 #include <stdio.h>
 #include <string.h>
 
@@ -302,8 +299,6 @@ check_mesh (void)
   EXPECT (vejgodat_check_mesh (NULL, 0) == VEJGODAT_MESH);
 }
 
-#ifdef PARTS
-
 static int
 is_neighbour (vejgodat_neighbour got, uint32_t kind, uint32_t index,
               uint32_t face)
@@ -389,10 +384,6 @@ parts (void)
   EXPECT (found.which == 0 && found.offset == 0);
 }
 
-#endif
-
-#ifdef MESSAGES
-
 /* The example of document 01: who sends which of the three triangles and which ghosts to whom. */
 static void
 messages (void)
@@ -437,7 +428,7 @@ messages (void)
       }
       if (i == 4) {
         /* no tree to send */
-        EXPECT (answer.refusal == 9 && answer.length == 0);
+        EXPECT (answer.refusal == VEJGODAT_NOTHING && answer.length == 0);
         EXPECT (memcmp (message, bytes, sizeof message) == 0);
         continue;
       }
@@ -461,7 +452,7 @@ messages (void)
       EXPECT (answer.refusal == VEJGODAT_OK && answer.length == at);
       EXPECT (memcmp (message, bytes, sizeof message) == 0);
       EXPECT (vejgodat_check_message (message, at) == VEJGODAT_OK);
-      EXPECT (vejgodat_check_message (message, at + 1) == 11);
+      EXPECT (vejgodat_check_message (message, at + 1) == VEJGODAT_LAYOUT);
 
       memset (message, 0x5a, sizeof message);
       memset (bytes, 0x5a, sizeof bytes);
@@ -474,16 +465,12 @@ messages (void)
       answer = vejgodat_build_message (part, part_len, old_table, 32,
                                        new_table, 32, (p + 1) % 3, q, 7,
                                        message, sizeof message);
-      EXPECT (answer.refusal == 8 && answer.length == 0);
+      EXPECT (answer.refusal == VEJGODAT_PART && answer.length == 0);
     }
   }
   EXPECT (count == 4);
-  EXPECT (vejgodat_check_message (NULL, 0) == 11);
+  EXPECT (vejgodat_check_message (NULL, 0) == VEJGODAT_LAYOUT);
 }
-
-#endif
-
-#ifdef AREAS
 
 /* Each rank gets its messages in every order, with one repeated and one of another rank; then it has its new part. */
 static void
@@ -529,7 +516,8 @@ areas (void)
     answer = vejgodat_area_length (old_table, 32, new_table, 32, q, 2);
     EXPECT (answer.refusal == VEJGODAT_OK);
     area_len = (size_t) answer.length;
-    EXPECT (area_len == 32 + 2 * 32 + 16 * 8 + (64 + 4 * 40) * due[q]);
+    /* here each rank has as many trees as senders */
+    EXPECT (area_len == VEJGODAT_AREA_BYTES (3, due[q], 4));
 
     for (order = 0; order < due[q]; ++order) {
       memset (area, 0x5a, sizeof area);
@@ -549,17 +537,19 @@ areas (void)
         EXPECT (progress.refusal == VEJGODAT_OK);
         EXPECT (progress.heard == i && progress.due == due[q]);
         memcpy (before, area, sizeof area);
-        EXPECT (vejgodat_deliver (area, area_len, stray, stray_len) == 13);
-        EXPECT (vejgodat_deliver (area, area_len, stray, 31) == 11);
-        EXPECT (vejgodat_deliver (area, 31, stray, 31) == 10);
+        EXPECT (vejgodat_deliver (area, area_len, stray, stray_len)
+                == VEJGODAT_RECEIVER);
+        EXPECT (vejgodat_deliver (area, area_len, stray, 31)
+                == VEJGODAT_LAYOUT);
+        EXPECT (vejgodat_deliver (area, 31, stray, 31) == VEJGODAT_AREA);
         answer = vejgodat_close_area (area, area_len, joined, 256);
-        EXPECT (answer.refusal == 20 && answer.length == 0);
+        EXPECT (answer.refusal == VEJGODAT_MISSING && answer.length == 0);
         EXPECT (memcmp (area, before, sizeof area) == 0);
         EXPECT (vejgodat_deliver (area, area_len, messages[p], length[p])
                 == VEJGODAT_OK);
         memcpy (before, area, sizeof area);
         EXPECT (vejgodat_deliver (area, area_len, messages[p], length[p])
-                == 15);
+                == VEJGODAT_HEARD);
         EXPECT (memcmp (area, before, sizeof area) == 0);
       }
       answer = vejgodat_cut_part (mesh, sizeof mesh, new_table, 32, q, part,
@@ -580,8 +570,6 @@ areas (void)
   }
 }
 
-#endif
-
 int
 main (void)
 {
@@ -594,14 +582,8 @@ main (void)
   plan ();
   empty_set ();
   check_mesh ();
-#ifdef PARTS
   parts ();
-#endif
-#ifdef MESSAGES
   messages ();
-#endif
-#ifdef AREAS
   areas ();
-#endif
   return wrong == 0 ? 0 : 1;
 }

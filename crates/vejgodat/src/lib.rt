@@ -2,11 +2,15 @@
 ghost use mathlib.Core.Path.{_≡_};
 ghost use Rattle.offsets.specs.Calls.{tableRefusal, tableRange, tableLengthAnswer, writeTable, tableFromLeaves};
 ghost use Rattle.mesh.specs.Mesh.{meshRefusal};
-ghost use Rattle.message.specs.Calls.{messageRefusal};
+ghost use Rattle.assembly.specs.Calls.{areaLengthOf, openAreaOf, progressOf};
+ghost use Rattle.assembly.specs.Close.{closeLengthOf, closeOf};
+ghost use Rattle.assembly.specs.Deliver.{deliverOf};
+ghost use Rattle.message.specs.Calls.{messageRefusal, messageLengthOf, buildMessageOf};
 ghost use Rattle.part.specs.Calls.{partLengthOf, cutPartOf, partRefusal, neighbourAnswer};
 ghost use Rattle.part.specs.Lookup.{foundRecord};
 ghost use Rattle.part.specs.Neighbour.{flatAnswer};
 ghost use Rattle.pattern.specs.Calls.{senderOf, treesSent, sendSetOf, receiveSetOf};
+use assembly::Progress;
 use encoding::answer::Length;
 use offsets::Range;
 use part::Found;
@@ -142,4 +146,81 @@ pub extern "C" fn vejgodat_check_message(message: &[u8]) -> u32
     ensures { λ r. ⌜ r ≡ messageRefusal (now (message .entry)) ⌝ }
 {
     message::check_message(message)
+}
+
+#[no_mangle]
+pub extern "C" fn vejgodat_message_length(
+    part: &[u8],
+    old: &[u8],
+    new: &[u8],
+    sender: u32,
+    receiver: u32,
+) -> Length
+    ensures { λ r. ⌜ r ≡ messageLengthOf (now (part .entry)) (now (old .entry)) (now (new .entry)) sender receiver ⌝ }
+{
+    message_build::message_length(part, old, new, sender, receiver)
+}
+
+#[no_mangle]
+pub extern "C" fn vejgodat_build_message(
+    part: &[u8],
+    old: &[u8],
+    new: &[u8],
+    sender: u32,
+    receiver: u32,
+    epoch: u32,
+    out: &mut [u8],
+) -> Length
+    ensures { λ r. ⌜ (r, now (out .exit)) ≡ buildMessageOf (now (part .entry)) (now (old .entry)) (now (new .entry)) sender receiver epoch (now (out .entry)) ⌝ }
+{
+    message_build::build_message(part, old, new, sender, receiver, epoch, out)
+}
+
+#[no_mangle]
+pub extern "C" fn vejgodat_area_length(old: &[u8], new: &[u8], rank: u32, dimension: u32) -> Length
+    ensures { λ r. ⌜ r ≡ areaLengthOf (now (old .entry)) (now (new .entry)) rank dimension ⌝ }
+{
+    assembly::area_length(old, new, rank, dimension)
+}
+
+#[no_mangle]
+pub extern "C" fn vejgodat_open_area(
+    old: &[u8],
+    new: &[u8],
+    rank: u32,
+    dimension: u32,
+    epoch: u32,
+    out: &mut [u8],
+) -> Length
+    ensures { λ r. ⌜ (r, now (out .exit)) ≡ openAreaOf (now (old .entry)) (now (new .entry)) rank dimension epoch (now (out .entry)) ⌝ }
+{
+    assembly::open_area(old, new, rank, dimension, epoch, out)
+}
+
+#[no_mangle]
+pub extern "C" fn vejgodat_deliver(area: &mut [u8], message: &[u8]) -> u32
+    ensures { λ r. ⌜ (r, now (area .exit)) ≡ deliverOf (now (area .entry)) (now (message .entry)) ⌝ }
+{
+    deliver::deliver(area, message)
+}
+
+#[no_mangle]
+pub extern "C" fn vejgodat_progress_of(area: &[u8]) -> Progress
+    ensures { λ r. ⌜ r ≡ progressOf (now (area .entry)) ⌝ }
+{
+    assembly::progress_of(area)
+}
+
+#[no_mangle]
+pub extern "C" fn vejgodat_part_of_area_length(area: &[u8]) -> Length
+    ensures { λ r. ⌜ r ≡ closeLengthOf (now (area .entry)) ⌝ }
+{
+    close_checks::part_of_area_length(area)
+}
+
+#[no_mangle]
+pub extern "C" fn vejgodat_close_area(area: &[u8], out: &mut [u8]) -> Length
+    ensures { λ r. ⌜ (r, now (out .exit)) ≡ closeOf (now (area .entry)) (now (out .entry)) ⌝ }
+{
+    close::close_area(area, out)
 }

@@ -34,7 +34,6 @@ macro_rules! groups {
     };
 }
 
-// a line here switches a group on: part, message and area need the library's functions that they declare
 groups! {
     tables
     writing
@@ -43,6 +42,8 @@ groups! {
     mesh
     second
     part
+    message
+    area
     refusals
 }
 

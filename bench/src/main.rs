@@ -19,8 +19,9 @@ macro_rules! groups {
 }
 
 groups! {
-    // a line 'message' or 'area' here switches a group on; each needs those before it
     part
+    message
+    area
 }
 
 const RANKS: i64 = 1_024;

@@ -3,6 +3,7 @@ use part::cut::find_ghost;
 use part::inner::beside;
 use part::inner::in_range;
 use records::index::GlobalIndex;
+use records::index::LocalIndex;
 use records::index::to_local;
 ghost use mathlib.Core.Path.{_≡_};
 ghost use Prim.Native.Nat.{_+_, _≤_, _<_};
@@ -14,11 +15,19 @@ ghost use Rattle.part.specs.Mirror.{linkBetween};
 ghost use Rattle.assembly.specs.Close.{joinSound};
 ghost use Rattle.close_checks.specs.Mirror.{Slots, placeOf, linkOfTree, linkOfGhost, treeJoins, ghostJoins, recordsJoin, Complete};
 
-// Where the record with number k begins, a tree by subtraction, a ghost by halves; 0 where no slot has it.
-fn place_of(area: &[u8], at: usize, first: u32, count: u32, ghosts: u32, k: u32) -> usize
+// Where the record with the number begins, a tree by subtraction, a ghost by halves; 0 where no slot has it.
+fn place_of(
+    area: &[u8],
+    at: usize,
+    first: u32,
+    count: u32,
+    ghosts: u32,
+    number: GlobalIndex,
+) -> usize
     requires { ⌜ Slots (now area) at first count ghosts ⌝ }
-    ensures { λ r. ⌜ r ≡ placeOf (now (area .entry)) at first count ghosts k ⌝ }
+    ensures { λ r. ⌜ r ≡ placeOf (now (area .entry)) at first count ghosts (number .0) ⌝ }
 {
+    let k = number.0;
     if in_range(first, first + count, k) {
         let tree = to_local(GlobalIndex(k), GlobalIndex(first));
         let i = tree.0;
@@ -48,13 +57,22 @@ fn link_ok(area: &[u8], k: u32, from: usize, face: u32, to: usize) -> bool
 
 // ---- trees
 
-fn tree_link(area: &[u8], at: usize, first: u32, count: u32, ghosts: u32, i: u32, face: u32) -> bool
-    requires { ⌜ Slots (now area) at first count ghosts × (i < count) × (face < 6) ⌝ }
-    ensures { λ r. ⌜ r ≡ linkOfTree (now (area .entry)) at first count ghosts i face ⌝ }
+fn tree_link(
+    area: &[u8],
+    at: usize,
+    first: u32,
+    count: u32,
+    ghosts: u32,
+    tree: LocalIndex,
+    face: u32,
+) -> bool
+    requires { ⌜ Slots (now area) at first count ghosts × (tree .0 < count) × (face < 6) ⌝ }
+    ensures { λ r. ⌜ r ≡ linkOfTree (now (area .entry)) at first count ghosts (tree .0) face ⌝ }
 {
+    let i = tree.0;
     let from = at + 64 * (i as usize);
     let k = records::neighbour_of(area, from, face);
-    let to = place_of(area, at, first, count, ghosts, k);
+    let to = place_of(area, at, first, count, ghosts, GlobalIndex(k));
     if to != 0 {
         return link_ok(area, first + i, from, face, to);
     }
@@ -67,15 +85,15 @@ fn tree_links(
     first: u32,
     count: u32,
     ghosts: u32,
-    i: u32,
+    tree: LocalIndex,
     faces: u32,
 ) -> bool
-    requires { ⌜ Slots (now area) at first count ghosts × (i < count) × (faces ≤ 6) ⌝ }
-    ensures { λ r. ⌜ r ≡ allBelow faces (linkOfTree (now (area .entry)) at first count ghosts i) ⌝ }
+    requires { ⌜ Slots (now area) at first count ghosts × (tree .0 < count) × (faces ≤ 6) ⌝ }
+    ensures { λ r. ⌜ r ≡ allBelow faces (linkOfTree (now (area .entry)) at first count ghosts (tree .0)) ⌝ }
 {
     let mut face = 0;
     while face < faces {
-        if !tree_link(area, at, first, count, ghosts, i, face) {
+        if !tree_link(area, at, first, count, ghosts, tree, face) {
             return false;
         }
         face += 1;
@@ -90,15 +108,16 @@ fn tree_joins(
     count: u32,
     ghosts: u32,
     dimension: u32,
-    i: u32,
+    tree: LocalIndex,
 ) -> bool
-    requires { ⌜ Slots (now area) at first count ghosts × (i < count) ⌝ }
-    ensures { λ r. ⌜ r ≡ treeJoins (now (area .entry)) at first count ghosts dimension i ⌝ }
+    requires { ⌜ Slots (now area) at first count ghosts × (tree .0 < count) ⌝ }
+    ensures { λ r. ⌜ r ≡ treeJoins (now (area .entry)) at first count ghosts dimension (tree .0) ⌝ }
 {
+    let i = tree.0;
     let shape = records::shape_of(area, at + 64 * (i as usize));
     let faces = records::face_count(shape);
     (records::dimension_of(shape) == dimension)
-        & tree_links(area, at, first, count, ghosts, i, faces)
+        & tree_links(area, at, first, count, ghosts, tree, faces)
 }
 
 fn trees_join(area: &[u8], at: usize, first: u32, count: u32, ghosts: u32, dimension: u32) -> bool
@@ -107,7 +126,7 @@ fn trees_join(area: &[u8], at: usize, first: u32, count: u32, ghosts: u32, dimen
 {
     let mut i = 0;
     while i < count {
-        if !tree_joins(area, at, first, count, ghosts, dimension, i) {
+        if !tree_joins(area, at, first, count, ghosts, dimension, LocalIndex(i)) {
             return false;
         }
         i += 1;
@@ -133,7 +152,7 @@ fn ghost_link(
 {
     let from = at + 64 * (count as usize) + 40 * (j as usize);
     let k = records::neighbour_of(area, from, face);
-    let to = place_of(area, at, first, count, ghosts, k);
+    let to = place_of(area, at, first, count, ghosts, GlobalIndex(k));
     if to == 0 {
         return (k < trees) & mesh::inner::orientation_ok(area, from, face);
     }

@@ -3,6 +3,9 @@ use borrow.Author.Needs.{needs}
 use Rattle.close_checks.proofs.join.tree_link.Statement.{statement}
 use Rattle.close_checks.proofs.join.tree_link.Tie as tie
 
+cast-from : tie.Need-cast-from
+cast-from c = search needs
+
 mul-from : tie.Need-mul-from
 mul-from c = search needs
 
@@ -31,6 +34,7 @@ pub tree-link-spec : {M : Type 1} → statement M
 tree-link-spec =
     tie.close
     (tie.spec
+    cast-from
     mul-from
     add-from
     neighbour-of-requires

@@ -28,13 +28,13 @@ fn place_of(
     ensures { λ r. ⌜ r ≡ placeOf (now (area .entry)) at first count ghosts (number .0) ⌝ }
 {
     let k = number.0;
-    if in_range(first, first + count, k) {
-        let tree = to_local(GlobalIndex(k), GlobalIndex(first));
+    if in_range(first, first + count, number) {
+        let tree = to_local(number, GlobalIndex(first));
         let i = tree.0;
         return at + 64 * (i as usize);
     }
     let ghosts_at = at + 64 * (count as usize);
-    let position = find_ghost(area, ghosts_at, ghosts, k);
+    let position = find_ghost(area, ghosts_at, ghosts, number);
     if ghosts <= position {
         return 0;
     }

@@ -96,7 +96,7 @@ fn is_held(area: &[u8], at: usize, count: u32, number: GlobalIndex) -> bool
     ensures { λ r. ⌜ r ≡ heldAt (now (area .entry)) at count (number .0) ⌝ }
 {
     let k = number.0;
-    let position = part::cut::find_ghost(area, at, count, k);
+    let position = part::cut::find_ghost(area, at, count, number);
     if count <= position {
         return false;
     }

@@ -45,14 +45,14 @@ fn place_of(
     to
 }
 
-// The rule of a link between two records. The neighbour's link leads back to k.
-fn link_ok(area: &[u8], k: u32, from: usize, face: u32, to: usize) -> bool
+// The rule of a link between two records. The neighbour's link leads back to the number.
+fn link_ok(area: &[u8], number: GlobalIndex, from: usize, face: u32, to: usize) -> bool
     requires { ⌜ (from + coreSize ≤ length (now area)) × (face < 6) × (to + coreSize ≤ length (now area)) ⌝ }
-    ensures { λ r. ⌜ r ≡ linkBetween k (piece (now (area .entry)) from coreSize) face (piece (now (area .entry)) to coreSize) ⌝ }
+    ensures { λ r. ⌜ r ≡ linkBetween (number .0) (piece (now (area .entry)) from coreSize) face (piece (now (area .entry)) to coreSize) ⌝ }
 {
     mesh::inner::orientation_ok(area, from, face)
         & mesh::inner::same_corners(area, from, face, to)
-        & mesh::inner::answered(area, k, from, face, to)
+        & mesh::inner::answered(area, number.0, from, face, to)
 }
 
 // ---- trees
@@ -74,7 +74,8 @@ fn tree_link(
     let k = records::neighbour_of(area, from, face);
     let to = place_of(area, at, first, count, ghosts, GlobalIndex(k));
     if to != 0 {
-        return link_ok(area, first + i, from, face, to);
+        let number = records::number_of(area, from);
+        return link_ok(area, GlobalIndex(number), from, face, to);
     }
     false
 }
@@ -157,7 +158,7 @@ fn ghost_link(
         return (k < trees) & mesh::inner::orientation_ok(area, from, face);
     }
     let number = records::number_of(area, from);
-    link_ok(area, number, from, face, to)
+    link_ok(area, GlobalIndex(number), from, face, to)
 }
 
 fn ghost_links(

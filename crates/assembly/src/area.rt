@@ -19,6 +19,7 @@ use crate::place::new_place;
 use crate::place::slots_place;
 use crate::place::words_place;
 use records::index::GlobalIndex;
+use records::index::to_local;
 
 // ---- the header
 
@@ -205,8 +206,10 @@ fn range_sound(area: &[u8], old: &[u8], new: &[u8], s: usize) -> bool
     if count == 0 {
         return true;
     }
-    let before = (first as usize) - (offsets::inner::first_tree(new, rank) as usize);
-    let at = slots_place(ranks(area)) + 64 * before;
+    let own = offsets::inner::first_tree(new, rank) as u32;
+    let tree = to_local(GlobalIndex(first), GlobalIndex(own));
+    let i = tree.0;
+    let at = slots_place(ranks(area)) + 64 * (i as usize);
     if heard(area, s) {
         return slots_held(area, at, first, count);
     }

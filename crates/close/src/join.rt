@@ -10,6 +10,7 @@ use assembly::place::ghost_slots_place;
 use assembly::place::new_place;
 use assembly::place::slots_place;
 use assembly::place::words_place;
+use records::index::GlobalIndex;
 ghost use mathlib.Core.Path.{_≡_};
 ghost use Prim.Native.Nat.{_+_, _*_, _≤_};
 ghost use Rattle.encoding.specs.Pieces.{piece, splice};
@@ -25,15 +26,16 @@ ghost use Rattle.assembly.specs.Mirror.{HeaderHolds};
 ghost use Rattle.close.specs.Mirror.{GhostsRoom, SlotRoom, SlotsRoom, slotRecord, JoinRoom};
 
 // The first tree of the new range.
-fn first_tree(area: &[u8]) -> u32
+fn first_tree(area: &[u8]) -> GlobalIndex
     requires { ⌜ HeaderHolds (now area) ⌝ }
-    ensures { λ r. ⌜ (r ≡ areaFirst (now (area .entry))) × (r + areaCount (now (area .entry)) ≤ maxTrees) ⌝ }
+    ensures { λ r. ⌜ (r .0 ≡ areaFirst (now (area .entry))) × (r .0 + areaCount (now (area .entry)) ≤ maxTrees) ⌝ }
 {
     let ranks = ranks(area);
     let middle = new_place(ranks);
     let end = words_place(ranks);
     let new = &area[middle..end];
-    offsets::inner::first_tree(new, rank(area)) as u32
+    let first = offsets::inner::first_tree(new, rank(area)) as u32;
+    GlobalIndex(first)
 }
 
 // Copies the core records from byte `from` of an area.
@@ -107,7 +109,8 @@ pub fn write_part(area: &[u8], out: &mut [u8])
 {
     let dimension = dimension(area);
     let ranks = ranks(area);
-    let first = first_tree(area);
+    let tree = first_tree(area);
+    let first = tree.0;
     let n = count(area);
     let ghosts = ghosts(area);
     let from = slots_place(ranks);

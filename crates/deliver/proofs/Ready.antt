@@ -93,10 +93,12 @@ unfolding areaFirst
 first-read t e f = f ∙ rw (t .isNew, e)
 
 -- the slots of the trees that came
-pub trees-placed : (a m : List ℕ) → Ready a m → {P base first sent : ℕ} → P ≡ areaP a → base ≡ slotsPlace P → first ≡ areaFirst a → sent ≡ numberOf (piece m 32 coreSize)
-    → base + treeSize * (sent - first) ≡ fromPlace a (messageSender m)
+pub trees-placed : (a m : List ℕ) → Ready a m → (tree : ℕ) → {P base first sent : ℕ} → P ≡ areaP a → base ≡ slotsPlace P → first ≡ areaFirst a → sent ≡ numberOf (piece m 32 coreSize)
+    → tree + first ≡ sent → base + treeSize * tree ≡ fromPlace a (messageSender m)
 unfolding fromPlace
-trees-placed a m F e1 e2 e3 e4 = rw (e2, e1, e4, F .first-is, e3)
+trees-placed a m F tree e1 e2 e3 e4 e5 =
+    let l : tree ≡ fromFirst a (messageSender m) - areaFirst a = omega (arith, e3, e4, e5, F .first-is) in
+    rw (l, e2, e1)
 
 -- all places, and room at them
 pub placed : (a m : List ℕ) → Ready a m → {P n words sender slots trees ghosts held came : ℕ} → P ≡ areaP a → n ≡ areaCount a → words ≡ wordsPlace P → sender ≡ messageSender m → slots ≡ fromPlace a (messageSender m)

@@ -10,6 +10,8 @@ ghost use Rattle.assembly.specs.Deliver.{deliverChecks, delivered};
 ghost use Rattle.assembly.specs.Mirror.{fromPlace};
 ghost use Rattle.deliver.specs.Mirror.{Ready, Placed};
 use crate::merge::merge;
+use records::index::GlobalIndex;
+use records::index::to_local;
 
 // Where a delivery is written: the words of heard senders, the first slot of its trees, the ghost slots; and how many records.
 pub struct WritePlaces {
@@ -31,9 +33,10 @@ fn trees_place(area: &[u8], message: &[u8]) -> usize
     let middle = assembly::place::new_place(ranks);
     let end = assembly::place::words_place(ranks);
     let new = &area[middle..end];
-    let first = offsets::inner::first_tree(new, assembly::area::rank(area)) as usize;
-    let sent = records::number_of(message, 32) as usize;
-    assembly::place::slots_place(ranks) + 64 * (sent - first)
+    let sent = records::number_of(message, 32);
+    let first = offsets::inner::first_tree(new, assembly::area::rank(area)) as u32;
+    let tree = to_local(GlobalIndex(sent), GlobalIndex(first));
+    assembly::place::slots_place(ranks) + 64 * (tree.0 as usize)
 }
 
 // Sets the bit of sender s in the words from byte `words` on.

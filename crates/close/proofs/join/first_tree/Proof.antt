@@ -28,8 +28,8 @@ rank-requires c κs = search needs
 first-tree-requires : tie.Need-first-tree-requires
 first-tree-requires c κs = search needs
 
-cast-result : tie.Need-cast-result
-cast-result c = omega (arith, first-read _ (c .before .before .before .before .before .before .before .pre) (c .before .before .before .before .before .ranks .ensures) (c .before .before .before .before .new-place .ensures .0) (c .before .before .before .words-place .ensures .0) (c .before .rank .ensures) (c .first-tree .ensures) .1)
+cast-first : tie.Need-cast-first
+cast-first c = omega (arith, first-read _ (c .before .before .before .before .before .before .before .pre) (c .before .before .before .before .before .ranks .ensures) (c .before .before .before .before .new-place .ensures .0) (c .before .before .before .words-place .ensures .0) (c .before .rank .ensures) (c .first-tree .ensures) .1)
 
 returns : tie.Need-returns
 returns c = first-read _ (c .before .before .before .before .before .before .before .pre) (c .before .before .before .before .before .ranks .ensures) (c .before .before .before .before .new-place .ensures .0) (c .before .before .before .words-place .ensures .0) (c .before .rank .ensures) (c .first-tree .ensures)
@@ -46,5 +46,5 @@ first-tree-spec =
     part-new-end
     rank-requires
     first-tree-requires
-    cast-result
+    cast-first
     returns)

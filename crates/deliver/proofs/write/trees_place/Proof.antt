@@ -23,23 +23,26 @@ part-new-start c = search needs
 part-new-end : tie.Need-part-new-end
 part-new-end c = search needs
 
+number-of-requires : tie.Need-number-of-requires
+number-of-requires c κs = search needs
+
 rank-requires : tie.Need-rank-requires
 rank-requires c κs = search needs
 
 first-tree-requires : tie.Need-first-tree-requires
 first-tree-requires c κs = search needs
 
-number-of-requires : tie.Need-number-of-requires
-number-of-requires c κs = search needs
+cast-first : tie.Need-cast-first
+cast-first c = omega (arith, first-read (tabled _ (c .before .before .before .before .before .before .ranks .ensures) (c .before .before .before .before .before .new-place .ensures .0) (c .before .before .before .before .words-place .ensures .0) (c .before .before .before .before .before .before .before .before .before .pre .holds)) (c .before .rank .ensures) (c .first-tree .ensures), c .before .before .before .before .before .before .before .before .before .pre .low, c .before .before .before .before .before .before .before .before .before .pre .first-is, c .before .before .number-of .ensures)
 
-cast-sent : tie.Need-cast-sent
-cast-sent c = search needs
+to-local-requires : tie.Need-to-local-requires
+to-local-requires c κs = omega (arith, first-read (tabled _ (c .before .before .before .before .before .before .ranks .ensures) (c .before .before .before .before .before .new-place .ensures .0) (c .before .before .before .before .words-place .ensures .0) (c .before .before .before .before .before .before .before .before .before .pre .holds)) (c .before .rank .ensures) (c .first-tree .ensures), c .before .before .before .before .before .before .before .before .before .pre .low, c .before .before .before .before .before .before .before .before .before .pre .first-is, c .before .before .number-of .ensures)
 
 slots-place-requires : tie.Need-slots-place-requires
 slots-place-requires c κs = search needs
 
-sub-result : tie.Need-sub-result
-sub-result c = omega (arith, c .before .number-of .ensures, first-read (tabled _ (c .before .before .before .before .before .before .before .ranks .ensures) (c .before .before .before .before .before .before .new-place .ensures .0) (c .before .before .before .before .before .words-place .ensures .0) (c .before .before .before .before .before .before .before .before .before .before .pre .holds)) (c .before .before .before .rank .ensures) (c .before .before .first-tree .ensures))
+cast-result : tie.Need-cast-result
+cast-result c = search needs
 
 mul-result : tie.Need-mul-result
 mul-result c = search needs
@@ -48,7 +51,7 @@ add-result : tie.Need-add-result
 add-result c = search needs
 
 returns : tie.Need-returns
-returns c = trees-placed _ _ (c .before .before .before .before .before .before .before .before .before .before .pre) (c .before .before .before .before .before .before .before .ranks .ensures) (c .slots-place .ensures .0) (first-read (tabled _ (c .before .before .before .before .before .before .before .ranks .ensures) (c .before .before .before .before .before .before .new-place .ensures .0) (c .before .before .before .before .before .words-place .ensures .0) (c .before .before .before .before .before .before .before .before .before .before .pre .holds)) (c .before .before .before .rank .ensures) (c .before .before .first-tree .ensures)) (c .before .number-of .ensures)
+returns c = trees-placed _ _ (c .before .before .before .before .before .before .before .before .before .before .before .before .pre) _ (c .before .before .before .before .before .before .before .before .before .ranks .ensures) (c .before .slots-place .ensures .0) (first-read (tabled _ (c .before .before .before .before .before .before .before .before .before .ranks .ensures) (c .before .before .before .before .before .before .before .before .new-place .ensures .0) (c .before .before .before .before .before .before .before .words-place .ensures .0) (c .before .before .before .before .before .before .before .before .before .before .before .before .pre .holds)) (c .before .before .before .before .rank .ensures) (c .before .before .before .first-tree .ensures)) (c .before .before .before .before .before .number-of .ensures) (c .before .before .to-local .ensures)
 
 pub trees-place-spec : {M : Type 1} → statement M
 trees-place-spec =
@@ -60,12 +63,13 @@ trees-place-spec =
     sub-new
     part-new-start
     part-new-end
+    number-of-requires
     rank-requires
     first-tree-requires
-    number-of-requires
-    cast-sent
+    cast-first
+    to-local-requires
     slots-place-requires
-    sub-result
+    cast-result
     mul-result
     add-result
     returns)

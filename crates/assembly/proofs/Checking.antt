@@ -108,28 +108,31 @@ module _ {a old new : List ℕ} (t : Tabled a old new) {s rank first count : ℕ
           most = omega (arith, first-is, count-is, w .1, range-trees a (t .header), trees-high (areaOld a) (T .oldBytes) (T .oldRanks) (T .oldValid));
         }
 
-    module _ {P base : ℕ} (is-P : P ≡ areaP a) (is-base : base ≡ slotsPlace P) {h : Bool} (is-h : h ≡ heard a s) where
-      place-is : base + treeSize * (first - F) ≡ fromPlace a s
+    -- the first tree due has local index i
+    module _ (i : ℕ) (is-i : i + F ≡ first) {P base : ℕ} (is-P : P ≡ areaP a) (is-base : base ≡ slotsPlace P) {h : Bool} (is-h : h ≡ heard a s) where
+      place-is : base + treeSize * i ≡ fromPlace a s
       unfolding fromPlace
-      place-is = rw (is-base, is-P, first-is, start-is)
+      place-is =
+          let e : i ≡ first - F = omega arith in
+          ap (λ (x : ℕ). base + treeSize * x) e ∙ rw (is-base, is-P, first-is, start-is)
 
       counted : eqb (fromCount a s) 0 ≡ false
       counted = ne-eqb (fromCount a s) 0 (λ z. some (count-is ∙ z))
 
-      pub range-held : h ≡ true → {r : Bool} → r ≡ allBelow count (λ j. slotHeld a (base + treeSize * (first - F) + treeSize * j) (first + j)) → r ≡ rangeSound a s
+      pub range-held : h ≡ true → {r : Bool} → r ≡ allBelow count (λ j. slotHeld a (base + treeSize * i + treeSize * j) (first + j)) → r ≡ rangeSound a s
       unfolding rangeSound
       range-held ok e =
           e
-          ∙ ap (λ (n : ℕ). allBelow n (λ j. slotHeld a (base + treeSize * (first - F) + treeSize * j) (first + j))) count-is
+          ∙ ap (λ (n : ℕ). allBelow n (λ j. slotHeld a (base + treeSize * i + treeSize * j) (first + j))) count-is
           ∙ ap₂ (λ (x y : ℕ). allBelow (fromCount a s) (λ j. slotHeld a (x + treeSize * j) (y + j))) place-is first-is
           ∙ rw (counted, ← is-h, ok)
 
-      pub range-zero : h ≡ false → {r : Bool} → r ≡ allZero (take (base + treeSize * (first - F) + treeSize * count - (base + treeSize * (first - F))) (drop (base + treeSize * (first - F)) a)) → r ≡ rangeSound a s
+      pub range-zero : h ≡ false → {r : Bool} → r ≡ allZero (take (base + treeSize * i + treeSize * count - (base + treeSize * i)) (drop (base + treeSize * i) a)) → r ≡ rangeSound a s
       unfolding rangeSound piece
       range-zero f e =
-          let n : base + treeSize * (first - F) + treeSize * count - (base + treeSize * (first - F)) ≡ treeSize * count = omega arith in
+          let n : base + treeSize * i + treeSize * count - (base + treeSize * i) ≡ treeSize * count = omega arith in
           e
-          ∙ ap (λ (m : ℕ). allZero (take m (drop (base + treeSize * (first - F)) a))) n
+          ∙ ap (λ (m : ℕ). allZero (take m (drop (base + treeSize * i) a))) n
           ∙ ap₂ (λ (x y : ℕ). allZero (take (treeSize * y) (drop x a))) place-is count-is
           ∙ rw (counted, ← is-h, f)
 

@@ -18,6 +18,8 @@ use crate::place::ghost_slots_place;
 use crate::place::new_place;
 use crate::place::slots_place;
 use crate::place::words_place;
+use records::index::GlobalIndex;
+use records::index::to_local;
 
 // ---- the header
 
@@ -168,11 +170,12 @@ fn bits_sound(area: &[u8], old: &[u8], new: &[u8]) -> bool
 
 // ---- the tree slots
 
-// Whether the record at byte `at` is in form and has number k.
-fn slot_held(area: &[u8], at: usize, k: u32) -> bool
+// Whether the record at byte `at` is in form and has the number.
+fn slot_held(area: &[u8], at: usize, number: GlobalIndex) -> bool
     requires { ⌜ at + coreSize ≤ length (now area) ⌝ }
-    ensures { λ r. ⌜ r ≡ slotHeld (now (area .entry)) at k ⌝ }
+    ensures { λ r. ⌜ r ≡ slotHeld (now (area .entry)) at (number .0) ⌝ }
 {
+    let k = number.0;
     records::in_form(area, at, k) & (records::number_of(area, at) == k)
 }
 
@@ -182,7 +185,8 @@ fn slots_held(area: &[u8], at: usize, first: u32, count: u32) -> bool
 {
     let mut j = 0;
     while j < count {
-        if !slot_held(area, at + 64 * (j as usize), first + j) {
+        let k = first + j;
+        if !slot_held(area, at + 64 * (j as usize), GlobalIndex(k)) {
             return false;
         }
         j += 1;
@@ -202,8 +206,10 @@ fn range_sound(area: &[u8], old: &[u8], new: &[u8], s: usize) -> bool
     if count == 0 {
         return true;
     }
-    let before = (first as usize) - (offsets::inner::first_tree(new, rank) as usize);
-    let at = slots_place(ranks(area)) + 64 * before;
+    let own = offsets::inner::first_tree(new, rank) as u32;
+    let tree = to_local(GlobalIndex(first), GlobalIndex(own));
+    let i = tree.0;
+    let at = slots_place(ranks(area)) + 64 * (i as usize);
     if heard(area, s) {
         return slots_held(area, at, first, count);
     }

@@ -6,9 +6,9 @@ use mathlib.Core.Bool.{Bool, true, false, cond, _&&_}
 use mathlib.Core.List.{List}
 use lib.Dec.{eqb}
 use lib.ListN.{length}
-use borrow.Author.Tests.{eqb-false, eq-eqb, lt-ltb}
+use borrow.Author.Tests.{eqb-true, eqb-false, eq-eqb, lt-ltb}
 use Rattle.encoding.specs.Pieces.{Bytes}
-use Rattle.encoding.proofs.Below.{either, all-at, all-same, any-intro}
+use Rattle.encoding.proofs.Below.{and-snd, either, all-at, all-same, any-intro}
 use Rattle.offsets.specs.Limits.{maxTrees}
 use Rattle.offsets.specs.Table.{ranks, trees, firstTree, endTree, treeCount, holds}
 use Rattle.offsets.proofs.Tables.{count-add, trees-high}
@@ -78,16 +78,6 @@ module _ (a : List ℕ) (bytes : Bytes a) (sound : areaSound a ≡ true) where
   unfolding inRange holds areaFirst
   ghost-outside j h = rw range-end at (held-ghosts .outside j h)
 
-  pub area-slots : Slots a (slotsPlace (areaP a)) (areaFirst a) (areaCount a) (areaGhosts a)
-  area-slots =
-      record {
-        behind = omega (arith, slots-place-is (areaP a));
-        fits = omega (arith, slots-place-is (areaP a), H .long, area-parts a sound .fit);
-        most = range-most;
-        outside = ghost-outside;
-        ascends = held-ghosts .ascends;
-      }
-
   ghost-behind : (j : ℕ) → j < areaGhosts a → ghostAfter first n g tree ghostly j ≡ true
   unfolding ghostAfter
   ghost-behind j h =
@@ -118,6 +108,20 @@ module _ (a : List ℕ) (bytes : Bytes a) (sound : areaSound a ≡ true) where
     unfolding treeSlotSound treeSlotCore treeFrom
     tree-slot i h = rw (tree-heard i h) at (area-parts a sound .tree i h)
 
+    tree-numbered : (i : ℕ) → i < areaCount a → numberOf (treeFrom a (slotsPlace (areaP a)) i) ≡ areaFirst a + i
+    tree-numbered i h = eqb-true _ _ (and-snd (inForm (areaFirst a + i) (treeFrom a (slotsPlace (areaP a)) i)) (eqb (numberOf (treeFrom a (slotsPlace (areaP a)) i)) (areaFirst a + i)) (tree-slot i h))
+
+    pub area-slots : Slots a (slotsPlace (areaP a)) (areaFirst a) (areaCount a) (areaGhosts a)
+    area-slots =
+        record {
+          behind = omega (arith, slots-place-is (areaP a));
+          fits = omega (arith, slots-place-is (areaP a), H .long, area-parts a sound .fit);
+          most = range-most;
+          numbered = tree-numbered;
+          outside = ghost-outside;
+          ascends = held-ghosts .ascends;
+        }
+
     tree-same : (D i : ℕ) → i < areaCount a → localSound first n g tree ghostly D i ≡ treeJoins a at first n g D i
     unfolding localSound treeJoins linkOfTree
     tree-same D i h = rw (tree-slot i h)
@@ -147,7 +151,7 @@ module _ (a new : List ℕ) (bytes : Bytes a) (C : Complete a new) {rank first :
 
   module _ {P at n g : ℕ} (is-P : P ≡ areaP a) (is-at : at ≡ slotsPlace P) (is-n : n ≡ areaCount a) (is-g : g ≡ areaGhosts a) where
     pub slots-read : Slots a at first n g
-    slots-read = rw (is-at, is-P, first-is, is-n, is-g) (area-slots a bytes (C .sound))
+    slots-read = rw (is-at, is-P, first-is, is-n, is-g) (area-slots a bytes (C .sound) (C .all))
 
     pub join-read : {D K : ℕ} {r : Bool} → D ≡ areaDimension a → K ≡ areaK a → r ≡ recordsJoin a at first n g D K → r ≡ joinSound a
     join-read d k e = e ∙ rw (is-at, is-P, first-is, is-n, is-g, d, k) (sym (join-is a bytes (C .sound) (C .all)))

@@ -62,9 +62,9 @@ module _ (a : List ℕ) (at first n g : ℕ) (S : Slots a at first n g) where
       unfolding linkOfTree treeLink
       tree-none z = rw (core-here, ← read, to-none k is-to z)
 
-      pub tree-some : {r : Bool} → (to ≡ 0 → ⊥) → r ≡ linkBetween (first + i) (piece a (at + treeSize * i) coreSize) f (piece a to coreSize) → r ≡ linkOfTree a at first n g i f
-      unfolding linkOfTree treeLink
-      tree-some z e = e ∙ rw (link-is core (first + i) f, core-here, ← read, to-held k is-to z, to-core k is-to z)
+      pub tree-some : {v : ℕ} {r : Bool} → (to ≡ 0 → ⊥) → v ≡ numberOf (piece a (at + treeSize * i) coreSize) → r ≡ linkBetween v (piece a (at + treeSize * i) coreSize) f (piece a to coreSize) → r ≡ linkOfTree a at first n g i f
+      unfolding linkOfTree treeLink treeFrom
+      tree-some z v e = e ∙ rw (v ∙ S .numbered i h, link-is core (first + i) f, core-here, ← read, to-held k is-to z, to-core k is-to z)
 
   -- ---- ghosts
 

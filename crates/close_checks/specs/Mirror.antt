@@ -36,6 +36,7 @@ pub record Slots (a : List ℕ) (at first n g : ℕ) : Type 0 where
   pub behind : 0 < at
   pub fits : at + treeSize * n + coreSize * g ≤ length a
   pub most : first + n ≤ maxTrees
+  pub numbered : (i : ℕ) → i < n → numberOf (treeFrom a at i) ≡ first + i
   pub outside : (j : ℕ) → j < g → inRange first (first + n) (numberOf (ghostFrom a at n j)) ≡ false
   pub ascends : (i j : ℕ) → i < j → j < g → numberOf (ghostFrom a at n i) < numberOf (ghostFrom a at n j)
 

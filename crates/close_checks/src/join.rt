@@ -3,6 +3,7 @@ use part::cut::find_ghost;
 use part::inner::beside;
 use part::inner::in_range;
 use records::index::GlobalIndex;
+use records::index::LocalIndex;
 use records::index::to_local;
 ghost use mathlib.Core.Path.{_≡_};
 ghost use Prim.Native.Nat.{_+_, _≤_, _<_};
@@ -14,18 +15,26 @@ ghost use Rattle.part.specs.Mirror.{linkBetween};
 ghost use Rattle.assembly.specs.Close.{joinSound};
 ghost use Rattle.close_checks.specs.Mirror.{Slots, placeOf, linkOfTree, linkOfGhost, treeJoins, ghostJoins, recordsJoin, Complete};
 
-// Where the record with number k begins, a tree by subtraction, a ghost by halves; 0 where no slot has it.
-fn place_of(area: &[u8], at: usize, first: u32, count: u32, ghosts: u32, k: u32) -> usize
+// Where the record with the number begins, a tree by subtraction, a ghost by halves; 0 where no slot has it.
+fn place_of(
+    area: &[u8],
+    at: usize,
+    first: u32,
+    count: u32,
+    ghosts: u32,
+    number: GlobalIndex,
+) -> usize
     requires { ⌜ Slots (now area) at first count ghosts ⌝ }
-    ensures { λ r. ⌜ r ≡ placeOf (now (area .entry)) at first count ghosts k ⌝ }
+    ensures { λ r. ⌜ r ≡ placeOf (now (area .entry)) at first count ghosts (number .0) ⌝ }
 {
-    if in_range(first, first + count, k) {
-        let tree = to_local(GlobalIndex(k), GlobalIndex(first));
+    let k = number.0;
+    if in_range(first, first + count, number) {
+        let tree = to_local(number, GlobalIndex(first));
         let i = tree.0;
         return at + 64 * (i as usize);
     }
     let ghosts_at = at + 64 * (count as usize);
-    let position = find_ghost(area, ghosts_at, ghosts, k);
+    let position = find_ghost(area, ghosts_at, ghosts, number);
     if ghosts <= position {
         return 0;
     }
@@ -36,27 +45,37 @@ fn place_of(area: &[u8], at: usize, first: u32, count: u32, ghosts: u32, k: u32)
     to
 }
 
-// The rule of a link between two records. The neighbour's link leads back to k.
-fn link_ok(area: &[u8], k: u32, from: usize, face: u32, to: usize) -> bool
+// The rule of a link between two records. The neighbour's link leads back to the number.
+fn link_ok(area: &[u8], number: GlobalIndex, from: usize, face: u32, to: usize) -> bool
     requires { ⌜ (from + coreSize ≤ length (now area)) × (face < 6) × (to + coreSize ≤ length (now area)) ⌝ }
-    ensures { λ r. ⌜ r ≡ linkBetween k (piece (now (area .entry)) from coreSize) face (piece (now (area .entry)) to coreSize) ⌝ }
+    ensures { λ r. ⌜ r ≡ linkBetween (number .0) (piece (now (area .entry)) from coreSize) face (piece (now (area .entry)) to coreSize) ⌝ }
 {
     mesh::inner::orientation_ok(area, from, face)
         & mesh::inner::same_corners(area, from, face, to)
-        & mesh::inner::answered(area, k, from, face, to)
+        & mesh::inner::answered(area, number.0, from, face, to)
 }
 
 // ---- trees
 
-fn tree_link(area: &[u8], at: usize, first: u32, count: u32, ghosts: u32, i: u32, face: u32) -> bool
-    requires { ⌜ Slots (now area) at first count ghosts × (i < count) × (face < 6) ⌝ }
-    ensures { λ r. ⌜ r ≡ linkOfTree (now (area .entry)) at first count ghosts i face ⌝ }
+fn tree_link(
+    area: &[u8],
+    at: usize,
+    first: u32,
+    count: u32,
+    ghosts: u32,
+    tree: LocalIndex,
+    face: u32,
+) -> bool
+    requires { ⌜ Slots (now area) at first count ghosts × (tree .0 < count) × (face < 6) ⌝ }
+    ensures { λ r. ⌜ r ≡ linkOfTree (now (area .entry)) at first count ghosts (tree .0) face ⌝ }
 {
+    let i = tree.0;
     let from = at + 64 * (i as usize);
     let k = records::neighbour_of(area, from, face);
-    let to = place_of(area, at, first, count, ghosts, k);
+    let to = place_of(area, at, first, count, ghosts, GlobalIndex(k));
     if to != 0 {
-        return link_ok(area, first + i, from, face, to);
+        let number = records::number_of(area, from);
+        return link_ok(area, GlobalIndex(number), from, face, to);
     }
     false
 }
@@ -67,15 +86,15 @@ fn tree_links(
     first: u32,
     count: u32,
     ghosts: u32,
-    i: u32,
+    tree: LocalIndex,
     faces: u32,
 ) -> bool
-    requires { ⌜ Slots (now area) at first count ghosts × (i < count) × (faces ≤ 6) ⌝ }
-    ensures { λ r. ⌜ r ≡ allBelow faces (linkOfTree (now (area .entry)) at first count ghosts i) ⌝ }
+    requires { ⌜ Slots (now area) at first count ghosts × (tree .0 < count) × (faces ≤ 6) ⌝ }
+    ensures { λ r. ⌜ r ≡ allBelow faces (linkOfTree (now (area .entry)) at first count ghosts (tree .0)) ⌝ }
 {
     let mut face = 0;
     while face < faces {
-        if !tree_link(area, at, first, count, ghosts, i, face) {
+        if !tree_link(area, at, first, count, ghosts, tree, face) {
             return false;
         }
         face += 1;
@@ -90,15 +109,16 @@ fn tree_joins(
     count: u32,
     ghosts: u32,
     dimension: u32,
-    i: u32,
+    tree: LocalIndex,
 ) -> bool
-    requires { ⌜ Slots (now area) at first count ghosts × (i < count) ⌝ }
-    ensures { λ r. ⌜ r ≡ treeJoins (now (area .entry)) at first count ghosts dimension i ⌝ }
+    requires { ⌜ Slots (now area) at first count ghosts × (tree .0 < count) ⌝ }
+    ensures { λ r. ⌜ r ≡ treeJoins (now (area .entry)) at first count ghosts dimension (tree .0) ⌝ }
 {
+    let i = tree.0;
     let shape = records::shape_of(area, at + 64 * (i as usize));
     let faces = records::face_count(shape);
     (records::dimension_of(shape) == dimension)
-        & tree_links(area, at, first, count, ghosts, i, faces)
+        & tree_links(area, at, first, count, ghosts, tree, faces)
 }
 
 fn trees_join(area: &[u8], at: usize, first: u32, count: u32, ghosts: u32, dimension: u32) -> bool
@@ -107,7 +127,7 @@ fn trees_join(area: &[u8], at: usize, first: u32, count: u32, ghosts: u32, dimen
 {
     let mut i = 0;
     while i < count {
-        if !tree_joins(area, at, first, count, ghosts, dimension, i) {
+        if !tree_joins(area, at, first, count, ghosts, dimension, LocalIndex(i)) {
             return false;
         }
         i += 1;
@@ -133,12 +153,12 @@ fn ghost_link(
 {
     let from = at + 64 * (count as usize) + 40 * (j as usize);
     let k = records::neighbour_of(area, from, face);
-    let to = place_of(area, at, first, count, ghosts, k);
+    let to = place_of(area, at, first, count, ghosts, GlobalIndex(k));
     if to == 0 {
         return (k < trees) & mesh::inner::orientation_ok(area, from, face);
     }
     let number = records::number_of(area, from);
-    link_ok(area, number, from, face, to)
+    link_ok(area, GlobalIndex(number), from, face, to)
 }
 
 fn ghost_links(

@@ -1,4 +1,5 @@
 // The checks of a message's ghosts: that each is due, and none is held.
+use records::index::GlobalIndex;
 ghost use mathlib.Core.Path.{_≡_};
 ghost use Prim.Native.Nat.{_<_};
 ghost use Rattle.encoding.specs.Below.{allBelow};
@@ -90,15 +91,16 @@ pub fn ghosts_due(area: &[u8], new: &[u8], message: &[u8]) -> bool
 // ---- not held
 
 // Whether one of `count` core records that ascend from byte `at` has the number.
-fn is_held(area: &[u8], at: usize, count: u32, number: u32) -> bool
+fn is_held(area: &[u8], at: usize, count: u32, number: GlobalIndex) -> bool
     requires { ⌜ Ascending (now area) at count ⌝ }
-    ensures { λ r. ⌜ r ≡ heldAt (now (area .entry)) at count number ⌝ }
+    ensures { λ r. ⌜ r ≡ heldAt (now (area .entry)) at count (number .0) ⌝ }
 {
+    let k = number.0;
     let position = part::cut::find_ghost(area, at, count, number);
     if count <= position {
         return false;
     }
-    encoding::read_u32(area, at + 40 * (position as usize)) == number
+    encoding::read_u32(area, at + 40 * (position as usize)) == k
 }
 
 // Whether no ghost is held already (18).
@@ -116,7 +118,7 @@ pub fn ghosts_new(area: &[u8], message: &[u8]) -> bool
     let mut j = 0;
     while j < ghosts {
         let number = records::number_of(message, message::inner::ghost_at(count, j));
-        if is_held(area, at, held, number) {
+        if is_held(area, at, held, GlobalIndex(number)) {
             return false;
         }
         j += 1;

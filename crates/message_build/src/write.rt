@@ -115,7 +115,7 @@ fn write_trees(
     let mut k = low;
     while k < end {
         let tree = to_local(GlobalIndex(k), GlobalIndex(first));
-        write_tree(part, count, ghosts, faces, tree_at(tree.0), &mut *out, to);
+        write_tree(part, count, ghosts, faces, tree_at(tree), &mut *out, to);
         to += 64;
         k += 1;
     }
@@ -135,13 +135,12 @@ fn write_ghost(
     requires { ⌜ GhostRoom (now part) (now out) count ghosts faces first (number .0) to ⌝ }
     ensures { λ u. ⌜ now (out .exit) ≡ splice (now (out .entry)) to (partCore (now (part .entry)) (number .0)) ⌝ }
 {
-    let k = number.0;
-    if in_range(first, first + count, k) {
-        let tree = to_local(GlobalIndex(k), GlobalIndex(first));
-        write_core(part, count, ghosts, faces, tree_at(tree.0), &mut *out, to);
+    if in_range(first, first + count, number) {
+        let tree = to_local(number, GlobalIndex(first));
+        write_core(part, count, ghosts, faces, tree_at(tree), &mut *out, to);
         return;
     }
-    let position = find_ghost(part, ghost_at(count, 0), ghosts, k);
+    let position = find_ghost(part, ghost_at(count, 0), ghosts, number);
     encoding::record::copy40(part, ghost_at(count, position), &mut *out, to);
 }
 
@@ -199,7 +198,7 @@ fn write_records(part: &[u8], low: u32, n: u32, marks: &[u64], out: &mut [u8])
 {
     let count = part::sound::tree_count(part);
     let ghosts = part::sound::ghost_count(part);
-    let first = part::sound::first_tree(part);
+    let first = part::sound::first_tree(part).0;
     let faces = records::faces_in(part::sound::dimension(part));
     let at = 32 + 64 * (n as usize);
     write_trees(part, count, ghosts, faces, first, low, n, &mut *out);

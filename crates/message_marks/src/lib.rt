@@ -28,8 +28,7 @@ fn mark_face(
     requires { ⌜ AtTree (now part) (now old) (now new) p q count (tree .0) × (face < faceCount (shapeOf (partCore (now part) (partFirst (now part) + tree .0)))) × (length (now marks) ≡ markWords) ⌝ }
     ensures { λ u. ⌜ Added (now (marks .entry)) (now (marks .exit)) (goesAcross (now (part .entry)) (now (old .entry)) (now (new .entry)) p q (partFirst (now (part .entry)) + tree .0) face) ⌝ }
 {
-    let i = tree.0;
-    let j = records::neighbour_of(part, part::sound::tree_at(i), face);
+    let j = records::neighbour_of(part, part::sound::tree_at(tree), face);
     let number = read::number_at(part, count, LocalIndex(j));
     let k = number.0;
     if rule::goes(part, old, new, p, q, count, LocalIndex(j), GlobalIndex(k)) {
@@ -52,7 +51,7 @@ fn mark_tree(
     ensures { λ u. ⌜ Added (now (marks .entry)) (now (marks .exit)) (goesBeside (now (part .entry)) (now (old .entry)) (now (new .entry)) p q (partFirst (now (part .entry)) + tree .0) (faceCount (shapeOf (partCore (now (part .entry)) (partFirst (now (part .entry)) + tree .0))))) ⌝ }
 {
     let i = tree.0;
-    let faces = records::face_count(records::shape_of(part, part::sound::tree_at(i)));
+    let faces = records::face_count(records::shape_of(part, part::sound::tree_at(tree)));
     let mut face = 0;
     while face < faces {
         mark_face(
@@ -84,7 +83,7 @@ pub fn mark_ghosts(part: &[u8], old: &[u8], new: &[u8], p: u32, q: u32, marks: &
     let n = sent.count;
     let mut i = 0;
     while i < n {
-        let tree = to_local(GlobalIndex(first + i), GlobalIndex(own));
+        let tree = to_local(GlobalIndex(first + i), own);
         mark_tree(part, old, new, from, to, count, tree, &mut *marks);
         i += 1;
     }

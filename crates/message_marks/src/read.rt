@@ -13,7 +13,7 @@ pub fn record_at(count: u32, local: LocalIndex) -> usize
 {
     let j = local.0;
     if j < count {
-        return part::sound::tree_at(j);
+        return part::sound::tree_at(local);
     }
     part::sound::ghost_at(count, j - count)
 }

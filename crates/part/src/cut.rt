@@ -58,15 +58,16 @@ pub fn write_ghosts(mesh: &[u8], trees: u32, first: u32, end: u32, out: &mut [u8
 }
 
 // The position of the number among `count` core records that ascend from byte `at`, by halves.
-pub fn find_ghost(bs: &[u8], at: usize, count: u32, number: u32) -> u32
+pub fn find_ghost(bs: &[u8], at: usize, count: u32, number: GlobalIndex) -> u32
     requires { ⌜ Ascending (now bs) at count ⌝ }
-    ensures { λ r. ⌜ (r ≡ smaller (now (bs .entry)) at count number) × (r ≤ count) ⌝ }
+    ensures { λ r. ⌜ (r ≡ smaller (now (bs .entry)) at count (number .0)) × (r ≤ count) ⌝ }
 {
+    let k = number.0;
     let mut low = 0;
     let mut high = count;
     while low < high {
         let mid = low + (high - low) / 2;
-        if encoding::read_u32(bs, at + 40 * (mid as usize)) < number {
+        if encoding::read_u32(bs, at + 40 * (mid as usize)) < k {
             low = mid + 1;
         } else {
             high = mid;
@@ -91,10 +92,10 @@ fn local_index(
     if k == 4294967295 {
         return LocalIndex(4294967295);
     }
-    if in_range(first, end, k) {
+    if in_range(first, end, neighbour) {
         return to_local(neighbour, GlobalIndex(first));
     }
-    let position = find_ghost(bs, at, count, k);
+    let position = find_ghost(bs, at, count, neighbour);
     ghost_index(end - first, position)
 }
 

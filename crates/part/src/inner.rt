@@ -46,9 +46,10 @@ pub fn cut_refusal(mesh: &[u8], table: &[u8], rank: u32) -> u32
 }
 
 // Whether a tree is in a range, from its first tree to before its end.
-pub fn in_range(first: u32, end: u32, k: u32) -> bool
-    ensures { λ r. ⌜ r ≡ inRange first end k ⌝ }
+pub fn in_range(first: u32, end: u32, tree: GlobalIndex) -> bool
+    ensures { λ r. ⌜ r ≡ inRange first end (tree .0) ⌝ }
 {
+    let k = tree.0;
     (first <= k) & (k < end)
 }
 
@@ -59,7 +60,7 @@ pub fn beside(bs: &[u8], at: usize, faces: u32, first: u32, end: u32) -> bool
 {
     let mut face = 0;
     while face < faces {
-        if in_range(first, end, records::neighbour_of(bs, at, face)) {
+        if in_range(first, end, GlobalIndex(records::neighbour_of(bs, at, face))) {
             return true;
         }
         face += 1;
@@ -73,7 +74,7 @@ pub fn is_ghost(mesh: &[u8], tree: GlobalIndex, first: u32, end: u32) -> bool
     ensures { λ r. ⌜ r ≡ ghostIn (meshCore (now (mesh .entry))) first end (tree .0) ⌝ }
 {
     let k = tree.0;
-    if in_range(first, end, k) {
+    if in_range(first, end, tree) {
         return false;
     }
     let at = mesh::inner::tree_at(k);

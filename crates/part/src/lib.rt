@@ -94,7 +94,7 @@ pub fn neighbour_of(part: &[u8], table: &[u8], rank: u32, local: LocalIndex, fac
     if !sound::part_sound(part, table, rank) {
         return neighbour::refused(8);
     }
-    let shape = records::shape_of(part, sound::tree_at(i));
+    let shape = records::shape_of(part, sound::tree_at(local));
     let link = neighbour::link_of(part, local, face);
     Neighbour {
         refusal: 0,

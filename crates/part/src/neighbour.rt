@@ -78,7 +78,7 @@ pub fn link_of(part: &[u8], tree: LocalIndex, face: u32) -> Link
     requires { ⌜ (treePlace (tree .0) + coreSize ≤ length (now part)) × (face < 6) ⌝ }
     ensures { λ r. ⌜ r ≡ linkOf (now (part .entry)) (tree .0) face ⌝ }
 {
-    let at = tree_at(tree.0);
+    let at = tree_at(tree);
     if records::face_count(records::shape_of(part, at)) <= face {
         return Link::Unused(across_to(LocalIndex(0), 0, 0));
     }

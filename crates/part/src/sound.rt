@@ -19,10 +19,11 @@ ghost use Rattle.part.specs.Layout.{partHeader, treePlace, ghostPlace, p
 ghost use Rattle.part.specs.Part.{partDimension, partK, partFirst, partCount, partGhostCount, storedTree, partHeaderSound, partSound};
 ghost use Rattle.part.specs.Mirror.{Ascending, ghostCore, linkQuick, treeFace, treeStored, treeNumbered, ghostBehind, ghostNumbered, ghostHas, numbersSound, ghostFace, ghostStored, recordsSound, RankKnown, PartLaid, PartNumbered};
 
-// Where the record of tree i begins.
-pub fn tree_at(i: u32) -> usize
-    ensures { λ r. ⌜ r ≡ treePlace i ⌝ }
+// Where the record of a tree begins.
+pub fn tree_at(tree: LocalIndex) -> usize
+    ensures { λ r. ⌜ r ≡ treePlace (tree .0) ⌝ }
 {
+    let i = tree.0;
     32 + 64 * (i as usize)
 }
 
@@ -48,11 +49,11 @@ pub fn trees(part: &[u8]) -> u32
     encoding::read_u32(part, 4)
 }
 
-pub fn first_tree(part: &[u8]) -> u32
+pub fn first_tree(part: &[u8]) -> GlobalIndex
     requires { ⌜ partHeader ≤ length (now part) ⌝ }
-    ensures { λ r. ⌜ r ≡ partFirst (now (part .entry)) ⌝ }
+    ensures { λ r. ⌜ r .0 ≡ partFirst (now (part .entry)) ⌝ }
 {
-    encoding::read_u32(part, 16)
+    GlobalIndex(encoding::read_u32(part, 16))
 }
 
 // n.
@@ -87,7 +88,7 @@ fn header_sound(part: &[u8], table: &[u8], rank: u32) -> bool
         & (trees(part) as u64 == offsets::inner::entry(table, ranks))
         & (encoding::read_u32(part, 8) as usize == ranks)
         & (encoding::read_u32(part, 12) == rank)
-        & (first_tree(part) as u64 == first)
+        & (first_tree(part).0 as u64 == first)
         & (count as u64 == end - first)
         & (encoding::read_u32(part, 28) == 0)
         & (part.len() == ghost_at(count, ghost_count(part)))
@@ -110,7 +111,7 @@ fn tree_numbers(part: &[u8], first: u32, count: u32) -> bool
 {
     let mut i = 0;
     while i < count {
-        if records::number_of(part, tree_at(i)) != first + i {
+        if records::number_of(part, tree_at(LocalIndex(i))) != first + i {
             return false;
         }
         i += 1;
@@ -133,7 +134,9 @@ fn ghost_numbered(part: &[u8], first: u32, count: u32, trees: u32, j: u32) -> bo
     ensures { λ r. ⌜ r ≡ ghostNumbered first count (ghostCore (now (part .entry)) count) trees j ⌝ }
 {
     let number = records::number_of(part, ghost_at(count, j));
-    (number < trees) & !in_range(first, first + count, number) & ghost_behind(part, count, j)
+    (number < trees)
+        & !in_range(first, first + count, GlobalIndex(number))
+        & ghost_behind(part, count, j)
 }
 
 fn ghost_numbers(part: &[u8], first: u32, count: u32, ghosts: u32, trees: u32) -> bool
@@ -173,10 +176,10 @@ fn tree_face(
     ensures { λ r. ⌜ r ≡ treeFace (linkQuick dimension) count ghosts (storedTree (now (part .entry))) (ghostCore (now (part .entry)) count) (tree .0) face ⌝ }
 {
     let i = tree.0;
-    let at = tree_at(i);
+    let at = tree_at(tree);
     let j = records::neighbour_of(part, at, face);
     if j < count {
-        return link_ok(part, dimension, i, at, face, tree_at(j));
+        return link_ok(part, dimension, i, at, face, tree_at(LocalIndex(j)));
     }
     if j - count < ghosts {
         let number = records::number_of(part, at);
@@ -218,7 +221,7 @@ fn tree_sound(part: &[u8], count: u32, ghosts: u32, dimension: u32, tree: LocalI
     ensures { λ r. ⌜ r ≡ treeStored (linkQuick dimension) count ghosts (storedTree (now (part .entry))) (ghostCore (now (part .entry)) count) dimension (tree .0) ⌝ }
 {
     let i = tree.0;
-    let at = tree_at(i);
+    let at = tree_at(tree);
     let shape = records::shape_of(part, at);
     records::in_form(part, at, i)
         & (records::dimension_of(shape) == dimension)
@@ -254,7 +257,7 @@ fn ghost_with(part: &[u8], count: u32, ghosts: u32, number: GlobalIndex) -> u32
     ensures { λ r. ⌜ r ≡ leastBelow ghosts (ghostHas (ghostCore (now (part .entry)) count) (number .0)) ⌝ }
 {
     let wanted = number.0;
-    let position = find_ghost(part, ghost_at(count, 0), ghosts, wanted);
+    let position = find_ghost(part, ghost_at(count, 0), ghosts, number);
     if ghosts <= position {
         return ghosts;
     }
@@ -280,10 +283,10 @@ fn ghost_face(
 {
     let at = ghost_at(count, j);
     let k = records::neighbour_of(part, at, face);
-    if in_range(first, first + count, k) {
+    if in_range(first, first + count, GlobalIndex(k)) {
         let tree = to_local(GlobalIndex(k), GlobalIndex(first));
         let own = ghost_index(count, j);
-        return link_ok(part, dimension, own.0, at, face, tree_at(tree.0));
+        return link_ok(part, dimension, own.0, at, face, tree_at(tree));
     }
     let position = ghost_with(part, count, ghosts, GlobalIndex(k));
     if position < ghosts {
@@ -386,7 +389,7 @@ pub fn part_sound(part: &[u8], table: &[u8], rank: u32) -> bool
     }
     records_sound(
         part,
-        first_tree(part),
+        first_tree(part).0,
         tree_count(part),
         ghost_count(part),
         dimension(part),

@@ -21,6 +21,9 @@ loop-holds : tie.Need-loop-holds Inv-loop μ-loop
 unfolding allBelow
 loop-holds c = search needs
 
+add-k : tie.Need-add-k Inv-loop μ-loop
+add-k c = search needs
+
 cast-slot-held : tie.Need-cast-slot-held Inv-loop μ-loop
 cast-slot-held c = search needs
 
@@ -29,9 +32,6 @@ mul-slot-held c = search needs
 
 add-slot-held : tie.Need-add-slot-held Inv-loop μ-loop
 add-slot-held c = search needs
-
-add-slot-held-2 : tie.Need-add-slot-held-2 Inv-loop μ-loop
-add-slot-held-2 c = search needs
 
 slot-held-requires : tie.Need-slot-held-requires Inv-loop μ-loop
 slot-held-requires c κs = search needs
@@ -58,10 +58,10 @@ slots-held-spec =
     Inv-loop
     μ-loop
     loop-holds
+    add-k
     cast-slot-held
     mul-slot-held
     add-slot-held
-    add-slot-held-2
     slot-held-requires
     returns
     add-j

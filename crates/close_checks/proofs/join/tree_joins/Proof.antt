@@ -3,6 +3,9 @@ use borrow.Author.Needs.{needs}
 use Rattle.close_checks.proofs.join.tree_joins.Statement.{statement}
 use Rattle.close_checks.proofs.join.tree_joins.Tie as tie
 
+cast-shape-of : tie.Need-cast-shape-of
+cast-shape-of c = search needs
+
 mul-shape-of : tie.Need-mul-shape-of
 mul-shape-of c = search needs
 
@@ -28,6 +31,7 @@ pub tree-joins-spec : {M : Type 1} → statement M
 tree-joins-spec =
     tie.close
     (tie.spec
+    cast-shape-of
     mul-shape-of
     add-shape-of
     shape-of-requires

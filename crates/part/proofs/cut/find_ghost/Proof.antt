@@ -6,10 +6,10 @@ use Rattle.part.proofs.cut.find_ghost.Statement.{statement}
 use Rattle.part.proofs.cut.find_ghost.Tie as tie
 
 abbrev Inv-loop : tie.InvT-loop
-Inv-loop bs at count number low₀ high₀ low high = Between bs at count number low high
+Inv-loop bs at count k low₀ high₀ low high = Between bs at count k low high
 
 abbrev μ-loop : tie.MeasureT-loop
-μ-loop bs at count number low₀ high₀ low high = high - low
+μ-loop bs at count k low₀ high₀ low high = high - low
 
 loop-holds : tie.Need-loop-holds Inv-loop μ-loop
 loop-holds c = between-start _ _ _ _ (c .before .pre)

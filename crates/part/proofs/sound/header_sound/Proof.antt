@@ -54,7 +54,7 @@ cast-result-4 : tie.Need-cast-result-4
 cast-result-4 c = search needs
 
 sub-result : tie.Need-sub-result
-sub-result c = omega (arith, first-le-end _ (λ i. c .before .before .before .before .before .before .before .before .before .before .before .before .shared-slice-known2 .given i .fits) (c .before .before .before .before .before .before .before .before .before .before .before .before .before .before .pre .counted) (c .before .before .before .before .before .before .before .before .before .before .before .before .before .before .pre .checked) _ (c .before .before .before .before .before .before .before .before .before .before .before .before .before .before .pre .below), c .before .before .before .before .before .before .before .before .before .first-tree .ensures, c .before .before .before .before .before .before .before .before .end-tree .ensures)
+sub-result c = omega (arith, first-le-end _ (λ i. c .before .before .before .before .before .before .before .before .before .before .before .before .before .shared-slice-known2 .given i .fits) (c .before .before .before .before .before .before .before .before .before .before .before .before .before .before .before .pre .counted) (c .before .before .before .before .before .before .before .before .before .before .before .before .before .before .before .pre .checked) _ (c .before .before .before .before .before .before .before .before .before .before .before .before .before .before .before .pre .below), c .before .before .before .before .before .before .before .before .before .before .first-tree .ensures, c .before .before .before .before .before .before .before .before .before .end-tree .ensures)
 
 read-u32-requires-3 : tie.Need-read-u32-requires-3
 read-u32-requires-3 c κs = search needs
@@ -66,7 +66,7 @@ ghost-at-requires : tie.Need-ghost-at-requires
 ghost-at-requires c κs = search needs
 
 returns-2 : tie.Need-returns-2
-returns-2 c = head-read _ _ _ (c .before .before .before .before .before .before .before .before .before .before .before .before .before .ranks .ensures .0) (c .before .before .before .before .before .before .before .before .before .before .before .before .first-tree .ensures) (c .before .before .before .before .before .before .before .before .before .before .before .end-tree .ensures) (c .before .before .before .before .before .before .before .before .before .before .tree-count .ensures) (c .before .before .before .before .before .before .before .before .before .dimension .ensures) (c .before .before .before .before .before .before .before .before .dimension-ok .ensures) (c .before .before .before .before .before .before .before .trees .ensures) (c .before .before .before .before .before .before .entry .ensures) (c .before .before .before .before .before .read-u32 .ensures) (c .before .before .before .before .read-u322 .ensures) (c .before .before .before .first-tree2 .ensures) (c .before .before .read-u323 .ensures) (c .before .ghost-count .ensures) (c .ghost-at .ensures)
+returns-2 c = head-read _ _ _ (c .before .before .before .before .before .before .before .before .before .before .before .before .before .before .ranks .ensures .0) (c .before .before .before .before .before .before .before .before .before .before .before .before .before .first-tree .ensures) (c .before .before .before .before .before .before .before .before .before .before .before .before .end-tree .ensures) (c .before .before .before .before .before .before .before .before .before .before .before .tree-count .ensures) (c .before .before .before .before .before .before .before .before .before .before .dimension .ensures) (c .before .before .before .before .before .before .before .before .before .dimension-ok .ensures) (c .before .before .before .before .before .before .before .before .trees .ensures) (c .before .before .before .before .before .before .before .entry .ensures) (c .before .before .before .before .before .before .read-u32 .ensures) (c .before .before .before .before .before .read-u322 .ensures) (c .before .before .before .before .first-tree2 .ensures) (c .before .before .read-u323 .ensures) (c .before .ghost-count .ensures) (c .ghost-at .ensures)
 
 pub header-sound-spec : {M : Type 1} → statement M
 header-sound-spec =

@@ -101,6 +101,13 @@ module _ (part : List ℕ) (n g : ℕ) where
     pub index-word : (j : ℕ) → j < g → n + j < 4294967296
     index-word j h = omega (arith, ghosts-few first n g K (storedTree part) (ghostCore part n) (known .numbers), known .laid .within, known .laid .most)
 
+  pub has-past : (k : ℕ) {p : ℕ} → g ≤ p → false ≡ (ltb p g && ghostHas (ghostCore part n) k p)
+  has-past k {p} h = rw (le-ltb p g h)
+
+  pub has-read : (k : ℕ) {p v to : ℕ} → p < g → to ≡ ghostPlace n p → v ≡ numberOf (piece part to coreSize) → eqb v k ≡ (ltb p g && ghostHas (ghostCore part n) k p)
+  unfolding ghostHas ghostCore
+  has-read k {p} h there e = rw (lt-ltb p g h, ← there, e)
+
   module _ (known : Ascending part (ghostPlace n 0) g) where
     ascends : (i j : ℕ) → i < j → j < g → numberOf (ghostCore part n i) < numberOf (ghostCore part n j)
     ascends i j h l = omega (arith, known .ascends i j h l, number-there i, number-there j)
@@ -114,6 +121,17 @@ module _ (part : List ℕ) (n g : ℕ) where
         (λ i l p. le-ltb (numberAt part (ghostPlace n 0) i) k
         (either (ltb m i) (λ q. omega (arith, number-there i, ascends m i (ltb-true m i q) p))
         (λ q. let s : m ≡ i = omega tests in omega (arith, number-there i, ap (λ (x : ℕ). numberOf (ghostCore part n x)) s))))
+
+    -- the ghost with a number is the only one
+    least-with : (k p : ℕ) → p < g → numberOf (ghostCore part n p) ≡ k → p ≡ leastBelow g (ghostHas (ghostCore part n) k)
+    unfolding ghostHas
+    least-with k p h e =
+        sym (least-is g (ghostHas (ghostCore part n) k) p h (eq-eqb (numberOf (ghostCore part n p)) k e) (λ j l. ne-eqb (numberOf (ghostCore part n j)) k (λ s. omega (arith, ascends j p l h))))
+
+    pub near-found : (k : ℕ) {p : ℕ} {b : Bool} → b ≡ (ltb p g && ghostHas (ghostCore part n) k p) → b ≡ true → p ≡ leastBelow g (ghostHas (ghostCore part n) k)
+    unfolding ghostHas
+    near-found k {p} is h =
+        least-with k p (ltb-true p g (and-fst (ltb p g) (ghostHas (ghostCore part n) k p) (sym is ∙ h))) (eqb-true _ _ (and-snd (ltb p g) (ghostHas (ghostCore part n) k p) (sym is ∙ h)))
 
     module _ {at : ℕ} (from : at ≡ ghostPlace n 0) where
       pub ascending-at : Ascending part at g
@@ -140,10 +158,7 @@ module _ (part : List ℕ) (n g : ℕ) where
           search-other h = none-with (λ m l e. h (number-of-position ∙ ap (λ (x : ℕ). numberOf (ghostCore part n x)) (position-is m l e) ∙ e))
 
           pub search-found : p < g → v ≡ k → p ≡ leastBelow g (ghostHas (ghostCore part n) k)
-          unfolding ghostHas
-          search-found h e =
-              let q : numberOf (ghostCore part n p) ≡ k = sym number-of-position ∙ e in
-              sym (least-is g (ghostHas (ghostCore part n) k) p h (eq-eqb (numberOf (ghostCore part n p)) k q) (λ j l. ne-eqb (numberOf (ghostCore part n j)) k (λ s. omega (arith, ascends j p l h))))
+          search-found h e = least-with k p h (sym number-of-position ∙ e)
 
   -- the link of a ghost
   module _ (first D K j f : ℕ) {at k : ℕ} (here : at ≡ ghostPlace n j) (read : k ≡ neighbourOf (piece part at coreSize) f) {b : Bool} (test : b ≡ inRange first (first + n) k) where

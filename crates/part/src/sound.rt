@@ -8,8 +8,8 @@ use records::index::ghost_index;
 use records::index::to_local;
 ghost use mathlib.Core.Path.{_≡_};
 ghost use mathlib.Core.Bool.{_&&_};
-ghost use Prim.Native.Nat.{_+_, _≤_, _<_};
-ghost use lib.Dec.{eqb};
+ghost use Prim.Native.Nat.{_+_, _-_, _%_, _≤_, _<_};
+ghost use lib.Dec.{eqb, ltb};
 ghost use lib.ListN.{length};
 ghost use Rattle.encoding.specs.Below.{allBelow, leastBelow};
 ghost use Rattle.encoding.specs.Pieces.{piece};
@@ -267,6 +267,43 @@ fn ghost_with(part: &[u8], count: u32, ghosts: u32, number: GlobalIndex) -> u32
     position
 }
 
+// The place of a number among consecutive ones, of which that at j is `own`.
+fn place_near(j: u32, own: u32, number: u32) -> u32
+    ensures { λ r. ⌜ r ≡ (j + number + (4294967296 - own)) % 4294967296 ⌝ }
+{
+    (((j as u64) + (number as u64) + (4294967296 - (own as u64))) % 4294967296) as u32
+}
+
+fn ghost_has(part: &[u8], count: u32, ghosts: u32, number: GlobalIndex, position: u32) -> bool
+    requires { ⌜ Ascending (now part) (ghostPlace count 0) ghosts ⌝ }
+    ensures { λ r. ⌜ r ≡ (ltb position ghosts && ghostHas (ghostCore (now (part .entry)) count) (number .0) position) ⌝ }
+{
+    let wanted = number.0;
+    if ghosts <= position {
+        return false;
+    }
+    records::number_of(part, ghost_at(count, position)) == wanted
+}
+
+// As ghost_with, for a neighbour of ghost j, whose number is `own`. Ghosts side by side often have consecutive numbers: the place by that is tried before the search.
+fn ghost_near(
+    part: &[u8],
+    count: u32,
+    ghosts: u32,
+    j: u32,
+    own: GlobalIndex,
+    number: GlobalIndex,
+) -> u32
+    requires { ⌜ Ascending (now part) (ghostPlace count 0) ghosts ⌝ }
+    ensures { λ r. ⌜ r ≡ leastBelow ghosts (ghostHas (ghostCore (now (part .entry)) count) (number .0)) ⌝ }
+{
+    let place = place_near(j, own.0, number.0);
+    if ghost_has(part, count, ghosts, number, place) {
+        return place;
+    }
+    ghost_with(part, count, ghosts, number)
+}
+
 // The neighbour is a tree of the range, another ghost, or not held.
 fn ghost_face(
     part: &[u8],
@@ -288,9 +325,9 @@ fn ghost_face(
         let own = ghost_index(count, j);
         return link_ok(part, dimension, own.0, at, face, tree_at(tree));
     }
-    let position = ghost_with(part, count, ghosts, GlobalIndex(k));
+    let number = records::number_of(part, at);
+    let position = ghost_near(part, count, ghosts, j, GlobalIndex(number), GlobalIndex(k));
     if position < ghosts {
-        let number = records::number_of(part, at);
         return link_ok(part, dimension, number, at, face, ghost_at(count, position));
     }
     (k < trees) & mesh::inner::orientation_ok(part, at, face)

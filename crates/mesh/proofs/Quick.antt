@@ -107,6 +107,13 @@ module _ (r s : List ℕ) (okr : shapeOk (shapeOf r) ≡ true) (oks : shapeOk (s
       ap (λ (x : Bool). eqb (neighbourOf s (faceOf r f)) k && x) (codes-equal (facesOf r) (facesOf s) (ap facesIn e) (codeOf r f) b f below)
       ∙ and-right (eqb (neighbourOf s (faceOf r f)) k) (eqb (faceOf s (faceOf r f)) f) (eqb (orientationOf s (faceOf r f)) (orientationOf r f))
 
+  pub link-quick : (d k : ℕ) → dimensionOf (shapeOf r) ≡ d → dimensionOf (shapeOf s) ≡ d → (cornersQuick d r f s && answeredQuick d k r f s) ≡ (orientationOk r f && sameCorners r f s && answered k r f s)
+  link-quick d k own there =
+      let e : dimensionOf (shapeOf s) ≡ dimensionOf (shapeOf r) = there ∙ sym own in
+      let c : cornersQuick d r f s ≡ (orientationOk r f && sameCorners r f s) = rw own at (corners-quick e) in
+      let a : answeredQuick d k r f s ≡ answered k r f s = rw own at (answered-quick k e) in
+      rw (c, a)
+
 -- ---- trees
 
 module _ (core : ℕ → List ℕ) (d K : ℕ) where
@@ -133,14 +140,8 @@ module _ (core : ℕ → List ℕ) (d K : ℕ) where
     unfolding faceQuick faceSound linkOk
     face-same f face =
         let n : ℕ = neighbourOf (core k) f in
-        let own : dimensionOf (shapeOf (core k)) ≡ d = fits k tree .1 in
         either (ltb n K)
-        (λ p.
-        let there : Fits n = fits n (ltb-true n K p) in
-        let e : dimensionOf (shapeOf (core n)) ≡ dimensionOf (shapeOf (core k)) = there .1 ∙ sym own in
-        let c : cornersQuick d (core k) f (core n) ≡ (orientationOk (core k) f && sameCorners (core k) f (core n)) = rw own at (corners-quick (core k) (core n) (fits k tree .0) (there .0) f face e) in
-        let a : answeredQuick d k (core k) f (core n) ≡ answered k (core k) f (core n) = rw own at (answered-quick (core k) (core n) (fits k tree .0) (there .0) f face k e) in
-        rw (p, c, a))
+        (λ p. let there : Fits n = fits n (ltb-true n K p) in rw p (link-quick (core k) (core n) (fits k tree .0) (there .0) f face d k (fits k tree .1) (there .1)))
         (λ p. rw p)
 
     tree-same : treeQuick core d K k ≡ treeSound core d K k

@@ -109,7 +109,7 @@ fn corners_in(dimension: u32, shape: u32, face: u32) -> u32
     1 + ((word % 4) as u32)
 }
 
-fn corners_quick(bs: &[u8], dimension: u32, at: usize, face: u32, to: usize) -> bool
+pub fn corners_quick(bs: &[u8], dimension: u32, at: usize, face: u32, to: usize) -> bool
     requires { ⌜ (at + coreSize ≤ length (now bs)) × (face < 6) × (to + coreSize ≤ length (now bs)) ⌝ }
     ensures { λ r. ⌜ r ≡ cornersQuick dimension (piece (now (bs .entry)) at coreSize) face (piece (now (bs .entry)) to coreSize) ⌝ }
 {
@@ -124,7 +124,7 @@ fn corners_quick(bs: &[u8], dimension: u32, at: usize, face: u32, to: usize) -> 
 }
 
 // The neighbour's code is this one with the face in place of the neighbour's.
-fn answered_quick(bs: &[u8], dimension: u32, k: u32, at: usize, face: u32, to: usize) -> bool
+pub fn answered_quick(bs: &[u8], dimension: u32, k: u32, at: usize, face: u32, to: usize) -> bool
     requires { ⌜ (at + coreSize ≤ length (now bs)) × (face < 6) × (to + coreSize ≤ length (now bs)) ⌝ }
     ensures { λ r. ⌜ r ≡ answeredQuick dimension k (piece (now (bs .entry)) at coreSize) face (piece (now (bs .entry)) to coreSize) ⌝ }
 {

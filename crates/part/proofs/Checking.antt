@@ -21,9 +21,10 @@ use Rattle.offsets.proofs.Tables.{count-add, end-trees, trees-high}
 use Rattle.part.specs.Layout.{treePlace, ghostPlace, partSize}
 use Rattle.part.specs.View.{viewSound}
 use Rattle.part.specs.Part.{partDimension, partK, partFirst, partCount, partGhostCount, storedTree, storedGhost, globalIndex, globalTree, partHeaderSound, partSound}
-use Rattle.part.specs.Mirror.{inRange, neighbourIn, numberAt, Ascending, smaller, ghostCore, linkBetween, treeTo, treeFace, treeStored, treeNumbered, ghostBehind, ghostNumbered, ghostHas, ghostTo, ghostFace, ghostStored, recordsSound, RankKnown, PartLaid, PartNumbered}
+use Rattle.part.specs.Mirror.{inRange, neighbourIn, numberAt, Ascending, smaller, ghostCore, linkQuick, treeTo, treeFace, treeStored, treeNumbered, ghostBehind, ghostNumbered, ghostHas, ghostTo, ghostFace, ghostStored, recordsSound, RankKnown, PartLaid, PartNumbered}
 use Rattle.part.proofs.Global.{global-alike, global-neighbour}
 use Rattle.part.proofs.Judging.{ghosts-ascend, ghosts-few, lookedUp, Seen, view-is}
+use Rattle.part.proofs.Quick.{records-quick}
 
 -- a tree of the range is below its end
 pub range-last : (first end k : ℕ) {b : Bool} → b ≡ inRange first end k → b ≡ true → k < end
@@ -37,26 +38,26 @@ module _ (part : List ℕ) (i : ℕ) {at : ℕ} (here : at ≡ treePlace i) wher
   unfolding treeNumbered storedTree
   numbered-is first e = rw (← here, e)
 
-  module _ (n g : ℕ) where
+  module _ (D n g : ℕ) where
     module _ (f : ℕ) {j : ℕ} (read : j ≡ neighbourOf (piece part at coreSize) f) where
-      pub face-tree : {to : ℕ} {r : Bool} → j < n → to ≡ treePlace j → r ≡ linkBetween i (piece part at coreSize) f (piece part to coreSize)
-          → r ≡ treeFace n g (storedTree part) (ghostCore part n) i f
+      pub face-tree : {to : ℕ} {r : Bool} → j < n → to ≡ treePlace j → r ≡ linkQuick D i (piece part at coreSize) f (piece part to coreSize)
+          → r ≡ treeFace (linkQuick D) n g (storedTree part) (ghostCore part n) i f
       unfolding treeFace treeTo storedTree
       face-tree h there p = rw (← here, ← read, lt-ltb j n h, ← there, p)
 
       pub face-ghost : {v to : ℕ} {r : Bool} → n ≤ j → j - n < g → v ≡ numberOf (piece part at coreSize) → to ≡ ghostPlace n (j - n)
-          → r ≡ linkBetween v (piece part at coreSize) f (piece part to coreSize) → r ≡ treeFace n g (storedTree part) (ghostCore part n) i f
+          → r ≡ linkQuick D v (piece part at coreSize) f (piece part to coreSize) → r ≡ treeFace (linkQuick D) n g (storedTree part) (ghostCore part n) i f
       unfolding treeFace treeTo storedTree ghostCore
       face-ghost h l e there p = rw (← here, ← read, le-ltb j n h, lt-ltb (j - n) g l, ← there, p, e)
 
-      pub face-none : n ≤ j → g ≤ j - n → false ≡ treeFace n g (storedTree part) (ghostCore part n) i f
+      pub face-none : n ≤ j → g ≤ j - n → false ≡ treeFace (linkQuick D) n g (storedTree part) (ghostCore part n) i f
       unfolding treeFace treeTo storedTree
       face-none h l = rw (← here, ← read, le-ltb j n h, le-ltb (j - n) g l)
 
-    pub tree-read : {a d : Bool} {shape dimension faces : ℕ} (D : ℕ) → shape ≡ shapeOf (piece part at coreSize) → a ≡ inForm i (piece part at coreSize) → dimension ≡ dimensionOf shape → faces ≡ faceCount shape
-        → d ≡ allBelow faces (treeFace n g (storedTree part) (ghostCore part n) i) → (a && eqb dimension D && d) ≡ treeStored n g (storedTree part) (ghostCore part n) D i
+    pub tree-read : {a d : Bool} {shape dimension faces : ℕ} → shape ≡ shapeOf (piece part at coreSize) → a ≡ inForm i (piece part at coreSize) → dimension ≡ dimensionOf shape → faces ≡ faceCount shape
+        → d ≡ allBelow faces (treeFace (linkQuick D) n g (storedTree part) (ghostCore part n) i) → (a && eqb dimension D && d) ≡ treeStored (linkQuick D) n g (storedTree part) (ghostCore part n) D i
     unfolding treeStored storedTree
-    tree-read D e p r s t = rw (← here, p, r, t, s, e)
+    tree-read e p r s t = rw (← here, p, r, t, s, e)
 
 -- ---- ghosts
 
@@ -75,8 +76,8 @@ module _ (part : List ℕ) (n j : ℕ) where
     ghost-numbered-is first K p q = rw (← here, ← number, p, q)
 
     pub ghost-read : {a b d : Bool} {shape dimension faces : ℕ} (first g D K : ℕ) → shape ≡ shapeOf (piece part at coreSize) → faces ≡ faceCount shape → a ≡ inForm v (piece part at coreSize) → dimension ≡ dimensionOf shape
-        → b ≡ anyBelow faces (neighbourIn first (first + n) (piece part at coreSize)) → d ≡ allBelow faces (ghostFace first n g (storedTree part) (ghostCore part n) K j)
-        → (a && eqb dimension D && b && d) ≡ ghostStored first n g (storedTree part) (ghostCore part n) D K j
+        → b ≡ anyBelow faces (neighbourIn first (first + n) (piece part at coreSize)) → d ≡ allBelow faces (ghostFace (linkQuick D) first n g (storedTree part) (ghostCore part n) K j)
+        → (a && eqb dimension D && b && d) ≡ ghostStored (linkQuick D) first n g (storedTree part) (ghostCore part n) D K j
     unfolding ghostStored ghostCore
     ghost-read first g D K e s p r q t = rw (← here, p, r, q, t, s, e, number)
 
@@ -100,6 +101,13 @@ module _ (part : List ℕ) (n g : ℕ) where
     pub index-word : (j : ℕ) → j < g → n + j < 4294967296
     index-word j h = omega (arith, ghosts-few first n g K (storedTree part) (ghostCore part n) (known .numbers), known .laid .within, known .laid .most)
 
+  pub has-past : (k : ℕ) {p : ℕ} → g ≤ p → false ≡ (ltb p g && ghostHas (ghostCore part n) k p)
+  has-past k {p} h = rw (le-ltb p g h)
+
+  pub has-read : (k : ℕ) {p v to : ℕ} → p < g → to ≡ ghostPlace n p → v ≡ numberOf (piece part to coreSize) → eqb v k ≡ (ltb p g && ghostHas (ghostCore part n) k p)
+  unfolding ghostHas ghostCore
+  has-read k {p} h there e = rw (lt-ltb p g h, ← there, e)
+
   module _ (known : Ascending part (ghostPlace n 0) g) where
     ascends : (i j : ℕ) → i < j → j < g → numberOf (ghostCore part n i) < numberOf (ghostCore part n j)
     ascends i j h l = omega (arith, known .ascends i j h l, number-there i, number-there j)
@@ -113,6 +121,17 @@ module _ (part : List ℕ) (n g : ℕ) where
         (λ i l p. le-ltb (numberAt part (ghostPlace n 0) i) k
         (either (ltb m i) (λ q. omega (arith, number-there i, ascends m i (ltb-true m i q) p))
         (λ q. let s : m ≡ i = omega tests in omega (arith, number-there i, ap (λ (x : ℕ). numberOf (ghostCore part n x)) s))))
+
+    -- the ghost with a number is the only one
+    least-with : (k p : ℕ) → p < g → numberOf (ghostCore part n p) ≡ k → p ≡ leastBelow g (ghostHas (ghostCore part n) k)
+    unfolding ghostHas
+    least-with k p h e =
+        sym (least-is g (ghostHas (ghostCore part n) k) p h (eq-eqb (numberOf (ghostCore part n p)) k e) (λ j l. ne-eqb (numberOf (ghostCore part n j)) k (λ s. omega (arith, ascends j p l h))))
+
+    pub near-found : (k : ℕ) {p : ℕ} {b : Bool} → b ≡ (ltb p g && ghostHas (ghostCore part n) k p) → b ≡ true → p ≡ leastBelow g (ghostHas (ghostCore part n) k)
+    unfolding ghostHas
+    near-found k {p} is h =
+        least-with k p (ltb-true p g (and-fst (ltb p g) (ghostHas (ghostCore part n) k p) (sym is ∙ h))) (eqb-true _ _ (and-snd (ltb p g) (ghostHas (ghostCore part n) k p) (sym is ∙ h)))
 
     module _ {at : ℕ} (from : at ≡ ghostPlace n 0) where
       pub ascending-at : Ascending part at g
@@ -139,30 +158,27 @@ module _ (part : List ℕ) (n g : ℕ) where
           search-other h = none-with (λ m l e. h (number-of-position ∙ ap (λ (x : ℕ). numberOf (ghostCore part n x)) (position-is m l e) ∙ e))
 
           pub search-found : p < g → v ≡ k → p ≡ leastBelow g (ghostHas (ghostCore part n) k)
-          unfolding ghostHas
-          search-found h e =
-              let q : numberOf (ghostCore part n p) ≡ k = sym number-of-position ∙ e in
-              sym (least-is g (ghostHas (ghostCore part n) k) p h (eq-eqb (numberOf (ghostCore part n p)) k q) (λ j l. ne-eqb (numberOf (ghostCore part n j)) k (λ s. omega (arith, ascends j p l h))))
+          search-found h e = least-with k p h (sym number-of-position ∙ e)
 
   -- the link of a ghost
-  module _ (first K j f : ℕ) {at k : ℕ} (here : at ≡ ghostPlace n j) (read : k ≡ neighbourOf (piece part at coreSize) f) {b : Bool} (test : b ≡ inRange first (first + n) k) where
-    pub link-local : (t : ℕ) {own to : ℕ} {r : Bool} → b ≡ true → t + first ≡ k → own ≡ n + j → to ≡ treePlace t → r ≡ linkBetween own (piece part at coreSize) f (piece part to coreSize)
-        → r ≡ ghostFace first n g (storedTree part) (ghostCore part n) K j f
+  module _ (first D K j f : ℕ) {at k : ℕ} (here : at ≡ ghostPlace n j) (read : k ≡ neighbourOf (piece part at coreSize) f) {b : Bool} (test : b ≡ inRange first (first + n) k) where
+    pub link-local : (t : ℕ) {own to : ℕ} {r : Bool} → b ≡ true → t + first ≡ k → own ≡ n + j → to ≡ treePlace t → r ≡ linkQuick D own (piece part at coreSize) f (piece part to coreSize)
+        → r ≡ ghostFace (linkQuick D) first n g (storedTree part) (ghostCore part n) K j f
     unfolding ghostFace ghostTo ghostCore storedTree
     link-local t h l e there p =
         let s : k - first ≡ t = omega arith in
         rw (← here, ← read, ← test, h, s, ← there, p, e)
 
     module _ (out : b ≡ false) {p : ℕ} (position : p ≡ leastBelow g (ghostHas (ghostCore part n) k)) where
-      pub link-held : {v to : ℕ} {r : Bool} → p < g → v ≡ numberOf (piece part at coreSize) → to ≡ ghostPlace n p → r ≡ linkBetween v (piece part at coreSize) f (piece part to coreSize)
-          → r ≡ ghostFace first n g (storedTree part) (ghostCore part n) K j f
+      pub link-held : {v to : ℕ} {r : Bool} → p < g → v ≡ numberOf (piece part at coreSize) → to ≡ ghostPlace n p → r ≡ linkQuick D v (piece part at coreSize) f (piece part to coreSize)
+          → r ≡ ghostFace (linkQuick D) first n g (storedTree part) (ghostCore part n) K j f
       unfolding ghostFace ghostTo ghostCore
       link-held h e there q =
           let some : anyBelow g (ghostHas (ghostCore part n) k) ≡ true =
           either (anyBelow g (ghostHas (ghostCore part n) k)) (λ t. t) (λ t. absurd (omega (arith, least-none g (ghostHas (ghostCore part n) k) t))) in
           rw (← here, ← read, ← test, out, some, ← position, ← there, q, e)
 
-      pub link-free : {q : Bool} → g ≤ p → q ≡ orientationOk (piece part at coreSize) f → (ltb k K && q) ≡ ghostFace first n g (storedTree part) (ghostCore part n) K j f
+      pub link-free : {q : Bool} → g ≤ p → q ≡ orientationOk (piece part at coreSize) f → (ltb k K && q) ≡ ghostFace (linkQuick D) first n g (storedTree part) (ghostCore part n) K j f
       unfolding ghostFace ghostTo ghostCore
       link-free h e =
           let none : anyBelow g (ghostHas (ghostCore part n) k) ≡ false =
@@ -187,9 +203,11 @@ module _ (part : List ℕ) (bytes : Bytes part) (laid : PartLaid part (partFirst
       }
 
   pub part-records : (D : ℕ) → viewSound (partFirst part) (partCount part) (partGhostCount part) (globalTree part) (storedGhost part) D (partK part)
-      ≡ recordsSound (partFirst part) (partCount part) (partGhostCount part) (storedTree part) (ghostCore part (partCount part)) D (partK part)
+      ≡ recordsSound (linkQuick D) (partFirst part) (partCount part) (partGhostCount part) (storedTree part) (ghostCore part (partCount part)) D (partK part)
   unfolding storedGhost ghostCore
-  part-records D = view-is (partFirst part) (partCount part) (partGhostCount part) (partK part) (storedTree part) (globalTree part) (ghostCore part (partCount part)) part-seen D
+  part-records D =
+      view-is (partFirst part) (partCount part) (partGhostCount part) (partK part) (storedTree part) (globalTree part) (ghostCore part (partCount part)) part-seen D
+      ∙ sym (records-quick D (partFirst part) (partCount part) (partGhostCount part) (partK part) (storedTree part) (ghostCore part (partCount part)))
 
 module _ (part table : List ℕ) (rank : ℕ) where
   abbrev headed : Bool
@@ -239,7 +257,7 @@ module _ (part table : List ℕ) (rank : ℕ) where
     laid-read a b d e = rw (a, b, d, e) head-laid
 
     pub sound-read : {first n g D K : ℕ} {r : Bool} → Bytes part → first ≡ partFirst part → n ≡ partCount part → g ≡ partGhostCount part → D ≡ partDimension part → K ≡ partK part
-        → r ≡ recordsSound first n g (storedTree part) (ghostCore part n) D K → r ≡ partSound part table rank
+        → r ≡ recordsSound (linkQuick D) first n g (storedTree part) (ghostCore part n) D K → r ≡ partSound part table rank
     unfolding partSound
     sound-read b e1 e2 e3 e4 e5 p = rw (← is, ok, p, e1, e2, e3, e4, e5) (sym (part-records part b head-laid (partDimension part)))
 

@@ -221,7 +221,7 @@ module _ (first n g K : ℕ) (tree global ghostly : ℕ → List ℕ) (seen : Se
 
   -- the link of a tree to local index j
   tree-to : (i : ℕ) → i < n → (f : ℕ) → f < 6 → (j : ℕ)
-      → (held first n g global ghostly (up j) && linkBetween (first + i) (global i) f (heldCore first n g global ghostly (up j))) ≡ treeTo n g tree ghostly i f j
+      → (held first n g global ghostly (up j) && linkBetween (first + i) (global i) f (heldCore first n g global ghostly (up j))) ≡ treeTo linkBetween n g tree ghostly i f j
   unfolding treeTo
   tree-to i h f l j =
       let w = seen .within in
@@ -237,7 +237,7 @@ module _ (first n g K : ℕ) (tree global ghostly : ℕ → List ℕ) (seen : Se
       (link-alike (first + i) (numberOf (tree i)) f l a (alike-itself (ghostly m)) (ap (eqb (neighbourOf (ghostly m) (faceOf (tree i) f))) (sym (tree-number first n g K tree ghostly numbers i h)))))
       (λ e q. rw (up-past j e q, held-past noTree (omega arith), le-ltb j n (omega arith), le-ltb (j - n) g (omega arith)))
 
-  tree-link : (i : ℕ) → i < n → (f : ℕ) → f < 6 → treeLink first n g global ghostly (first + i) f ≡ treeFace n g tree ghostly i f
+  tree-link : (i : ℕ) → i < n → (f : ℕ) → f < 6 → treeLink first n g global ghostly (first + i) f ≡ treeFace linkBetween n g tree ghostly i f
   unfolding treeLink treeFace
   tree-link i h f l =
       rw (link-is (heldCore first n g global ghostly) (first + i) f, core-tree i h, seen .neighbour i h f l) (tree-to i h f l (neighbourOf (tree i) f))
@@ -245,7 +245,7 @@ module _ (first n g K : ℕ) (tree global ghostly : ℕ → List ℕ) (seen : Se
   -- the link of a ghost to tree k
   ghost-to : (j : ℕ) → j < g → (f : ℕ) → f < 6 → (k : ℕ)
       → cond (held first n g global ghostly k) (linkBetween (numberOf (ghostly j)) (ghostly j) f (heldCore first n g global ghostly k)) (ltb k K && orientationOk (ghostly j) f)
-      ≡ ghostTo first n g tree ghostly K j f k
+      ≡ ghostTo linkBetween first n g tree ghostly K j f k
   unfolding ghostTo held heldCore isLocal inRange ghostIs ghostHas
   ghost-to j h f l k =
       either (leb first k && ltb k (first + n))
@@ -255,14 +255,14 @@ module _ (first n g K : ℕ) (tree global ghostly : ℕ → List ℕ) (seen : Se
       (rw (seen .neighbour (k - first) t (faceOf (ghostly j) f) (face-six (ghostly j) f)) (up-is-ghost j (neighbourOf (tree (k - first)) (faceOf (ghostly j) f)) h))))
       (λ p. rw p)
 
-  ghost-link : (j : ℕ) → j < g → (f : ℕ) → f < 6 → ghostLink first n g global ghostly K (numberOf (ghostly j)) f ≡ ghostFace first n g tree ghostly K j f
+  ghost-link : (j : ℕ) → j < g → (f : ℕ) → f < 6 → ghostLink first n g global ghostly K (numberOf (ghostly j)) f ≡ ghostFace linkBetween first n g tree ghostly K j f
   unfolding ghostLink ghostFace
   ghost-link j h f l =
       rw (link-is (heldCore first n g global ghostly) (numberOf (ghostly j)) f, core-ghost j h) (ghost-to j h f l (neighbourOf (ghostly j) f))
 
   -- ---- the records
 
-  tree-same : (D i : ℕ) → i < n → localSound first n g global ghostly D i ≡ treeStored n g tree ghostly D i
+  tree-same : (D i : ℕ) → i < n → localSound first n g global ghostly D i ≡ treeStored linkBetween n g tree ghostly D i
   unfolding localSound treeStored
   tree-same D i h =
       let a = seen .alike i h in
@@ -272,14 +272,14 @@ module _ (first n g K : ℕ) (tree global ghostly : ℕ → List ℕ) (seen : Se
         eq-eqb (numberOf (global i)) (first + i) number,
         and-true,
         a .shape,
-        all-same (faceCount (shapeOf (tree i))) (treeLink first n g global ghostly (first + i)) (treeFace n g tree ghostly i) (λ f l. tree-link i h f (omega (arith, count-six (shapeOf (tree i))))),
+        all-same (faceCount (shapeOf (tree i))) (treeLink first n g global ghostly (first + i)) (treeFace linkBetween n g tree ghostly i) (λ f l. tree-link i h f (omega (arith, count-six (shapeOf (tree i))))),
       )
 
   ghost-behind : (j : ℕ) → j < g → ghostAfter first n g global ghostly j ≡ true
   unfolding ghostNumbered ghostAfter ghostBehind
   ghost-behind j h = and-snd (ltb (numberOf (ghostly j)) K && not (inRange first (first + n) (numberOf (ghostly j)))) (ghostBehind ghostly j) (ghost-numbered first n g K tree ghostly numbers j h)
 
-  ghost-record : (D j : ℕ) → j < g → ghostSound first n g global ghostly D K j ≡ ghostStored first n g tree ghostly D K j
+  ghost-record : (D j : ℕ) → j < g → ghostSound first n g global ghostly D K j ≡ ghostStored linkBetween first n g tree ghostly D K j
   unfolding ghostSound ghostStored ghostBeside isLocal neighbourIn inRange
   ghost-record D j h =
       rw (
@@ -289,13 +289,13 @@ module _ (first n g K : ℕ) (tree global ghostly : ℕ → List ℕ) (seen : Se
         and-true (inForm (numberOf (ghostly j)) (ghostly j)),
         and-true (inForm (numberOf (ghostly j)) (ghostly j)),
         and-true (inForm (numberOf (ghostly j)) (ghostly j)),
-        all-same (faceCount (shapeOf (ghostly j))) (ghostLink first n g global ghostly K (numberOf (ghostly j))) (ghostFace first n g tree ghostly K j) (λ f l. ghost-link j h f (omega (arith, count-six (shapeOf (ghostly j))))),
+        all-same (faceCount (shapeOf (ghostly j))) (ghostLink first n g global ghostly K (numberOf (ghostly j))) (ghostFace linkBetween first n g tree ghostly K j) (λ f l. ghost-link j h f (omega (arith, count-six (shapeOf (ghostly j))))),
       )
 
-  view-records : (D : ℕ) → viewSound first n g global ghostly D K ≡ recordsSound first n g tree ghostly D K
+  view-records : (D : ℕ) → viewSound first n g global ghostly D K ≡ recordsSound linkBetween first n g tree ghostly D K
   unfolding viewSound recordsSound
   view-records D =
-      rw (numbers, all-same n (localSound first n g global ghostly D) (treeStored n g tree ghostly D) (tree-same D), all-same g (ghostSound first n g global ghostly D K) (ghostStored first n g tree ghostly D K) (ghost-record D))
+      rw (numbers, all-same n (localSound first n g global ghostly D) (treeStored linkBetween n g tree ghostly D) (tree-same D), all-same g (ghostSound first n g global ghostly D K) (ghostStored linkBetween first n g tree ghostly D K) (ghost-record D))
 
 -- the view is sound exactly where the records are
 module _ (first n g K : ℕ) (tree global ghostly : ℕ → List ℕ) (seen : Seen first n g K tree global ghostly) where
@@ -326,9 +326,9 @@ module _ (first n g K : ℕ) (tree global ghostly : ℕ → List ℕ) (seen : Se
       (all-intro n (treeNumbered first tree) (λ i h. local-number D i h (all-at n (localSound first n g global ghostly D) (and-fst (allBelow n (localSound first n g global ghostly D)) _ e) i h)))
       (all-intro g (ghostNumbered first n ghostly K) (λ j h. ghost-number D j (all-at g (ghostSound first n g global ghostly D K) (and-snd (allBelow n (localSound first n g global ghostly D)) _ e) j h)))
 
-  pub view-is : (D : ℕ) → viewSound first n g global ghostly D K ≡ recordsSound first n g tree ghostly D K
+  pub view-is : (D : ℕ) → viewSound first n g global ghostly D K ≡ recordsSound linkBetween first n g tree ghostly D K
   unfolding recordsSound
   view-is D =
-      iff-eq (viewSound first n g global ghostly D K) (recordsSound first n g tree ghostly D K)
+      iff-eq (viewSound first n g global ghostly D K) (recordsSound linkBetween first n g tree ghostly D K)
       (λ e. sym (view-records first n g K tree global ghostly seen (view-numbers D e) D) ∙ e)
       (λ e. view-records first n g K tree global ghostly seen (and-fst (numbersSound first n g tree ghostly K) _ e) D ∙ e)

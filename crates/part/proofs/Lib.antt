@@ -8,5 +8,6 @@ pub mod Trees
 pub mod Parts
 pub mod Global
 pub mod Judging
+pub mod Quick
 pub mod Checking
 pub mod Across

@@ -14,6 +14,7 @@ use Rattle.records.specs.Shape.{dimensionOf, faceCount, facesIn}
 use Rattle.records.specs.Record.{coreSize, treeSize, unused, numberOf, shapeOf, neighbourOf, inForm}
 use Rattle.mesh.specs.Link.{orientationOk, sameCorners, answered}
 use Rattle.mesh.specs.Mesh.{meshHeader, meshDimension, meshCore, meshRecord}
+use Rattle.mesh.specs.Mirror.{cornersQuick, answeredQuick}
 use Rattle.part.specs.Layout.{partHeader, ghostPlace, partSize, headerBytes}
 use Rattle.part.specs.Cut.{renamed}
 use Rattle.part.specs.Part.{storedTree}
@@ -111,13 +112,17 @@ ghostCore part n j = piece part (ghostPlace n j) coreSize
 unfoldable pub linkBetween : ℕ → List ℕ → ℕ → List ℕ → Bool
 linkBetween back r f s = orientationOk r f && sameCorners r f s && answered back r f s
 
--- the trees of a part as they stand, their neighbours as local indices
-module _ (n g : ℕ) (tree ghostly : ℕ → List ℕ) where
+-- the same, read by the part's dimension; proofs/Quick.antt: over all records it says the same
+unfoldable pub linkQuick : ℕ → ℕ → List ℕ → ℕ → List ℕ → Bool
+linkQuick d back r f s = cornersQuick d r f s && answeredQuick d back r f s
+
+-- the trees of a part as they stand, their neighbours as local indices; by either rule of a link
+module _ (link : ℕ → List ℕ → ℕ → List ℕ → Bool) (n g : ℕ) (tree ghostly : ℕ → List ℕ) where
   -- the link of face f of tree i to local index j: a tree's link leads back to the local index i, a ghost's to the tree's number
   unfoldable pub treeTo : ℕ → ℕ → ℕ → Bool
   treeTo i f j =
-      cond (ltb j n) (linkBetween i (tree i) f (tree j))
-      (cond (ltb (j - n) g) (linkBetween (numberOf (tree i)) (tree i) f (ghostly (j - n))) false)
+      cond (ltb j n) (link i (tree i) f (tree j))
+      (cond (ltb (j - n) g) (link (numberOf (tree i)) (tree i) f (ghostly (j - n))) false)
 
   unfoldable pub treeFace : ℕ → ℕ → Bool
   treeFace i f = treeTo i f (neighbourOf (tree i) f)
@@ -144,17 +149,17 @@ ghostNumbered first n ghostly K j =
 unfoldable pub ghostHas : (ℕ → List ℕ) → ℕ → ℕ → Bool
 ghostHas ghostly k j = eqb (numberOf (ghostly j)) k
 
--- the numbers of a part, its ghosts, and all its records
-module _ (first n g : ℕ) (tree ghostly : ℕ → List ℕ) where
-  -- every number
-  unfoldable pub numbersSound : ℕ → Bool
-  numbersSound K = allBelow n (treeNumbered first tree) && allBelow g (ghostNumbered first n ghostly K)
+-- every number
+unfoldable pub numbersSound : ℕ → ℕ → ℕ → (ℕ → List ℕ) → (ℕ → List ℕ) → ℕ → Bool
+numbersSound first n g tree ghostly K = allBelow n (treeNumbered first tree) && allBelow g (ghostNumbered first n ghostly K)
 
+-- the ghosts of a part, and all its records
+module _ (link : ℕ → List ℕ → ℕ → List ℕ → Bool) (first n g : ℕ) (tree ghostly : ℕ → List ℕ) where
   -- the link of face f of ghost j to tree k: one of the range leads back to the ghost's local index, another ghost to its number; or k isn't held
   unfoldable pub ghostTo : ℕ → ℕ → ℕ → ℕ → Bool
   ghostTo K j f k =
-      cond (inRange first (first + n) k) (linkBetween (n + j) (ghostly j) f (tree (k - first)))
-      (cond (anyBelow g (ghostHas ghostly k)) (linkBetween (numberOf (ghostly j)) (ghostly j) f (ghostly (leastBelow g (ghostHas ghostly k))))
+      cond (inRange first (first + n) k) (link (n + j) (ghostly j) f (tree (k - first)))
+      (cond (anyBelow g (ghostHas ghostly k)) (link (numberOf (ghostly j)) (ghostly j) f (ghostly (leastBelow g (ghostHas ghostly k))))
       (ltb k K && orientationOk (ghostly j) f))
 
   unfoldable pub ghostFace : ℕ → ℕ → ℕ → Bool
@@ -168,7 +173,7 @@ module _ (first n g : ℕ) (tree ghostly : ℕ → List ℕ) where
 
   -- all records: first every number, by which the links are then looked up
   unfoldable pub recordsSound : ℕ → ℕ → Bool
-  recordsSound dimension K = numbersSound K && (allBelow n (treeStored n g tree ghostly dimension) && allBelow g (ghostStored dimension K))
+  recordsSound dimension K = numbersSound first n g tree ghostly K && (allBelow n (treeStored link n g tree ghostly dimension) && allBelow g (ghostStored dimension K))
 
 -- a valid table and a rank of it
 pub record RankKnown (table : List ℕ) (rank : ℕ) : Type 0 where

@@ -8,8 +8,8 @@ use records::index::ghost_index;
 use records::index::to_local;
 ghost use mathlib.Core.Path.{_≡_};
 ghost use mathlib.Core.Bool.{_&&_};
-ghost use Prim.Native.Nat.{_+_, _≤_, _<_};
-ghost use lib.Dec.{eqb};
+ghost use Prim.Native.Nat.{_+_, _-_, _%_, _≤_, _<_};
+ghost use lib.Dec.{eqb, ltb};
 ghost use lib.ListN.{length};
 ghost use Rattle.encoding.specs.Below.{allBelow, leastBelow};
 ghost use Rattle.encoding.specs.Pieces.{piece};
@@ -17,7 +17,7 @@ ghost use Rattle.offsets.specs.Limits.{maxTrees};
 ghost use Rattle.records.specs.Record.{coreSize};
 ghost use Rattle.part.specs.Layout.{partHeader, treePlace, ghostPlace, partSize};
 ghost use Rattle.part.specs.Part.{partDimension, partK, partFirst, partCount, partGhostCount, storedTree, partHeaderSound, partSound};
-ghost use Rattle.part.specs.Mirror.{Ascending, ghostCore, linkBetween, treeFace, treeStored, treeNumbered, ghostBehind, ghostNumbered, ghostHas, numbersSound, ghostFace, ghostStored, recordsSound, RankKnown, PartLaid, PartNumbered};
+ghost use Rattle.part.specs.Mirror.{Ascending, ghostCore, linkQuick, treeFace, treeStored, treeNumbered, ghostBehind, ghostNumbered, ghostHas, numbersSound, ghostFace, ghostStored, recordsSound, RankKnown, PartLaid, PartNumbered};
 
 // Where the record of a tree begins.
 pub fn tree_at(tree: LocalIndex) -> usize
@@ -94,14 +94,13 @@ fn header_sound(part: &[u8], table: &[u8], rank: u32) -> bool
         & (part.len() == ghost_at(count, ghost_count(part)))
 }
 
-// The rule of a link between two records. The neighbour's link leads back to `back`, as it is stored there.
-fn link_ok(part: &[u8], back: u32, at: usize, face: u32, to: usize) -> bool
+// The rule of a link between two records, read by the dimension. The neighbour's link leads back to `back`, as it is stored there.
+fn link_ok(part: &[u8], dimension: u32, back: u32, at: usize, face: u32, to: usize) -> bool
     requires { ⌜ (at + coreSize ≤ length (now part)) × (face < 6) × (to + coreSize ≤ length (now part)) ⌝ }
-    ensures { λ r. ⌜ r ≡ linkBetween back (piece (now (part .entry)) at coreSize) face (piece (now (part .entry)) to coreSize) ⌝ }
+    ensures { λ r. ⌜ r ≡ linkQuick dimension back (piece (now (part .entry)) at coreSize) face (piece (now (part .entry)) to coreSize) ⌝ }
 {
-    mesh::inner::orientation_ok(part, at, face)
-        & mesh::inner::same_corners(part, at, face, to)
-        & mesh::inner::answered(part, back, at, face, to)
+    mesh::inner::corners_quick(part, dimension, at, face, to)
+        & mesh::inner::answered_quick(part, dimension, back, at, face, to)
 }
 
 // ---- numbers
@@ -165,30 +164,51 @@ fn numbers_sound(part: &[u8], first: u32, count: u32, ghosts: u32, trees: u32) -
 // ---- trees
 
 // A tree's link leads back to the local index, a ghost's to the global number.
-fn tree_face(part: &[u8], count: u32, ghosts: u32, tree: LocalIndex, face: u32) -> bool
+fn tree_face(
+    part: &[u8],
+    count: u32,
+    ghosts: u32,
+    dimension: u32,
+    tree: LocalIndex,
+    face: u32,
+) -> bool
     requires { ⌜ (length (now part) ≡ partSize count ghosts) × (tree .0 < count) × (face < 6) ⌝ }
-    ensures { λ r. ⌜ r ≡ treeFace count ghosts (storedTree (now (part .entry))) (ghostCore (now (part .entry)) count) (tree .0) face ⌝ }
+    ensures { λ r. ⌜ r ≡ treeFace (linkQuick dimension) count ghosts (storedTree (now (part .entry))) (ghostCore (now (part .entry)) count) (tree .0) face ⌝ }
 {
     let i = tree.0;
     let at = tree_at(tree);
     let j = records::neighbour_of(part, at, face);
     if j < count {
-        return link_ok(part, i, at, face, tree_at(LocalIndex(j)));
+        return link_ok(part, dimension, i, at, face, tree_at(LocalIndex(j)));
     }
     if j - count < ghosts {
         let number = records::number_of(part, at);
-        return link_ok(part, number, at, face, ghost_at(count, j - count));
+        return link_ok(
+            part,
+            dimension,
+            number,
+            at,
+            face,
+            ghost_at(count, j - count),
+        );
     }
     false
 }
 
-fn tree_faces(part: &[u8], count: u32, ghosts: u32, tree: LocalIndex, faces: u32) -> bool
+fn tree_faces(
+    part: &[u8],
+    count: u32,
+    ghosts: u32,
+    dimension: u32,
+    tree: LocalIndex,
+    faces: u32,
+) -> bool
     requires { ⌜ (length (now part) ≡ partSize count ghosts) × (tree .0 < count) × (faces ≤ 6) ⌝ }
-    ensures { λ r. ⌜ r ≡ allBelow faces (treeFace count ghosts (storedTree (now (part .entry))) (ghostCore (now (part .entry)) count) (tree .0)) ⌝ }
+    ensures { λ r. ⌜ r ≡ allBelow faces (treeFace (linkQuick dimension) count ghosts (storedTree (now (part .entry))) (ghostCore (now (part .entry)) count) (tree .0)) ⌝ }
 {
     let mut face = 0;
     while face < faces {
-        if !tree_face(part, count, ghosts, tree, face) {
+        if !tree_face(part, count, ghosts, dimension, tree, face) {
             return false;
         }
         face += 1;
@@ -198,19 +218,26 @@ fn tree_faces(part: &[u8], count: u32, ghosts: u32, tree: LocalIndex, faces: u32
 
 fn tree_sound(part: &[u8], count: u32, ghosts: u32, dimension: u32, tree: LocalIndex) -> bool
     requires { ⌜ (length (now part) ≡ partSize count ghosts) × (tree .0 < count) ⌝ }
-    ensures { λ r. ⌜ r ≡ treeStored count ghosts (storedTree (now (part .entry))) (ghostCore (now (part .entry)) count) dimension (tree .0) ⌝ }
+    ensures { λ r. ⌜ r ≡ treeStored (linkQuick dimension) count ghosts (storedTree (now (part .entry))) (ghostCore (now (part .entry)) count) dimension (tree .0) ⌝ }
 {
     let i = tree.0;
     let at = tree_at(tree);
     let shape = records::shape_of(part, at);
     records::in_form(part, at, i)
         & (records::dimension_of(shape) == dimension)
-        & tree_faces(part, count, ghosts, tree, records::face_count(shape))
+        & tree_faces(
+            part,
+            count,
+            ghosts,
+            dimension,
+            tree,
+            records::face_count(shape),
+        )
 }
 
 fn trees_sound(part: &[u8], count: u32, ghosts: u32, dimension: u32) -> bool
     requires { ⌜ length (now part) ≡ partSize count ghosts ⌝ }
-    ensures { λ r. ⌜ r ≡ allBelow count (treeStored count ghosts (storedTree (now (part .entry))) (ghostCore (now (part .entry)) count) dimension) ⌝ }
+    ensures { λ r. ⌜ r ≡ allBelow count (treeStored (linkQuick dimension) count ghosts (storedTree (now (part .entry))) (ghostCore (now (part .entry)) count) dimension) ⌝ }
 {
     let mut i = 0;
     while i < count {
@@ -240,30 +267,68 @@ fn ghost_with(part: &[u8], count: u32, ghosts: u32, number: GlobalIndex) -> u32
     position
 }
 
+// The place of a number among consecutive ones, of which that at j is `own`.
+fn place_near(j: u32, own: u32, number: u32) -> u32
+    ensures { λ r. ⌜ r ≡ (j + number + (4294967296 - own)) % 4294967296 ⌝ }
+{
+    (((j as u64) + (number as u64) + (4294967296 - (own as u64))) % 4294967296) as u32
+}
+
+fn ghost_has(part: &[u8], count: u32, ghosts: u32, number: GlobalIndex, position: u32) -> bool
+    requires { ⌜ Ascending (now part) (ghostPlace count 0) ghosts ⌝ }
+    ensures { λ r. ⌜ r ≡ (ltb position ghosts && ghostHas (ghostCore (now (part .entry)) count) (number .0) position) ⌝ }
+{
+    let wanted = number.0;
+    if ghosts <= position {
+        return false;
+    }
+    records::number_of(part, ghost_at(count, position)) == wanted
+}
+
+// As ghost_with, for a neighbour of ghost j, whose number is `own`. Ghosts side by side often have consecutive numbers: the place by that is tried before the search.
+fn ghost_near(
+    part: &[u8],
+    count: u32,
+    ghosts: u32,
+    j: u32,
+    own: GlobalIndex,
+    number: GlobalIndex,
+) -> u32
+    requires { ⌜ Ascending (now part) (ghostPlace count 0) ghosts ⌝ }
+    ensures { λ r. ⌜ r ≡ leastBelow ghosts (ghostHas (ghostCore (now (part .entry)) count) (number .0)) ⌝ }
+{
+    let place = place_near(j, own.0, number.0);
+    if ghost_has(part, count, ghosts, number, place) {
+        return place;
+    }
+    ghost_with(part, count, ghosts, number)
+}
+
 // The neighbour is a tree of the range, another ghost, or not held.
 fn ghost_face(
     part: &[u8],
     first: u32,
     count: u32,
     ghosts: u32,
+    dimension: u32,
     trees: u32,
     j: u32,
     face: u32,
 ) -> bool
     requires { ⌜ PartNumbered (now part) first count ghosts trees × (j < ghosts) × (face < 6) ⌝ }
-    ensures { λ r. ⌜ r ≡ ghostFace first count ghosts (storedTree (now (part .entry))) (ghostCore (now (part .entry)) count) trees j face ⌝ }
+    ensures { λ r. ⌜ r ≡ ghostFace (linkQuick dimension) first count ghosts (storedTree (now (part .entry))) (ghostCore (now (part .entry)) count) trees j face ⌝ }
 {
     let at = ghost_at(count, j);
     let k = records::neighbour_of(part, at, face);
     if in_range(first, first + count, GlobalIndex(k)) {
         let tree = to_local(GlobalIndex(k), GlobalIndex(first));
         let own = ghost_index(count, j);
-        return link_ok(part, own.0, at, face, tree_at(tree));
+        return link_ok(part, dimension, own.0, at, face, tree_at(tree));
     }
-    let position = ghost_with(part, count, ghosts, GlobalIndex(k));
+    let number = records::number_of(part, at);
+    let position = ghost_near(part, count, ghosts, j, GlobalIndex(number), GlobalIndex(k));
     if position < ghosts {
-        let number = records::number_of(part, at);
-        return link_ok(part, number, at, face, ghost_at(count, position));
+        return link_ok(part, dimension, number, at, face, ghost_at(count, position));
     }
     (k < trees) & mesh::inner::orientation_ok(part, at, face)
 }
@@ -273,16 +338,17 @@ fn ghost_faces(
     first: u32,
     count: u32,
     ghosts: u32,
+    dimension: u32,
     trees: u32,
     j: u32,
     faces: u32,
 ) -> bool
     requires { ⌜ PartNumbered (now part) first count ghosts trees × (j < ghosts) × (faces ≤ 6) ⌝ }
-    ensures { λ r. ⌜ r ≡ allBelow faces (ghostFace first count ghosts (storedTree (now (part .entry))) (ghostCore (now (part .entry)) count) trees j) ⌝ }
+    ensures { λ r. ⌜ r ≡ allBelow faces (ghostFace (linkQuick dimension) first count ghosts (storedTree (now (part .entry))) (ghostCore (now (part .entry)) count) trees j) ⌝ }
 {
     let mut face = 0;
     while face < faces {
-        if !ghost_face(part, first, count, ghosts, trees, j, face) {
+        if !ghost_face(part, first, count, ghosts, dimension, trees, j, face) {
             return false;
         }
         face += 1;
@@ -300,7 +366,7 @@ fn ghost_sound(
     j: u32,
 ) -> bool
     requires { ⌜ PartNumbered (now part) first count ghosts trees × (j < ghosts) ⌝ }
-    ensures { λ r. ⌜ r ≡ ghostStored first count ghosts (storedTree (now (part .entry))) (ghostCore (now (part .entry)) count) dimension trees j ⌝ }
+    ensures { λ r. ⌜ r ≡ ghostStored (linkQuick dimension) first count ghosts (storedTree (now (part .entry))) (ghostCore (now (part .entry)) count) dimension trees j ⌝ }
 {
     let at = ghost_at(count, j);
     let shape = records::shape_of(part, at);
@@ -308,7 +374,7 @@ fn ghost_sound(
     records::in_form(part, at, records::number_of(part, at))
         & (records::dimension_of(shape) == dimension)
         & beside(part, at, faces, first, first + count)
-        & ghost_faces(part, first, count, ghosts, trees, j, faces)
+        & ghost_faces(part, first, count, ghosts, dimension, trees, j, faces)
 }
 
 fn ghosts_sound(
@@ -320,7 +386,7 @@ fn ghosts_sound(
     trees: u32,
 ) -> bool
     requires { ⌜ PartNumbered (now part) first count ghosts trees ⌝ }
-    ensures { λ r. ⌜ r ≡ allBelow ghosts (ghostStored first count ghosts (storedTree (now (part .entry))) (ghostCore (now (part .entry)) count) dimension trees) ⌝ }
+    ensures { λ r. ⌜ r ≡ allBelow ghosts (ghostStored (linkQuick dimension) first count ghosts (storedTree (now (part .entry))) (ghostCore (now (part .entry)) count) dimension trees) ⌝ }
 {
     let mut j = 0;
     while j < ghosts {
@@ -341,7 +407,7 @@ fn records_sound(
     trees: u32,
 ) -> bool
     requires { ⌜ PartLaid (now part) first count ghosts trees ⌝ }
-    ensures { λ r. ⌜ r ≡ recordsSound first count ghosts (storedTree (now (part .entry))) (ghostCore (now (part .entry)) count) dimension trees ⌝ }
+    ensures { λ r. ⌜ r ≡ recordsSound (linkQuick dimension) first count ghosts (storedTree (now (part .entry))) (ghostCore (now (part .entry)) count) dimension trees ⌝ }
 {
     if !numbers_sound(part, first, count, ghosts, trees) {
         return false;

@@ -30,13 +30,13 @@ link-ok-requires : tie.Need-link-ok-requires
 link-ok-requires c κs = (omega arith, c .before .before .before .before .before .before .before .before .pre .2, omega (arith, range-last _ _ _ (c .before .before .before .before .in-range .ensures) (c .before .before .before .if1 .taken), c .before .before .to-local .ensures, c .tree-at .ensures))
 
 returns : tie.Need-returns
-returns c = link-local _ _ _ _ _ _ _ (c .before .before .before .before .before .before .before .ghost-at .ensures) (c .before .before .before .before .before .before .neighbour-of .ensures) (c .before .before .before .before .before .in-range .ensures) _ (c .before .before .before .before .if1 .taken) (c .before .before .before .to-local .ensures) (c .before .before .ghost-index .ensures) (c .before .tree-at .ensures) (c .link-ok .ensures)
-
-ghost-with-requires : tie.Need-ghost-with-requires
-ghost-with-requires c κs = ghosts-ascending _ _ _ _ _ (c .before .before .before .before .before .pre .0)
+returns c = link-local _ _ _ _ _ _ _ _ (c .before .before .before .before .before .before .before .ghost-at .ensures) (c .before .before .before .before .before .before .neighbour-of .ensures) (c .before .before .before .before .before .in-range .ensures) _ (c .before .before .before .before .if1 .taken) (c .before .before .before .to-local .ensures) (c .before .before .ghost-index .ensures) (c .before .tree-at .ensures) (c .link-ok .ensures)
 
 number-of-requires : tie.Need-number-of-requires
 number-of-requires c κs = search needs
+
+ghost-near-requires : tie.Need-ghost-near-requires
+ghost-near-requires c κs = ghosts-ascending _ _ _ _ _ (c .before .before .before .before .before .before .pre .0)
 
 ghost-at-requires-2 : tie.Need-ghost-at-requires-2
 ghost-at-requires-2 c κs = search needs
@@ -45,13 +45,13 @@ link-ok-requires-2 : tie.Need-link-ok-requires-2
 link-ok-requires-2 c κs = search needs
 
 returns-2 : tie.Need-returns-2
-returns-2 c = link-held _ _ _ _ _ _ _ (c .before .before .before .before .before .before .before .before .ghost-at .ensures) (c .before .before .before .before .before .before .before .neighbour-of .ensures) (c .before .before .before .before .before .before .in-range .ensures) (c .before .before .before .before .before .if1 .left) (c .before .before .before .before .ghost-with .ensures) (c .before .before .before .if2 .taken) (c .before .before .number-of .ensures) (c .before .ghost-at2 .ensures) (c .link-ok2 .ensures)
+returns-2 c = link-held _ _ _ _ _ _ _ _ (c .before .before .before .before .before .before .before .before .ghost-at .ensures) (c .before .before .before .before .before .before .before .neighbour-of .ensures) (c .before .before .before .before .before .before .in-range .ensures) (c .before .before .before .before .before .if1 .left) (c .before .before .before .ghost-near .ensures) (c .before .before .if2 .taken) (c .before .before .before .before .number-of .ensures) (c .before .ghost-at2 .ensures) (c .link-ok2 .ensures)
 
 orientation-ok-requires : tie.Need-orientation-ok-requires
 orientation-ok-requires c κs = search needs
 
 returns-3 : tie.Need-returns-3
-returns-3 c = link-free _ _ _ _ _ _ _ (c .before .before .before .before .before .before .ghost-at .ensures) (c .before .before .before .before .before .neighbour-of .ensures) (c .before .before .before .before .in-range .ensures) (c .before .before .before .if1 .left) (c .before .before .ghost-with .ensures) (c .before .if2 .left) (c .orientation-ok .ensures)
+returns-3 c = link-free _ _ _ _ _ _ _ _ (c .before .before .before .before .before .before .before .ghost-at .ensures) (c .before .before .before .before .before .before .neighbour-of .ensures) (c .before .before .before .before .before .in-range .ensures) (c .before .before .before .before .if1 .left) (c .before .before .ghost-near .ensures) (c .before .if2 .left) (c .orientation-ok .ensures)
 
 pub ghost-face-spec : {M : Type 1} → statement M
 ghost-face-spec =
@@ -66,8 +66,8 @@ ghost-face-spec =
     tree-at-requires
     link-ok-requires
     returns
-    ghost-with-requires
     number-of-requires
+    ghost-near-requires
     ghost-at-requires-2
     link-ok-requires-2
     returns-2

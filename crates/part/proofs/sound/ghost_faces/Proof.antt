@@ -1,4 +1,4 @@
-use Rattle.part.specs.Mirror.{ghostCore, ghostFace}
+use Rattle.part.specs.Mirror.{linkQuick, ghostCore, ghostFace}
 use Rattle.part.specs.Part.{storedTree}
 use Rattle.encoding.proofs.Below.{all-more, all-fails, all-to}
 use Rattle.encoding.specs.Below.{allBelow}
@@ -12,10 +12,10 @@ use Rattle.part.proofs.sound.ghost_faces.Statement.{statement}
 use Rattle.part.proofs.sound.ghost_faces.Tie as tie
 
 abbrev Inv-loop : tie.InvT-loop
-Inv-loop part first count ghosts trees j faces face₀ face = (face ≤ faces) × (allBelow face (ghostFace first count ghosts (storedTree part) (ghostCore part count) trees j) ≡ true)
+Inv-loop part first count ghosts dimension trees j faces face₀ face = (face ≤ faces) × (allBelow face (ghostFace (linkQuick dimension) first count ghosts (storedTree part) (ghostCore part count) trees j) ≡ true)
 
 abbrev μ-loop : tie.MeasureT-loop
-μ-loop part first count ghosts trees j faces face₀ face = faces - face
+μ-loop part first count ghosts dimension trees j faces face₀ face = faces - face
 
 loop-holds : tie.Need-loop-holds Inv-loop μ-loop
 unfolding allBelow

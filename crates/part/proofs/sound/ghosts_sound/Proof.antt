@@ -1,4 +1,4 @@
-use Rattle.part.specs.Mirror.{ghostCore, ghostStored}
+use Rattle.part.specs.Mirror.{linkQuick, ghostCore, ghostStored}
 use Rattle.part.specs.Part.{storedTree}
 use Rattle.encoding.proofs.Below.{all-more, all-fails, all-to}
 use Rattle.encoding.specs.Below.{allBelow}
@@ -12,7 +12,7 @@ use Rattle.part.proofs.sound.ghosts_sound.Statement.{statement}
 use Rattle.part.proofs.sound.ghosts_sound.Tie as tie
 
 abbrev Inv-loop : tie.InvT-loop
-Inv-loop part first count ghosts dimension trees j₀ j = (j ≤ ghosts) × (allBelow j (ghostStored first count ghosts (storedTree part) (ghostCore part count) dimension trees) ≡ true)
+Inv-loop part first count ghosts dimension trees j₀ j = (j ≤ ghosts) × (allBelow j (ghostStored (linkQuick dimension) first count ghosts (storedTree part) (ghostCore part count) dimension trees) ≡ true)
 
 abbrev μ-loop : tie.MeasureT-loop
 μ-loop part first count ghosts dimension trees j₀ j = ghosts - j

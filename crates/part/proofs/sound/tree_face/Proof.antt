@@ -16,7 +16,7 @@ link-ok-requires : tie.Need-link-ok-requires
 link-ok-requires c κs = search needs
 
 returns : tie.Need-returns
-returns c = face-tree _ _ (c .before .before .before .before .tree-at .ensures) _ _ _ (c .before .before .before .neighbour-of .ensures) (c .before .before .if1 .taken) (c .before .tree-at2 .ensures) (c .link-ok .ensures)
+returns c = face-tree _ _ (c .before .before .before .before .tree-at .ensures) _ _ _ _ (c .before .before .before .neighbour-of .ensures) (c .before .before .if1 .taken) (c .before .tree-at2 .ensures) (c .link-ok .ensures)
 
 number-of-requires : tie.Need-number-of-requires
 number-of-requires c κs = search needs
@@ -28,10 +28,10 @@ link-ok-requires-2 : tie.Need-link-ok-requires-2
 link-ok-requires-2 c κs = search needs
 
 returns-2 : tie.Need-returns-2
-returns-2 c = face-ghost _ _ (c .before .before .before .before .before .before .tree-at .ensures) _ _ _ (c .before .before .before .before .before .neighbour-of .ensures) (c .before .before .before .before .if1 .left) (c .before .before .before .if2 .taken) (c .before .before .number-of .ensures) (c .before .ghost-at .ensures) (c .link-ok2 .ensures)
+returns-2 c = face-ghost _ _ (c .before .before .before .before .before .before .tree-at .ensures) _ _ _ _ (c .before .before .before .before .before .neighbour-of .ensures) (c .before .before .before .before .if1 .left) (c .before .before .before .if2 .taken) (c .before .before .number-of .ensures) (c .before .ghost-at .ensures) (c .link-ok2 .ensures)
 
 returns-3 : tie.Need-returns-3
-returns-3 c = face-none _ _ (c .before .before .before .tree-at .ensures) _ _ _ (c .before .before .neighbour-of .ensures) (c .before .if1 .left) (c .if2 .left)
+returns-3 c = face-none _ _ (c .before .before .before .tree-at .ensures) _ _ _ _ (c .before .before .neighbour-of .ensures) (c .before .if1 .left) (c .if2 .left)
 
 pub tree-face-spec : {M : Type 1} → statement M
 tree-face-spec =

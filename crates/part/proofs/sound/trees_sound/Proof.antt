@@ -1,4 +1,4 @@
-use Rattle.part.specs.Mirror.{ghostCore, treeStored}
+use Rattle.part.specs.Mirror.{linkQuick, ghostCore, treeStored}
 use Rattle.part.specs.Part.{storedTree}
 use Rattle.encoding.proofs.Below.{all-more, all-fails, all-to}
 use Rattle.encoding.specs.Below.{allBelow}
@@ -12,7 +12,7 @@ use Rattle.part.proofs.sound.trees_sound.Statement.{statement}
 use Rattle.part.proofs.sound.trees_sound.Tie as tie
 
 abbrev Inv-loop : tie.InvT-loop
-Inv-loop part count ghosts dimension i₀ i = (i ≤ count) × (allBelow i (treeStored count ghosts (storedTree part) (ghostCore part count) dimension) ≡ true)
+Inv-loop part count ghosts dimension i₀ i = (i ≤ count) × (allBelow i (treeStored (linkQuick dimension) count ghosts (storedTree part) (ghostCore part count) dimension) ≡ true)
 
 abbrev μ-loop : tie.MeasureT-loop
 μ-loop part count ghosts dimension i₀ i = count - i

@@ -504,8 +504,14 @@ fn every_order(run: &mut Run) {
     assert!(of_senders[1..=5].iter().all(|&number| number >= 4), "{of_senders:?}");
 }
 
+/// A checkpoint's fingerprint of a part (FNV-1a, 64 bits).
+fn fingerprint(bytes: &[u8]) -> u64 {
+    bytes.iter().fold(0xcbf2_9ce4_8422_2325, |hash, &byte| (hash ^ u64::from(byte)).wrapping_mul(0x100_0000_01b3))
+}
+
+/// 3,000 orders, each with a repeat somewhere: the areas, the parts and their fingerprints are equal.
 fn many_senders(run: &mut Run) {
-    run.cases(20, |random, calls| {
+    run.cases(60, |random, calls| {
         let (ranks, trees) = (random.number(6, 24), random.number(20, 50));
         let mut case = Case::random(random, trees as usize, ranks as usize);
         let q = random.number(0, ranks - 1);
@@ -517,18 +523,28 @@ fn many_senders(run: &mut Run) {
         assert!(messages.len() > 5);
         let last = after(&case.fresh(q), &messages);
         let part = case.new_part(q);
-        for _ in 0..12 {
+        let mut fingerprints = BTreeSet::new();
+        for _ in 0..50 {
             let mut order: Vec<usize> = (0..messages.len()).collect();
             for at in (1..order.len()).rev() {
                 order.swap(at, random.below(at as u64 + 1) as usize);
             }
             let mut area = case.fresh(q);
-            for next in order {
-                area = calls.deliver(&area, &messages[next]).1;
+            let repeat = random.below(order.len() as u64) as usize;
+            for (at, next) in order.into_iter().enumerate() {
+                let (got, now) = calls.deliver(&area, &messages[next]);
+                assert_eq!(got, 0);
+                area = now;
+                if at == repeat {
+                    assert_eq!(calls.deliver(&area, &messages[next]), (15, area.clone()));
+                }
             }
             assert!(area == last, "another order, another area");
-            assert_eq!(calls.close_area(&area, &vec![0; part.len()]).1, part);
+            let joined = calls.close_area(&area, &vec![0; part.len()]).1;
+            assert_eq!(joined, part);
+            fingerprints.insert(fingerprint(&joined));
         }
+        assert_eq!(fingerprints.len(), 1);
     });
 }
 

@@ -8,8 +8,9 @@ use mathlib.Core.List.{List, [], _∷_, _++_, map}
 use lib.Dec.{ltb, eqb}
 use lib.ListN.{length}
 use lib.Seq.{take-add, take-all}
-use borrow.Author.Tests.{lt-ltb, eq-eqb}
+use borrow.Author.Tests.{lt-ltb, eq-eqb, le-leb}
 use Rattle.encoding.specs.Pieces.{piece, splice, Bytes}
+use Rattle.encoding.specs.Answer.{writeAnswer}
 use Rattle.encoding.specs.Refusal.{check, firstFailed}
 use Rattle.encoding.proofs.Pieces.{piece-length, piece-same, piece-above, length-splice}
 use Rattle.offsets.specs.Table.{ranks, trees, firstTree, treeCount, endTree, holds}
@@ -32,7 +33,7 @@ use Rattle.part.proofs.Trees.{rows-core}
 use Rattle.part_laws.proofs.CutRead.{cut-dimension, cut-first, cut-end, cut-record, cut-stored, cut-data}
 use Rattle.part_laws.proofs.CutSound.{holds-range, local-below, cut-global, cut-holds, cut-core, cut-sound}
 use Rattle.message.specs.Build.{partRecord, partMessage, meshMessage}
-use Rattle.message.specs.Calls.{buildChecks}
+use Rattle.message.specs.Calls.{buildChecks, buildMessageOf}
 use Rattle.message.proofs.Messages.{HasPart, rule-from-part}
 use Rattle.repartition.specs.Lists.{Setting, messageOf}
 
@@ -184,3 +185,11 @@ module _ (mesh old new : List ℕ) (rank epoch : ℕ) (S : Setting mesh old new 
     build-refusal =
         let T = S .tables in
         rw (T .oldRanks, T .newRanks, T .oldValid, T .newValid, eq-eqb (ranks old) (ranks new) (sym (T .sameRanks)), eq-eqb (trees old) (trees new) (sym (T .sameTrees)), lt-ltb p (ranks old) l, lt-ltb q (ranks old) r, cut-sound mesh old p (old-cuttable p l) (S .mesh-bytes) (T .oldBytes))
+
+    -- where p sends q a tree, it writes that message into any buffer that is long enough
+    pub built-bytes : sendsTo old new p q ≡ true → (out : List ℕ) → length (messageOf mesh old new rank epoch p q) ≤ length out
+        → buildMessageOf (cutPart mesh old p) old new p q epoch out ≡ writeAnswer 0 (messageOf mesh old new rank epoch p q) out
+    unfolding buildMessageOf buildChecks tableChecks firstFailed messageOf
+    built-bytes sent out room =
+        let T = S .tables in
+        rw (T .oldRanks, T .newRanks, T .oldValid, T .newValid, eq-eqb (ranks old) (ranks new) (sym (T .sameRanks)), eq-eqb (trees old) (trees new) (sym (T .sameTrees)), lt-ltb p (ranks old) l, lt-ltb q (ranks old) r, cut-sound mesh old p (old-cuttable p l) (S .mesh-bytes) (T .oldBytes), sent, le-leb (length (messageOf mesh old new rank epoch p q)) (length out) room)

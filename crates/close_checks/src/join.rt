@@ -6,16 +6,123 @@ use records::index::GlobalIndex;
 use records::index::LocalIndex;
 use records::index::to_local;
 ghost use mathlib.Core.Path.{_≡_};
-ghost use Prim.Native.Nat.{_+_, _≤_, _<_};
+ghost use mathlib.Core.Bool.{false, _&&_};
+ghost use Prim.Native.Nat.{_+_, _-_, _%_, _≤_, _<_};
+ghost use lib.Dec.{ltb};
 ghost use lib.ListN.{length};
 ghost use Rattle.encoding.specs.Below.{allBelow};
 ghost use Rattle.encoding.specs.Pieces.{piece};
 ghost use Rattle.records.specs.Record.{coreSize};
-ghost use Rattle.part.specs.Mirror.{linkQuick};
+ghost use Rattle.part.specs.Mirror.{inRange, ghostHas, linkQuick};
 ghost use Rattle.assembly.specs.Close.{joinSound};
-ghost use Rattle.close_checks.specs.Mirror.{Slots, placeOf, linkOfTree, linkOfGhost, treeJoins, ghostJoins, recordsJoin, Complete};
+ghost use Rattle.close_checks.specs.Mirror.{ghostFrom, Slots, placeOf, linkOfTree, linkOfGhost, treeJoins, ghostJoins, recordsJoin, Complete};
 
-// Where the record with the number begins, a tree by subtraction, a ghost by halves; 0 where no slot has it.
+// The place of a number among consecutive ones, of which that at j is `own`.
+fn place_near(j: u32, own: u32, number: u32) -> u32
+    ensures { λ r. ⌜ r ≡ (j + number + (4294967296 - own)) % 4294967296 ⌝ }
+{
+    (((j as u64) + (number as u64) + (4294967296 - (own as u64))) % 4294967296) as u32
+}
+
+fn ghost_has(
+    area: &[u8],
+    at: usize,
+    first: u32,
+    count: u32,
+    ghosts: u32,
+    number: GlobalIndex,
+    position: u32,
+) -> bool
+    requires { ⌜ Slots (now area) at first count ghosts ⌝ }
+    ensures { λ r. ⌜ r ≡ (ltb position ghosts && ghostHas (ghostFrom (now (area .entry)) at count) (number .0) position) ⌝ }
+{
+    let wanted = number.0;
+    if ghosts <= position {
+        return false;
+    }
+    let from = at + 64 * (count as usize) + 40 * (position as usize);
+    records::number_of(area, from) == wanted
+}
+
+// Where the ghost with the number begins, by halves; 0 where none has it.
+fn ghost_search(
+    area: &[u8],
+    at: usize,
+    first: u32,
+    count: u32,
+    ghosts: u32,
+    number: GlobalIndex,
+) -> usize
+    requires { ⌜ Slots (now area) at first count ghosts × (inRange first (first + count) (number .0) ≡ false) ⌝ }
+    ensures { λ r. ⌜ r ≡ placeOf (now (area .entry)) at first count ghosts (number .0) ⌝ }
+{
+    let k = number.0;
+    let ghosts_at = at + 64 * (count as usize);
+    let position = find_ghost(area, ghosts_at, ghosts, number);
+    if ghosts <= position {
+        return 0;
+    }
+    let to = ghosts_at + 40 * (position as usize);
+    if records::number_of(area, to) != k {
+        return 0;
+    }
+    to
+}
+
+// The same; `near` is tried before the search.
+fn ghost_near(
+    area: &[u8],
+    at: usize,
+    first: u32,
+    count: u32,
+    ghosts: u32,
+    number: GlobalIndex,
+    near: u32,
+) -> usize
+    requires { ⌜ Slots (now area) at first count ghosts × (inRange first (first + count) (number .0) ≡ false) ⌝ }
+    ensures { λ r. ⌜ r ≡ placeOf (now (area .entry)) at first count ghosts (number .0) ⌝ }
+{
+    if ghost_has(area, at, first, count, ghosts, number, near) {
+        return at + 64 * (count as usize) + 40 * (near as usize);
+    }
+    ghost_search(area, at, first, count, ghosts, number)
+}
+
+// The same. A number below the first ghost's or above the last one's isn't held. Else, since the ghosts below the range often have consecutive numbers, and so have those above it, the place by that is tried first.
+fn ghost_place(
+    area: &[u8],
+    at: usize,
+    first: u32,
+    count: u32,
+    ghosts: u32,
+    number: GlobalIndex,
+) -> usize
+    requires { ⌜ Slots (now area) at first count ghosts × (inRange first (first + count) (number .0) ≡ false) ⌝ }
+    ensures { λ r. ⌜ r ≡ placeOf (now (area .entry)) at first count ghosts (number .0) ⌝ }
+{
+    let k = number.0;
+    if ghosts == 0 {
+        return 0;
+    }
+    let last = ghosts - 1;
+    let ghosts_at = at + 64 * (count as usize);
+    let low = records::number_of(area, ghosts_at);
+    if k < low {
+        return 0;
+    }
+    let high = records::number_of(area, ghosts_at + 40 * (last as usize));
+    if high < k {
+        return 0;
+    }
+    if k < first {
+        let near = place_near(0, low, k);
+        return ghost_near(area, at, first, count, ghosts, number, near);
+    }
+    let near = place_near(last, high, k);
+    ghost_near(area, at, first, count, ghosts, number, near)
+}
+
+// Where the record with the number begins, a tree by subtraction; 0 where no slot has it.
 fn place_of(
     area: &[u8],
     at: usize,
@@ -27,22 +134,12 @@ fn place_of(
     requires { ⌜ Slots (now area) at first count ghosts ⌝ }
     ensures { λ r. ⌜ r ≡ placeOf (now (area .entry)) at first count ghosts (number .0) ⌝ }
 {
-    let k = number.0;
     if in_range(first, first + count, number) {
         let tree = to_local(number, GlobalIndex(first));
         let i = tree.0;
         return at + 64 * (i as usize);
     }
-    let ghosts_at = at + 64 * (count as usize);
-    let position = find_ghost(area, ghosts_at, ghosts, number);
-    if ghosts <= position {
-        return 0;
-    }
-    let to = ghosts_at + 40 * (position as usize);
-    if records::number_of(area, to) != k {
-        return 0;
-    }
-    to
+    ghost_place(area, at, first, count, ghosts, number)
 }
 
 // The rule of a link between two records, read by the dimension. The neighbour's link leads back to the number.

@@ -8,16 +8,18 @@ use lib.Dec.{eqb}
 use lib.ListN.{length}
 use borrow.Author.Tests.{eqb-true, eqb-false, eq-eqb, lt-ltb}
 use Rattle.encoding.specs.Pieces.{Bytes}
-use Rattle.encoding.proofs.Below.{and-snd, either, all-at, all-same, any-intro}
+use Rattle.encoding.proofs.Below.{and-fst, and-snd, either, all-at, all-same, any-intro}
 use Rattle.offsets.specs.Limits.{maxTrees}
 use Rattle.offsets.specs.Table.{ranks, trees, firstTree, endTree, treeCount, holds}
 use Rattle.offsets.proofs.Tables.{count-add, trees-high}
 use Rattle.pattern.specs.Sender.{sender}
 use Rattle.pattern.specs.Sets.{getsFrom}
 use Rattle.pattern.proofs.Senders.{sender-lt}
-use Rattle.records.specs.Record.{numberOf, inForm}
-use Rattle.part.specs.View.{isLocal, localSound, ghostAfter, ghostBeside, ghostSound, viewSound}
-use Rattle.part.specs.Mirror.{inRange, neighbourIn}
+use Rattle.records.specs.Shape.{faceCount}
+use Rattle.records.specs.Record.{numberOf, shapeOf, inForm}
+use Rattle.records.proofs.Forms.{form-shape}
+use Rattle.part.specs.View.{isLocal, treeLink, ghostLink, localSound, ghostAfter, ghostBeside, ghostSound, viewSound}
+use Rattle.part.specs.Mirror.{inRange, neighbourIn, linkBetween, linkQuick}
 use Rattle.assembly.specs.Layout.{slotsPlace, ghostSlotsPlace}
 use Rattle.assembly.specs.Area.{areaDimension, areaK, areaP, areaRank, areaCount, areaGhosts, areaOld, areaNew, areaFirst, heard, treeSlotCore, ghostSlot, dueHeard, treeSlotSound, areaSound}
 use Rattle.assembly.specs.Close.{allHeard, joinSound}
@@ -29,6 +31,8 @@ use Rattle.assembly.proofs.Progressing.{sound-holds}
 use Rattle.assembly_laws.proofs.Kept.{Ghosts}
 use Rattle.assembly_laws.proofs.Again.{area-parts, sound-ghosts}
 use Rattle.close_checks.specs.Mirror.{treeFrom, ghostFrom, Slots, linkOfTree, linkOfGhost, treeJoins, ghostJoins, recordsJoin, Complete}
+use Rattle.close_checks.proofs.Links.{tree-link-is, ghost-link-is}
+use Rattle.close_checks.proofs.Quick.{records-quick}
 
 module _ (a : List ℕ) (bytes : Bytes a) (sound : areaSound a ≡ true) where
   H : HeaderHolds a
@@ -85,11 +89,6 @@ module _ (a : List ℕ) (bytes : Bytes a) (sound : areaSound a ≡ true) where
       (λ e. let z : (j ≡ 0 → ⊥) = eqb-false j 0 e in
       rw e (lt-ltb (numberOf (ghostly (j - 1))) (numberOf (ghostly j)) (held-ghosts .ascends (j - 1) j (omega arith) h)))
 
-  ghost-same : (D j : ℕ) → j < areaGhosts a → ghostSound first n g tree ghostly D (areaK a) j ≡ ghostJoins a at first n g D (areaK a) j
-  unfolding ghostSound ghostJoins ghostBeside linkOfGhost neighbourIn isLocal inRange
-  ghost-same D j h =
-      rw (held-ghosts .form j h, lt-ltb (numberOf (ghostly j)) (areaK a) (held-ghosts .below j h), ghost-outside j h, ghost-behind j h)
-
   -- ---- the trees
 
   module _ (all : allHeard a ≡ true) where
@@ -122,9 +121,24 @@ module _ (a : List ℕ) (bytes : Bytes a) (sound : areaSound a ≡ true) where
           ascends = held-ghosts .ascends;
         }
 
-    tree-same : (D i : ℕ) → i < areaCount a → localSound first n g tree ghostly D i ≡ treeJoins a at first n g D i
-    unfolding localSound treeJoins linkOfTree
-    tree-same D i h = rw (tree-slot i h)
+    tree-same : (D i : ℕ) → i < areaCount a → localSound first n g tree ghostly D i ≡ treeJoins linkBetween a at first n g D i
+    unfolding localSound treeJoins
+    tree-same D i h =
+        rw (
+          tree-slot i h,
+          all-same (faceCount (shapeOf (tree i))) (treeLink first n g tree ghostly (first + i)) (linkOfTree linkBetween a at first n g i) (λ f l. tree-link-is a at first n g area-slots i h f),
+        )
+
+    ghost-same : (D j : ℕ) → j < areaGhosts a → ghostSound first n g tree ghostly D (areaK a) j ≡ ghostJoins linkBetween a at first n g D (areaK a) j
+    unfolding ghostSound ghostJoins ghostBeside neighbourIn isLocal inRange
+    ghost-same D j h =
+        rw (
+          held-ghosts .form j h,
+          lt-ltb (numberOf (ghostly j)) (areaK a) (held-ghosts .below j h),
+          ghost-outside j h,
+          ghost-behind j h,
+          all-same (faceCount (shapeOf (ghostly j))) (ghostLink first n g tree ghostly (areaK a) (numberOf (ghostly j))) (linkOfGhost linkBetween a at first n g (areaK a) j) (λ f l. ghost-link-is a at first n g area-slots j h (areaK a) f),
+        )
 
     -- ---- the part
 
@@ -132,13 +146,16 @@ module _ (a : List ℕ) (bytes : Bytes a) (sound : areaSound a ≡ true) where
     unfolding joinSound treeSlotCore ghostSlot ghostSlotsPlace treeFrom ghostFrom
     join-view = refl
 
-    pub join-is : joinSound a ≡ recordsJoin a at first n g (areaDimension a) (areaK a)
+    pub join-is : joinSound a ≡ recordsJoin (linkQuick (areaDimension a)) a at first n g (areaDimension a) (areaK a)
     unfolding viewSound recordsJoin
     join-is =
         join-view
         ∙ ap₂ (λ (x y : Bool). x && y)
-        (all-same n (localSound first n g tree ghostly (areaDimension a)) (treeJoins a at first n g (areaDimension a)) (tree-same (areaDimension a)))
-        (all-same g (ghostSound first n g tree ghostly (areaDimension a) (areaK a)) (ghostJoins a at first n g (areaDimension a) (areaK a)) (ghost-same (areaDimension a)))
+        (all-same n (localSound first n g tree ghostly (areaDimension a)) (treeJoins linkBetween a at first n g (areaDimension a)) (tree-same (areaDimension a)))
+        (all-same g (ghostSound first n g tree ghostly (areaDimension a) (areaK a)) (ghostJoins linkBetween a at first n g (areaDimension a) (areaK a)) (ghost-same (areaDimension a)))
+        ∙ sym (records-quick (areaDimension a) a at first n g (areaK a)
+        (λ i h. form-shape (first + i) (tree i) (and-fst (inForm (first + i) (tree i)) (eqb (numberOf (tree i)) (first + i)) (tree-slot i h)))
+        (λ j h. form-shape (numberOf (ghostly j)) (ghostly j) (held-ghosts .form j h)))
 
 -- the same with what the code has read
 module _ (a new : List ℕ) (bytes : Bytes a) (C : Complete a new) {rank first : ℕ} (is-rank : rank ≡ areaRank a) (is-first : first ≡ firstTree new rank) where
@@ -153,7 +170,7 @@ module _ (a new : List ℕ) (bytes : Bytes a) (C : Complete a new) {rank first :
     pub slots-read : Slots a at first n g
     slots-read = rw (is-at, is-P, first-is, is-n, is-g) (area-slots a bytes (C .sound) (C .all))
 
-    pub join-read : {D K : ℕ} {r : Bool} → D ≡ areaDimension a → K ≡ areaK a → r ≡ recordsJoin a at first n g D K → r ≡ joinSound a
+    pub join-read : {D K : ℕ} {r : Bool} → D ≡ areaDimension a → K ≡ areaK a → r ≡ recordsJoin (linkQuick D) a at first n g D K → r ≡ joinSound a
     join-read d k e = e ∙ rw (is-at, is-P, first-is, is-n, is-g, d, k) (sym (join-is a bytes (C .sound) (C .all)))
 
 -- the new table has the rank's entries

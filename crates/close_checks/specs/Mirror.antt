@@ -3,15 +3,16 @@ use Prim.Native.Nat.{ℕ, _+_, _-_, _*_, _≤_, _<_}
 use mathlib.Core.Path.{_≡_}
 use mathlib.Core.Bool.{Bool, true, false, cond, _&&_}
 use mathlib.Core.List.{List}
-use lib.Dec.{eqb}
+use lib.Dec.{ltb, eqb}
 use lib.ListN.{length}
 use Rattle.encoding.specs.Below.{allBelow, anyBelow, leastBelow}
 use Rattle.encoding.specs.Pieces.{piece}
 use Rattle.offsets.specs.Limits.{maxTrees}
 use Rattle.pattern.specs.Sets.{getsFrom}
 use Rattle.records.specs.Shape.{dimensionOf, faceCount}
-use Rattle.records.specs.Record.{coreSize, treeSize, numberOf, shapeOf}
-use Rattle.part.specs.View.{treeLink, ghostLink}
+use Rattle.records.specs.Record.{coreSize, treeSize, numberOf, shapeOf, neighbourOf}
+use Rattle.mesh.specs.Link.{orientationOk}
+use Rattle.part.specs.View.{held, heldCore}
 use Rattle.part.specs.Mirror.{inRange, neighbourIn, ghostHas}
 use Rattle.assembly.specs.Area.{areaRank, areaOld, areaNew, heard, areaSound}
 use Rattle.assembly.specs.Close.{allHeard}
@@ -47,13 +48,26 @@ module _ (a : List ℕ) (at first n g : ℕ) where
       cond (inRange first (first + n) k) (at + treeSize * (k - first))
       (cond (anyBelow g (ghostHas (ghostFrom a at n) k)) (at + treeSize * n + coreSize * leastBelow g (ghostHas (ghostFrom a at n) k)) 0)
 
-  -- the link of face f of tree i
+-- the tests of the records, by either rule of a link: part's linkBetween, or its linkQuick, which reads links by the dimension; proofs/Quick.antt: over all records both find the same
+module _ (link : ℕ → List ℕ → ℕ → List ℕ → Bool) (a : List ℕ) (at first n g : ℕ) where
+  -- the link of face f of tree i to tree k
+  unfoldable pub treeTo : ℕ → ℕ → ℕ → Bool
+  treeTo i f k =
+      held first n g (treeFrom a at) (ghostFrom a at n) k
+      && link (first + i) (treeFrom a at i) f (heldCore first n g (treeFrom a at) (ghostFrom a at n) k)
+
   unfoldable pub linkOfTree : ℕ → ℕ → Bool
-  linkOfTree i f = treeLink first n g (treeFrom a at) (ghostFrom a at n) (first + i) f
+  linkOfTree i f = treeTo i f (neighbourOf (treeFrom a at i) f)
 
   -- and of ghost j
+  unfoldable pub ghostTo : ℕ → ℕ → ℕ → ℕ → Bool
+  ghostTo K j f k =
+      cond (held first n g (treeFrom a at) (ghostFrom a at n) k)
+      (link (numberOf (ghostFrom a at n j)) (ghostFrom a at n j) f (heldCore first n g (treeFrom a at) (ghostFrom a at n) k))
+      (ltb k K && orientationOk (ghostFrom a at n j) f)
+
   unfoldable pub linkOfGhost : ℕ → ℕ → ℕ → Bool
-  linkOfGhost K j f = ghostLink first n g (treeFrom a at) (ghostFrom a at n) K (numberOf (ghostFrom a at n j)) f
+  linkOfGhost K j f = ghostTo K j f (neighbourOf (ghostFrom a at n j) f)
 
   -- tree i, but for what a sound area says of it
   unfoldable pub treeJoins : ℕ → ℕ → Bool

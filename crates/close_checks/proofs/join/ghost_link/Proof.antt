@@ -25,7 +25,7 @@ orientation-ok-requires : tie.Need-orientation-ok-requires
 orientation-ok-requires c κs = search needs
 
 returns : tie.Need-returns
-returns c = ghost-none _ _ _ _ _ (c .before .before .before .before .before .pre .0) _ (c .before .before .before .before .before .pre .1) _ _ (c .before .before .before .neighbour-of .ensures) (c .before .before .place-of .ensures) (c .before .if1 .taken) (c .orientation-ok .ensures)
+returns c = ghost-none _ _ _ _ _ (c .before .before .before .before .before .pre .0) _ (c .before .before .before .before .before .pre .1) _ _ _ (c .before .before .before .neighbour-of .ensures) (c .before .before .place-of .ensures) (c .before .if1 .taken) (c .orientation-ok .ensures)
 
 number-of-requires : tie.Need-number-of-requires
 number-of-requires c κs = search needs
@@ -34,7 +34,7 @@ link-ok-requires : tie.Need-link-ok-requires
 link-ok-requires c κs = (search needs, search needs, to-fits _ _ _ _ _ (c .before .before .before .before .before .pre .0) _ (c .before .before .place-of .ensures) (c .before .if1 .left))
 
 returns-2 : tie.Need-returns-2
-returns-2 c = ghost-some _ _ _ _ _ (c .before .before .before .before .before .before .pre .0) _ (c .before .before .before .before .before .before .pre .1) _ _ (c .before .before .before .before .neighbour-of .ensures) (c .before .before .before .place-of .ensures) (c .before .before .if1 .left) (c .before .number-of .ensures) (c .link-ok .ensures)
+returns-2 c = ghost-some _ _ _ _ _ (c .before .before .before .before .before .before .pre .0) _ (c .before .before .before .before .before .before .pre .1) _ _ _ (c .before .before .before .before .neighbour-of .ensures) (c .before .before .before .place-of .ensures) (c .before .before .if1 .left) (c .before .number-of .ensures) (c .link-ok .ensures)
 
 pub ghost-link-spec : {M : Type 1} → statement M
 ghost-link-spec =

@@ -5,16 +5,17 @@ use native.Mathlib.Omega.{arith}
 use borrow.Author.Tests.{not-true, not-false}
 use Rattle.encoding.specs.Below.{allBelow}
 use Rattle.encoding.proofs.Below.{all-more, all-fails, all-to}
+use Rattle.part.specs.Mirror.{linkQuick}
 use Rattle.close_checks.specs.Mirror.{linkOfGhost}
 use borrow.Author.Needs.{needs}
 use Rattle.close_checks.proofs.join.ghost_links.Statement.{statement}
 use Rattle.close_checks.proofs.join.ghost_links.Tie as tie
 
 abbrev Inv-loop : tie.InvT-loop
-Inv-loop area at first count ghosts trees j faces face₀ face = (face ≤ faces) × (allBelow face (linkOfGhost area at first count ghosts trees j) ≡ true)
+Inv-loop area at first count ghosts dimension trees j faces face₀ face = (face ≤ faces) × (allBelow face (linkOfGhost (linkQuick dimension) area at first count ghosts trees j) ≡ true)
 
 abbrev μ-loop : tie.MeasureT-loop
-μ-loop area at first count ghosts trees j faces face₀ face = faces - face
+μ-loop area at first count ghosts dimension trees j faces face₀ face = faces - face
 
 loop-holds : tie.Need-loop-holds Inv-loop μ-loop
 unfolding allBelow

@@ -5,13 +5,14 @@ use native.Mathlib.Omega.{arith}
 use borrow.Author.Tests.{not-true, not-false}
 use Rattle.encoding.specs.Below.{allBelow}
 use Rattle.encoding.proofs.Below.{all-more, all-fails, all-to}
+use Rattle.part.specs.Mirror.{linkQuick}
 use Rattle.close_checks.specs.Mirror.{ghostJoins}
 use borrow.Author.Needs.{needs}
 use Rattle.close_checks.proofs.join.ghosts_join.Statement.{statement}
 use Rattle.close_checks.proofs.join.ghosts_join.Tie as tie
 
 abbrev Inv-loop : tie.InvT-loop
-Inv-loop area at first count ghosts dimension trees j₀ j = (j ≤ ghosts) × (allBelow j (ghostJoins area at first count ghosts dimension trees) ≡ true)
+Inv-loop area at first count ghosts dimension trees j₀ j = (j ≤ ghosts) × (allBelow j (ghostJoins (linkQuick dimension) area at first count ghosts dimension trees) ≡ true)
 
 abbrev μ-loop : tie.MeasureT-loop
 μ-loop area at first count ghosts dimension trees j₀ j = ghosts - j

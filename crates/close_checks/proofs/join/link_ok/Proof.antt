@@ -1,21 +1,17 @@
-use Rattle.part.specs.Mirror.{linkBetween}
+use Rattle.part.specs.Mirror.{linkQuick}
 use borrow.Author.Needs.{needs}
 use Rattle.close_checks.proofs.join.link_ok.Statement.{statement}
 use Rattle.close_checks.proofs.join.link_ok.Tie as tie
 
-orientation-ok-requires : tie.Need-orientation-ok-requires
-orientation-ok-requires c κs = search needs
+corners-quick-requires : tie.Need-corners-quick-requires
+corners-quick-requires c κs = search needs
 
-same-corners-requires : tie.Need-same-corners-requires
-same-corners-requires c κs = search needs
-
-answered-requires : tie.Need-answered-requires
-answered-requires c κs = search needs
+answered-quick-requires : tie.Need-answered-quick-requires
+answered-quick-requires c κs = search needs
 
 returns : tie.Need-returns
-unfolding linkBetween
-returns c = rw (c .before .before .orientation-ok .ensures, c .before .same-corners .ensures, c .answered .ensures)
+unfolding linkQuick
+returns c = rw (c .before .corners-quick .ensures, c .answered-quick .ensures)
 
 pub link-ok-spec : {M : Type 1} → statement M
-link-ok-spec =
-    tie.close (tie.spec orientation-ok-requires same-corners-requires answered-requires returns)
+link-ok-spec = tie.close (tie.spec corners-quick-requires answered-quick-requires returns)

@@ -25,10 +25,10 @@ link-ok-requires : tie.Need-link-ok-requires
 link-ok-requires c κs = (search needs, search needs, to-fits _ _ _ _ _ (c .before .before .before .before .before .pre .0) _ (c .before .before .place-of .ensures) (c .before .if1 .taken))
 
 returns : tie.Need-returns
-returns c = tree-some _ _ _ _ _ (c .before .before .before .before .before .before .pre .0) _ (c .before .before .before .before .before .before .pre .1) _ (c .before .before .before .before .neighbour-of .ensures) (c .before .before .before .place-of .ensures) (c .before .before .if1 .taken) (c .before .number-of .ensures) (c .link-ok .ensures)
+returns c = tree-some _ _ _ _ _ (c .before .before .before .before .before .before .pre .0) _ (c .before .before .before .before .before .before .pre .1) _ _ (c .before .before .before .before .neighbour-of .ensures) (c .before .before .before .place-of .ensures) (c .before .before .if1 .taken) (c .before .number-of .ensures) (c .link-ok .ensures)
 
 returns-2 : tie.Need-returns-2
-returns-2 c = tree-none _ _ _ _ _ (c .before .before .before .before .pre .0) _ (c .before .before .before .before .pre .1) _ (c .before .before .neighbour-of .ensures) (c .before .place-of .ensures) (c .if1 .left)
+returns-2 c = tree-none _ _ _ _ _ (c .before .before .before .before .pre .0) _ (c .before .before .before .before .pre .1) _ _ (c .before .before .neighbour-of .ensures) (c .before .place-of .ensures) (c .if1 .left)
 
 pub tree-link-spec : {M : Type 1} → statement M
 tree-link-spec =

@@ -5,13 +5,14 @@ use native.Mathlib.Omega.{arith}
 use borrow.Author.Tests.{not-true, not-false}
 use Rattle.encoding.specs.Below.{allBelow}
 use Rattle.encoding.proofs.Below.{all-more, all-fails, all-to}
+use Rattle.part.specs.Mirror.{linkQuick}
 use Rattle.close_checks.specs.Mirror.{treeJoins}
 use borrow.Author.Needs.{needs}
 use Rattle.close_checks.proofs.join.trees_join.Statement.{statement}
 use Rattle.close_checks.proofs.join.trees_join.Tie as tie
 
 abbrev Inv-loop : tie.InvT-loop
-Inv-loop area at first count ghosts dimension i₀ i = (i ≤ count) × (allBelow i (treeJoins area at first count ghosts dimension) ≡ true)
+Inv-loop area at first count ghosts dimension i₀ i = (i ≤ count) × (allBelow i (treeJoins (linkQuick dimension) area at first count ghosts dimension) ≡ true)
 
 abbrev μ-loop : tie.MeasureT-loop
 μ-loop area at first count ghosts dimension i₀ i = count - i

@@ -27,14 +27,14 @@ pub fn epoch(area: &[u8]) -> u32
     requires { ⌜ areaHeader ≤ length (now area) ⌝ }
     ensures { λ r. ⌜ r ≡ areaEpoch (now (area .entry)) ⌝ }
 {
-    encoding::read_u32(area, 0)
+    encoding::bytes::read_u32(area, 0)
 }
 
 pub fn dimension(area: &[u8]) -> u32
     requires { ⌜ areaHeader ≤ length (now area) ⌝ }
     ensures { λ r. ⌜ r ≡ areaDimension (now (area .entry)) ⌝ }
 {
-    encoding::read_u32(area, 4)
+    encoding::bytes::read_u32(area, 4)
 }
 
 // K.
@@ -42,7 +42,7 @@ pub fn trees(area: &[u8]) -> u32
     requires { ⌜ areaHeader ≤ length (now area) ⌝ }
     ensures { λ r. ⌜ r ≡ areaK (now (area .entry)) ⌝ }
 {
-    encoding::read_u32(area, 8)
+    encoding::bytes::read_u32(area, 8)
 }
 
 // P.
@@ -50,14 +50,14 @@ pub fn ranks(area: &[u8]) -> usize
     requires { ⌜ areaHeader ≤ length (now area) ⌝ }
     ensures { λ r. ⌜ r ≡ areaP (now (area .entry)) ⌝ }
 {
-    encoding::read_u32(area, 12) as usize
+    encoding::bytes::read_u32(area, 12) as usize
 }
 
 pub fn rank(area: &[u8]) -> usize
     requires { ⌜ areaHeader ≤ length (now area) ⌝ }
     ensures { λ r. ⌜ r ≡ areaRank (now (area .entry)) ⌝ }
 {
-    encoding::read_u32(area, 16) as usize
+    encoding::bytes::read_u32(area, 16) as usize
 }
 
 // n.
@@ -65,14 +65,14 @@ pub fn count(area: &[u8]) -> u32
     requires { ⌜ areaHeader ≤ length (now area) ⌝ }
     ensures { λ r. ⌜ r ≡ areaCount (now (area .entry)) ⌝ }
 {
-    encoding::read_u32(area, 20)
+    encoding::bytes::read_u32(area, 20)
 }
 
 pub fn ghosts(area: &[u8]) -> u32
     requires { ⌜ areaHeader ≤ length (now area) ⌝ }
     ensures { λ r. ⌜ r ≡ areaGhosts (now (area .entry)) ⌝ }
 {
-    encoding::read_u32(area, 24)
+    encoding::bytes::read_u32(area, 24)
 }
 
 // Whether the tables are valid and agree with the header's K and rank.
@@ -111,7 +111,7 @@ pub fn header_sound(area: &[u8]) -> bool
     if !tables_fit(area, old, new) {
         return false;
     }
-    (count(area) == tree_count(new, rank(area))) & (encoding::read_u32(area, 28) == 0)
+    (count(area) == tree_count(new, rank(area))) & (encoding::bytes::read_u32(area, 28) == 0)
 }
 
 // ---- the heard senders
@@ -122,7 +122,7 @@ pub fn heard(area: &[u8], s: usize) -> bool
     ensures { λ r. ⌜ r ≡ isHeard (now (area .entry)) s ⌝ }
 {
     let at = words_place(ranks(area)) + 8 * (s / 64);
-    bits::bit(encoding::read_u64(area, at), (s % 64) as u32)
+    bits::word::bit(encoding::bytes::read_u64(area, at), (s % 64) as u32)
 }
 
 // How many bits of the words are set.
@@ -134,7 +134,7 @@ pub fn heard_ones(area: &[u8]) -> u32
     let mut heard = 0;
     let mut word = 0;
     while word < 16 {
-        heard += bits::ones(encoding::read_u64(area, at + 8 * word));
+        heard += bits::word::ones(encoding::bytes::read_u64(area, at + 8 * word));
         word += 1;
     }
     heard
@@ -176,7 +176,7 @@ fn slot_held(area: &[u8], at: usize, number: GlobalIndex) -> bool
     ensures { λ r. ⌜ r ≡ slotHeld (now (area .entry)) at (number .0) ⌝ }
 {
     let k = number.0;
-    records::in_form(area, at, k) & (records::number_of(area, at) == k)
+    records::form::in_form(area, at, k) & (records::read::number_of(area, at) == k)
 }
 
 fn slots_held(area: &[u8], at: usize, first: u32, count: u32) -> bool
@@ -243,7 +243,7 @@ fn after_last(area: &[u8], at: usize, j: u32) -> bool
         return true;
     }
     let last = at + 40 * ((j - 1) as usize);
-    records::number_of(area, last) < records::number_of(area, last + 40)
+    records::read::number_of(area, last) < records::read::number_of(area, last + 40)
 }
 
 // Ghost j from byte `at` on: in form, below K, outside the range, after the ghost before it.
@@ -252,9 +252,9 @@ fn ghost_held(area: &[u8], at: usize, trees: u32, first: u64, end: u64, j: u32) 
     ensures { λ r. ⌜ r ≡ ghostHeldAt (now (area .entry)) at trees first end j ⌝ }
 {
     let here = at + 40 * (j as usize);
-    let number = records::number_of(area, here);
+    let number = records::read::number_of(area, here);
     let k = number as u64;
-    records::in_form(area, here, number)
+    records::form::in_form(area, here, number)
         & (number < trees)
         & !((first <= k) & (k < end))
         & after_last(area, at, j)

@@ -12,8 +12,8 @@ pub fn copy_words(src: &[u8], words: usize, dst: &mut [u8], to: usize)
 {
     let mut i = 0;
     while i < words {
-        let word = encoding::read_u64(src, 8 * i);
-        encoding::write_u64(&mut *dst, to + 8 * i, word);
+        let word = encoding::bytes::read_u64(src, 8 * i);
+        encoding::bytes::write_u64(&mut *dst, to + 8 * i, word);
         i += 1;
     }
 }

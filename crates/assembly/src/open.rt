@@ -56,14 +56,14 @@ pub fn write_header(
     requires { ⌜ areaHeader ≤ length (now out) ⌝ }
     ensures { λ u. ⌜ now (out .exit) ≡ splice (now (out .entry)) 0 (areaHeaderBytes epoch dimension trees ranks rank count ghosts) ⌝ }
 {
-    encoding::write_u32(&mut *out, 0, epoch);
-    encoding::write_u32(&mut *out, 4, dimension);
-    encoding::write_u32(&mut *out, 8, trees);
-    encoding::write_u32(&mut *out, 12, ranks);
-    encoding::write_u32(&mut *out, 16, rank);
-    encoding::write_u32(&mut *out, 20, count);
-    encoding::write_u32(&mut *out, 24, ghosts);
-    encoding::write_u32(&mut *out, 28, 0);
+    encoding::bytes::write_u32(&mut *out, 0, epoch);
+    encoding::bytes::write_u32(&mut *out, 4, dimension);
+    encoding::bytes::write_u32(&mut *out, 8, trees);
+    encoding::bytes::write_u32(&mut *out, 12, ranks);
+    encoding::bytes::write_u32(&mut *out, 16, rank);
+    encoding::bytes::write_u32(&mut *out, 20, count);
+    encoding::bytes::write_u32(&mut *out, 24, ghosts);
+    encoding::bytes::write_u32(&mut *out, 28, 0);
 }
 
 // Writes the fresh area: the header, both tables, and zeros to its end.

@@ -37,7 +37,7 @@ pub fn ghost_slots_place(ranks: usize, count: u32) -> usize
 pub fn ghost_bound(dimension: u32, count: u32) -> u64
     ensures { λ r. ⌜ (r ≡ ghostBound (facesIn dimension) count) × (r ≤ 6 * count) ⌝ }
 {
-    (records::faces_in(dimension) as u64) * (count as u64)
+    (records::shape::faces_in(dimension) as u64) * (count as u64)
 }
 
 pub fn area_size(dimension: u32, ranks: usize, count: u32) -> usize

@@ -115,7 +115,7 @@ pub fn write_part(area: &[u8], out: &mut [u8])
     let ghosts = ghosts(area);
     let from = slots_place(ranks);
     let at = ghost_slots_place(ranks, n);
-    let faces = records::faces_in(dimension);
+    let faces = records::shape::faces_in(dimension);
     part::cut::write_header(
         &mut *out,
         dimension,

@@ -41,7 +41,7 @@ fn ghost_has(
         return false;
     }
     let from = at + 64 * (count as usize) + 40 * (position as usize);
-    records::number_of(area, from) == wanted
+    records::read::number_of(area, from) == wanted
 }
 
 // Where the ghost with the number begins, by halves; 0 where none has it.
@@ -63,7 +63,7 @@ fn ghost_search(
         return 0;
     }
     let to = ghosts_at + 40 * (position as usize);
-    if records::number_of(area, to) != k {
+    if records::read::number_of(area, to) != k {
         return 0;
     }
     to
@@ -106,11 +106,11 @@ fn ghost_place(
     }
     let last = ghosts - 1;
     let ghosts_at = at + 64 * (count as usize);
-    let low = records::number_of(area, ghosts_at);
+    let low = records::read::number_of(area, ghosts_at);
     if k < low {
         return 0;
     }
-    let high = records::number_of(area, ghosts_at + 40 * (last as usize));
+    let high = records::read::number_of(area, ghosts_at + 40 * (last as usize));
     if high < k {
         return 0;
     }
@@ -175,10 +175,10 @@ fn tree_link(
 {
     let i = tree.0;
     let from = at + 64 * (i as usize);
-    let k = records::neighbour_of(area, from, face);
+    let k = records::read::neighbour_of(area, from, face);
     let to = place_of(area, at, first, count, ghosts, GlobalIndex(k));
     if to != 0 {
-        let number = records::number_of(area, from);
+        let number = records::read::number_of(area, from);
         return link_ok(area, dimension, GlobalIndex(number), from, face, to);
     }
     false
@@ -220,9 +220,9 @@ fn tree_joins(
     ensures { λ r. ⌜ r ≡ treeJoins (linkQuick dimension) (now (area .entry)) at first count ghosts dimension (tree .0) ⌝ }
 {
     let i = tree.0;
-    let shape = records::shape_of(area, at + 64 * (i as usize));
-    let faces = records::face_count(shape);
-    (records::dimension_of(shape) == dimension)
+    let shape = records::read::shape_of(area, at + 64 * (i as usize));
+    let faces = records::shape::face_count(shape);
+    (records::shape::dimension_of(shape) == dimension)
         & tree_links(area, at, first, count, ghosts, dimension, tree, faces)
 }
 
@@ -258,12 +258,12 @@ fn ghost_link(
     ensures { λ r. ⌜ r ≡ linkOfGhost (linkQuick dimension) (now (area .entry)) at first count ghosts trees j face ⌝ }
 {
     let from = at + 64 * (count as usize) + 40 * (j as usize);
-    let k = records::neighbour_of(area, from, face);
+    let k = records::read::neighbour_of(area, from, face);
     let to = place_of(area, at, first, count, ghosts, GlobalIndex(k));
     if to == 0 {
         return (k < trees) & mesh::inner::orientation_ok(area, from, face);
     }
-    let number = records::number_of(area, from);
+    let number = records::read::number_of(area, from);
     link_ok(area, dimension, GlobalIndex(number), from, face, to)
 }
 
@@ -305,9 +305,9 @@ fn ghost_joins(
     ensures { λ r. ⌜ r ≡ ghostJoins (linkQuick dimension) (now (area .entry)) at first count ghosts dimension trees j ⌝ }
 {
     let from = at + 64 * (count as usize) + 40 * (j as usize);
-    let shape = records::shape_of(area, from);
-    let faces = records::face_count(shape);
-    (records::dimension_of(shape) == dimension)
+    let shape = records::read::shape_of(area, from);
+    let faces = records::shape::face_count(shape);
+    (records::shape::dimension_of(shape) == dimension)
         & beside(area, from, faces, first, first + count)
         & ghost_links(area, at, first, count, ghosts, dimension, trees, j, faces)
 }

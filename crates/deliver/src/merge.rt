@@ -12,8 +12,8 @@ fn held_last(area: &[u8], at: usize, i: usize, message: &[u8], from: usize, j: u
     if i == 0 {
         return false;
     }
-    let held = records::number_of(area, at + 40 * (i - 1));
-    let came = records::number_of(message, from + 40 * (j - 1));
+    let held = records::read::number_of(area, at + 40 * (i - 1));
+    let came = records::read::number_of(message, from + 40 * (j - 1));
     came < held
 }
 

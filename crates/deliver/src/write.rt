@@ -33,7 +33,7 @@ fn trees_place(area: &[u8], message: &[u8]) -> usize
     let middle = assembly::place::new_place(ranks);
     let end = assembly::place::words_place(ranks);
     let new = &area[middle..end];
-    let sent = records::number_of(message, 32);
+    let sent = records::read::number_of(message, 32);
     let first = offsets::inner::first_tree(new, assembly::area::rank(area)) as u32;
     let tree = to_local(GlobalIndex(sent), GlobalIndex(first));
     assembly::place::slots_place(ranks) + 64 * (tree.0 as usize)
@@ -45,8 +45,8 @@ fn set_heard(area: &mut [u8], words: usize, s: usize)
     ensures { λ u. ⌜ now (area .exit) ≡ putU64 (now (area .entry)) (words + 8 * (s / 64)) (withBit (u64At (now (area .entry)) (words + 8 * (s / 64))) (s % 64)) ⌝ }
 {
     let at = words + 8 * (s / 64);
-    let word = encoding::read_u64(&*area, at);
-    encoding::write_u64(&mut *area, at, bits::with_bit(word, (s % 64) as u32));
+    let word = encoding::bytes::read_u64(&*area, at);
+    encoding::bytes::write_u64(&mut *area, at, bits::word::with_bit(word, (s % 64) as u32));
 }
 
 fn places(area: &[u8], message: &[u8]) -> WritePlaces
@@ -83,5 +83,5 @@ pub fn write_delivery(area: &mut [u8], message: &[u8])
         end,
         at.came as usize,
     );
-    encoding::write_u32(&mut *area, 24, at.held + at.came);
+    encoding::bytes::write_u32(&mut *area, 24, at.held + at.came);
 }

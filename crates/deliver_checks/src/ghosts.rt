@@ -20,8 +20,8 @@ fn mark_faces(message: &[u8], at: usize, faces: u32, marks: &mut [u64])
 {
     let mut face = 0;
     while face < faces {
-        let k = records::neighbour_of(message, at, face);
-        bits::add_member(&mut *marks, k);
+        let k = records::read::neighbour_of(message, at, face);
+        bits::set::add_member(&mut *marks, k);
         face += 1;
     }
 }
@@ -35,7 +35,7 @@ fn mark_trees(message: &[u8], marks: &mut [u64])
     let mut i = 0;
     while i < count {
         let at = message::inner::tree_at(i);
-        let faces = records::face_count(records::shape_of(message, at));
+        let faces = records::shape::face_count(records::read::shape_of(message, at));
         mark_faces(message, at, faces, &mut *marks);
         i += 1;
     }
@@ -54,11 +54,11 @@ fn ghost_beside(
     requires { ⌜ Beside (now new) (now message) (now marks) rank × (below ≡ messageK (now message)) × (count ≡ messageTrees (now message)) × (j < messageGhosts (now message)) ⌝ }
     ensures { λ r. ⌜ r ≡ ghostBeside (now (new .entry)) rank (now (message .entry)) j ⌝ }
 {
-    let number = records::number_of(message, message::inner::ghost_at(count, j));
+    let number = records::read::number_of(message, message::inner::ghost_at(count, j));
     if below <= number {
         return false;
     }
-    !offsets::inner::holds(new, rank, number as u64) & bits::in_set(marks, number)
+    !offsets::inner::holds(new, rank, number as u64) & bits::set::in_set(marks, number)
 }
 
 fn ghosts_beside(new: &[u8], rank: usize, message: &[u8], marks: &[u64]) -> bool
@@ -100,7 +100,7 @@ fn is_held(area: &[u8], at: usize, count: u32, number: GlobalIndex) -> bool
     if count <= position {
         return false;
     }
-    encoding::read_u32(area, at + 40 * (position as usize)) == k
+    encoding::bytes::read_u32(area, at + 40 * (position as usize)) == k
 }
 
 // Whether no ghost is held already (18).
@@ -117,7 +117,7 @@ pub fn ghosts_new(area: &[u8], message: &[u8]) -> bool
     let ghosts = message::inner::ghost_count(message);
     let mut j = 0;
     while j < ghosts {
-        let number = records::number_of(message, message::inner::ghost_at(count, j));
+        let number = records::read::number_of(message, message::inner::ghost_at(count, j));
         if is_held(area, at, held, GlobalIndex(number)) {
             return false;
         }

@@ -53,7 +53,7 @@ fn trees_from(message: &[u8], first: u32, count: u32) -> bool
 {
     let mut i = 0;
     while i < count {
-        let number = records::number_of(message, message::inner::tree_at(i));
+        let number = records::read::number_of(message, message::inner::tree_at(i));
         if number as u64 != (first as u64) + (i as u64) {
             return false;
         }

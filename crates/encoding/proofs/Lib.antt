@@ -3,3 +3,4 @@ pub mod Below
 pub mod Pieces
 pub mod Numbers
 pub mod Words
+pub mod Headers

@@ -3,5 +3,6 @@ pub mod Below
 pub mod Pieces
 pub mod Numbers
 pub mod Words
+pub mod Header
 pub mod Refusal
 pub mod Answer

@@ -1,9 +1,9 @@
 // Records of 40 and 64 bytes, moved as words: all loads first, then all stores.
-use crate::read_u64;
-use crate::write_u64;
+use crate::bytes::read_u64;
+use crate::bytes::write_u64;
 ghost use mathlib.Core.Path.{_≡_};
 ghost use Prim.Native.Nat.{_+_, _≤_};
-ghost use lib.ListN.{length, replicate};
+ghost use lib.ListN.{length};
 ghost use Rattle.encoding.specs.Pieces.{piece, splice};
 ghost use Rattle.encoding.specs.Words.{bytes40, bytes64};
 
@@ -92,46 +92,4 @@ pub fn move40(bs: &mut [u8], from: usize, to: usize)
 {
     let r = load40(&*bs, from);
     store40(&mut *bs, to, r);
-}
-
-pub fn move64(bs: &mut [u8], from: usize, to: usize)
-    requires { ⌜ (from + 64 ≤ length (now bs)) × (to + 64 ≤ length (now bs)) ⌝ }
-    ensures { λ u. ⌜ now (bs .exit) ≡ splice (now (bs .entry)) to (piece (now (bs .entry)) from 64) ⌝ }
-{
-    let r = load64(&*bs, from);
-    store64(&mut *bs, to, r);
-}
-
-pub fn clear40(bs: &mut [u8], at: usize)
-    requires { ⌜ at + 40 ≤ length (now bs) ⌝ }
-    ensures { λ u. ⌜ now (bs .exit) ≡ splice (now (bs .entry)) at (replicate 40 0) ⌝ }
-{
-    let r = Words40 {
-        w0: 0,
-        w1: 0,
-        w2: 0,
-        w3: 0,
-        w4: 0,
-    };
-    store40(&mut *bs, at, r);
-}
-
-pub fn clear64(bs: &mut [u8], at: usize)
-    requires { ⌜ at + 64 ≤ length (now bs) ⌝ }
-    ensures { λ u. ⌜ now (bs .exit) ≡ splice (now (bs .entry)) at (replicate 64 0) ⌝ }
-{
-    let core = Words40 {
-        w0: 0,
-        w1: 0,
-        w2: 0,
-        w3: 0,
-        w4: 0,
-    };
-    let r = Words64 {
-        core,
-        w5: 0,
-        w6: 0,
-        w7: 0,
-    };
-    store64(&mut *bs, at, r);
 }

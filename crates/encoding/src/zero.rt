@@ -1,5 +1,5 @@
 // The zero test of a long slice.
-use crate::read_u64;
+use crate::bytes::read_u64;
 ghost use mathlib.Core.Path.{_≡_};
 ghost use Prim.Native.Nat.{_+_, _≤_};
 ghost use lib.ListN.{length};

@@ -15,7 +15,7 @@ pub fn dimension(mesh: &[u8]) -> u32
     requires { ⌜ meshHeader ≤ length (now mesh) ⌝ }
     ensures { λ r. ⌜ r ≡ meshDimension (now (mesh .entry)) ⌝ }
 {
-    encoding::read_u32(mesh, 0)
+    encoding::bytes::read_u32(mesh, 0)
 }
 
 // K.
@@ -23,7 +23,7 @@ pub fn trees(mesh: &[u8]) -> u32
     requires { ⌜ meshHeader ≤ length (now mesh) ⌝ }
     ensures { λ r. ⌜ r ≡ meshTrees (now (mesh .entry)) ⌝ }
 {
-    encoding::read_u32(mesh, 4)
+    encoding::bytes::read_u32(mesh, 4)
 }
 
 // Where the record of tree k begins.
@@ -44,7 +44,8 @@ pub fn orientation_ok(bs: &[u8], at: usize, face: u32) -> bool
     requires { ⌜ (at + coreSize ≤ length (now bs)) × (face < 6) ⌝ }
     ensures { λ r. ⌜ r ≡ orientationOk (piece (now (bs .entry)) at coreSize) face ⌝ }
 {
-    records::orientation_of(bs, at, face) < records::corners(records::shape_of(bs, at), face)
+    records::read::orientation_of(bs, at, face)
+        < records::shape::corners(records::read::shape_of(bs, at), face)
 }
 
 // Both faces have as many corners; the neighbour's record is at `to`.
@@ -52,8 +53,11 @@ pub fn same_corners(bs: &[u8], at: usize, face: u32, to: usize) -> bool
     requires { ⌜ (at + coreSize ≤ length (now bs)) × (face < 6) × (to + coreSize ≤ length (now bs)) ⌝ }
     ensures { λ r. ⌜ r ≡ sameCorners (piece (now (bs .entry)) at coreSize) face (piece (now (bs .entry)) to coreSize) ⌝ }
 {
-    let own = records::corners(records::shape_of(bs, at), face);
-    let there = records::corners(records::shape_of(bs, to), records::face_of(bs, at, face));
+    let own = records::shape::corners(records::read::shape_of(bs, at), face);
+    let there = records::shape::corners(
+        records::read::shape_of(bs, to),
+        records::read::face_of(bs, at, face),
+    );
     own == there
 }
 
@@ -62,11 +66,11 @@ pub fn answered(bs: &[u8], k: u32, at: usize, face: u32, to: usize) -> bool
     requires { ⌜ (at + coreSize ≤ length (now bs)) × (face < 6) × (to + coreSize ≤ length (now bs)) ⌝ }
     ensures { λ r. ⌜ r ≡ answeredBy k (piece (now (bs .entry)) at coreSize) face (piece (now (bs .entry)) to coreSize) ⌝ }
 {
-    let there = records::face_of(bs, at, face);
-    let orientation = records::orientation_of(bs, at, face);
-    (records::neighbour_of(bs, to, there) == k)
-        & (records::face_of(bs, to, there) == face)
-        & (records::orientation_of(bs, to, there) == orientation)
+    let there = records::read::face_of(bs, at, face);
+    let orientation = records::read::orientation_of(bs, at, face);
+    (records::read::neighbour_of(bs, to, there) == k)
+        & (records::read::face_of(bs, to, there) == face)
+        & (records::read::orientation_of(bs, to, there) == orientation)
 }
 
 // The fast check of one link, by the mesh's dimension and not by the shapes of the two records. For a mesh all of whose records have that dimension it says the same (proofs/Quick.antt).
@@ -113,11 +117,11 @@ pub fn corners_quick(bs: &[u8], dimension: u32, at: usize, face: u32, to: usize)
     requires { ⌜ (at + coreSize ≤ length (now bs)) × (face < 6) × (to + coreSize ≤ length (now bs)) ⌝ }
     ensures { λ r. ⌜ r ≡ cornersQuick dimension (piece (now (bs .entry)) at coreSize) face (piece (now (bs .entry)) to coreSize) ⌝ }
 {
-    let code = records::code_of(bs, at, face);
-    let own = corners_in(dimension, records::shape_of(bs, at), face);
+    let code = records::read::code_of(bs, at, face);
+    let own = corners_in(dimension, records::read::shape_of(bs, at), face);
     let there = corners_in(
         dimension,
-        records::shape_of(bs, to),
+        records::read::shape_of(bs, to),
         face_in(dimension, code),
     );
     (orientation_in(dimension, code) < own) & (own == there)
@@ -128,10 +132,10 @@ pub fn answered_quick(bs: &[u8], dimension: u32, k: u32, at: usize, face: u32, t
     requires { ⌜ (at + coreSize ≤ length (now bs)) × (face < 6) × (to + coreSize ≤ length (now bs)) ⌝ }
     ensures { λ r. ⌜ r ≡ answeredQuick dimension k (piece (now (bs .entry)) at coreSize) face (piece (now (bs .entry)) to coreSize) ⌝ }
 {
-    let code = records::code_of(bs, at, face);
+    let code = records::read::code_of(bs, at, face);
     let there = face_in(dimension, code);
-    (records::neighbour_of(bs, to, there) == k)
-        & ((records::code_of(bs, to, there) as u64) + (there as u64)
+    (records::read::neighbour_of(bs, to, there) == k)
+        & ((records::read::code_of(bs, to, there) as u64) + (there as u64)
             == (code as u64) + (face as u64))
 }
 
@@ -141,7 +145,7 @@ fn face_quick(mesh: &[u8], dimension: u32, trees: u32, k: u32, face: u32) -> boo
     ensures { λ r. ⌜ r ≡ faceQuick (meshCore (now (mesh .entry))) dimension trees k face ⌝ }
 {
     let at = tree_at(k);
-    let n = records::neighbour_of(mesh, at, face);
+    let n = records::read::neighbour_of(mesh, at, face);
     if trees <= n {
         return false;
     }
@@ -168,11 +172,11 @@ fn tree_quick(mesh: &[u8], dimension: u32, trees: u32, k: u32) -> bool
     ensures { λ r. ⌜ r ≡ treeQuick (meshCore (now (mesh .entry))) dimension trees k ⌝ }
 {
     let at = tree_at(k);
-    let shape = records::shape_of(mesh, at);
-    records::in_form(mesh, at, k)
-        & (records::number_of(mesh, at) == k)
-        & (records::dimension_of(shape) == dimension)
-        & faces_quick(mesh, dimension, trees, k, records::face_count(shape))
+    let shape = records::read::shape_of(mesh, at);
+    records::form::in_form(mesh, at, k)
+        & (records::read::number_of(mesh, at) == k)
+        & (records::shape::dimension_of(shape) == dimension)
+        & faces_quick(mesh, dimension, trees, k, records::shape::face_count(shape))
 }
 
 fn trees_quick(mesh: &[u8], dimension: u32, trees: u32) -> bool

@@ -32,7 +32,7 @@ fn put(m: &mut [u8; 272], at: usize, v: u8) {
 
 fn put_u32(m: &mut [u8; 272], at: usize, v: u32) {
     if at <= 268 {
-        encoding::write_u32(m, at, v);
+        encoding::bytes::write_u32(m, at, v);
     }
 }
 
@@ -67,7 +67,7 @@ fn link(m: &mut [u8; 272], dimension: u32, k: u32, f: u32, n: u32, g: u32, orien
 
 // A boundary where the shape has the face, else unused.
 fn edge(m: &mut [u8; 272], dimension: u32, k: u32, shape: u32, f: u32) {
-    if f < records::face_count(shape) {
+    if f < records::shape::face_count(shape) {
         half(m, dimension, k, f, k, f, 0);
     } else {
         half(m, dimension, k, f, 4294967295, 0, 0);

@@ -14,14 +14,14 @@ pub fn epoch(message: &[u8]) -> u32
     requires { ⌜ messageHeader ≤ length (now message) ⌝ }
     ensures { λ r. ⌜ r ≡ messageEpoch (now (message .entry)) ⌝ }
 {
-    encoding::read_u32(message, 0)
+    encoding::bytes::read_u32(message, 0)
 }
 
 pub fn dimension(message: &[u8]) -> u32
     requires { ⌜ messageHeader ≤ length (now message) ⌝ }
     ensures { λ r. ⌜ r ≡ messageDimension (now (message .entry)) ⌝ }
 {
-    encoding::read_u32(message, 4)
+    encoding::bytes::read_u32(message, 4)
 }
 
 // K.
@@ -29,7 +29,7 @@ pub fn trees_below(message: &[u8]) -> u32
     requires { ⌜ messageHeader ≤ length (now message) ⌝ }
     ensures { λ r. ⌜ r ≡ messageK (now (message .entry)) ⌝ }
 {
-    encoding::read_u32(message, 8)
+    encoding::bytes::read_u32(message, 8)
 }
 
 // P.
@@ -37,35 +37,35 @@ pub fn ranks(message: &[u8]) -> u32
     requires { ⌜ messageHeader ≤ length (now message) ⌝ }
     ensures { λ r. ⌜ r ≡ messageP (now (message .entry)) ⌝ }
 {
-    encoding::read_u32(message, 12)
+    encoding::bytes::read_u32(message, 12)
 }
 
 pub fn sender(message: &[u8]) -> u32
     requires { ⌜ messageHeader ≤ length (now message) ⌝ }
     ensures { λ r. ⌜ r ≡ messageSender (now (message .entry)) ⌝ }
 {
-    encoding::read_u32(message, 16)
+    encoding::bytes::read_u32(message, 16)
 }
 
 pub fn receiver(message: &[u8]) -> u32
     requires { ⌜ messageHeader ≤ length (now message) ⌝ }
     ensures { λ r. ⌜ r ≡ messageReceiver (now (message .entry)) ⌝ }
 {
-    encoding::read_u32(message, 20)
+    encoding::bytes::read_u32(message, 20)
 }
 
 pub fn tree_count(message: &[u8]) -> u32
     requires { ⌜ messageHeader ≤ length (now message) ⌝ }
     ensures { λ r. ⌜ r ≡ messageTrees (now (message .entry)) ⌝ }
 {
-    encoding::read_u32(message, 24)
+    encoding::bytes::read_u32(message, 24)
 }
 
 pub fn ghost_count(message: &[u8]) -> u32
     requires { ⌜ messageHeader ≤ length (now message) ⌝ }
     ensures { λ r. ⌜ r ≡ messageGhosts (now (message .entry)) ⌝ }
 {
-    encoding::read_u32(message, 28)
+    encoding::bytes::read_u32(message, 28)
 }
 
 // Where tree i begins.
@@ -100,7 +100,7 @@ fn neighbours_below(bs: &[u8], at: usize, faces: u32, below: u32) -> bool
 {
     let mut face = 0;
     while face < faces {
-        if below <= records::neighbour_of(bs, at, face) {
+        if below <= records::read::neighbour_of(bs, at, face) {
             return false;
         }
         face += 1;
@@ -113,11 +113,11 @@ fn record_laid(message: &[u8], at: usize, dimension: u32, below: u32) -> bool
     requires { ⌜ (at + coreSize ≤ length (now message)) × (dimension ≡ messageDimension (now message)) × (below ≡ messageK (now message)) ⌝ }
     ensures { λ r. ⌜ r ≡ recordLaid (now (message .entry)) (piece (now (message .entry)) at coreSize) ⌝ }
 {
-    let shape = records::shape_of(message, at);
-    let number = records::number_of(message, at);
-    records::in_form(message, at, number)
-        & (records::dimension_of(shape) == dimension)
-        & neighbours_below(message, at, records::face_count(shape), below)
+    let shape = records::read::shape_of(message, at);
+    let number = records::read::number_of(message, at);
+    records::form::in_form(message, at, number)
+        & (records::shape::dimension_of(shape) == dimension)
+        & neighbours_below(message, at, records::shape::face_count(shape), below)
 }
 
 // Where record i of those from byte `start` begins.
@@ -138,7 +138,7 @@ fn after_last(message: &[u8], start: usize, stride: usize, count: u32, i: u32) -
     }
     let before = core_at(message, start, stride, count, i - 1);
     let at = core_at(message, start, stride, count, i);
-    records::number_of(message, before) < records::number_of(message, at)
+    records::read::number_of(message, before) < records::read::number_of(message, at)
 }
 
 // Whether record i is laid out so and has a larger number than the one before it.

@@ -18,10 +18,10 @@ fn global_index(part: &[u8], count: u32, ghosts: u32, local: LocalIndex) -> Glob
         return GlobalIndex(4294967295);
     }
     if j < count {
-        return GlobalIndex(records::number_of(part, tree_at(local)));
+        return GlobalIndex(records::read::number_of(part, tree_at(local)));
     }
     if j - count < ghosts {
-        return GlobalIndex(records::number_of(part, ghost_at(count, j - count)));
+        return GlobalIndex(records::read::number_of(part, ghost_at(count, j - count)));
     }
     GlobalIndex(4294967294)
 }

@@ -34,14 +34,14 @@ fn write_header(
     requires { ⌜ messageHeader ≤ length (now out) ⌝ }
     ensures { λ u. ⌜ now (out .exit) ≡ splice (now (out .entry)) 0 (messageHeaderBytes epoch dimension trees ranks p q n g) ⌝ }
 {
-    encoding::write_u32(&mut *out, 0, epoch);
-    encoding::write_u32(&mut *out, 4, dimension);
-    encoding::write_u32(&mut *out, 8, trees);
-    encoding::write_u32(&mut *out, 12, ranks);
-    encoding::write_u32(&mut *out, 16, p);
-    encoding::write_u32(&mut *out, 20, q);
-    encoding::write_u32(&mut *out, 24, n);
-    encoding::write_u32(&mut *out, 28, g);
+    encoding::bytes::write_u32(&mut *out, 0, epoch);
+    encoding::bytes::write_u32(&mut *out, 4, dimension);
+    encoding::bytes::write_u32(&mut *out, 8, trees);
+    encoding::bytes::write_u32(&mut *out, 12, ranks);
+    encoding::bytes::write_u32(&mut *out, 16, p);
+    encoding::bytes::write_u32(&mut *out, 20, q);
+    encoding::bytes::write_u32(&mut *out, 24, n);
+    encoding::bytes::write_u32(&mut *out, 28, g);
 }
 
 // Puts the links of the part's record at byte `from` into the record at byte `to`, with global numbers.
@@ -152,7 +152,7 @@ pub fn member_count(marks: &[u64]) -> u32
     let mut count = 0;
     let mut i = 0;
     while i < marks.len() {
-        count += bits::ones(marks[i]);
+        count += bits::word::ones(marks[i]);
         i += 1;
     }
     count
@@ -174,7 +174,7 @@ fn write_ghosts(
 {
     let end = 64 * (marks.len() as u32);
     let mut to = at;
-    let mut k = bits::next_member(marks, 0);
+    let mut k = bits::set::next_member(marks, 0);
     while k < end {
         write_ghost(
             part,
@@ -187,7 +187,7 @@ fn write_ghosts(
             to,
         );
         to += 40;
-        k = bits::next_member(marks, k + 1);
+        k = bits::set::next_member(marks, k + 1);
     }
 }
 
@@ -199,7 +199,7 @@ fn write_records(part: &[u8], low: u32, n: u32, marks: &[u64], out: &mut [u8])
     let count = part::sound::tree_count(part);
     let ghosts = part::sound::ghost_count(part);
     let first = part::sound::first_tree(part).0;
-    let faces = records::faces_in(part::sound::dimension(part));
+    let faces = records::shape::faces_in(part::sound::dimension(part));
     let at = 32 + 64 * (n as usize);
     write_trees(part, count, ghosts, faces, first, low, n, &mut *out);
     write_ghosts(part, count, ghosts, faces, first, marks, &mut *out, at);

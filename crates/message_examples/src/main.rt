@@ -102,7 +102,7 @@ fn same(a: &[u8], b: &[u8]) -> bool {
 
 fn show_record(r: &[u8]) {
     if 4 <= r.len() {
-        word(b" ", encoding::read_u32(r, 0) as u64);
+        word(b" ", encoding::bytes::read_u32(r, 0) as u64);
     }
 }
 
@@ -119,7 +119,7 @@ fn show_message(m: &[u8]) {
     let all = message::begin_reading(m);
     word(b": layout ", all.refusal as u64);
     if 32 <= m.len() {
-        let trees = encoding::read_u32(m, 24) as u64;
+        let trees = encoding::bytes::read_u32(m, 24) as u64;
         text(b", trees");
         show_records(m, 0, trees);
         text(b", ghosts");
@@ -179,7 +179,7 @@ fn each_rank(mesh: &[u8], old: &[u8], new: &[u8], ranks: u32) {
     if mesh.len() < 8 {
         return;
     }
-    let dimension = encoding::read_u32(mesh, 0);
+    let dimension = encoding::bytes::read_u32(mesh, 0);
     let mut q = 0;
     while q < ranks {
         assemble(mesh, old, new, ranks, dimension, q);
@@ -192,9 +192,9 @@ fn run(bs: &[u8]) -> usize {
     if bs.len() < 8 {
         return 0;
     }
-    let ranks = encoding::read_u32(bs, 0);
+    let ranks = encoding::bytes::read_u32(bs, 0);
     let table = 8 * (ranks as usize) + 8;
-    let trees = encoding::read_u32(bs, 4) as usize;
+    let trees = encoding::bytes::read_u32(bs, 4) as usize;
     let middle = 8 + table;
     let mesh = middle + table;
     let end = mesh + 8 + 64 * trees;

@@ -28,11 +28,11 @@ fn mark_face(
     requires { ⌜ AtTree (now part) (now old) (now new) p q count (tree .0) × (face < faceCount (shapeOf (partCore (now part) (partFirst (now part) + tree .0)))) × (length (now marks) ≡ markWords) ⌝ }
     ensures { λ u. ⌜ Added (now (marks .entry)) (now (marks .exit)) (goesAcross (now (part .entry)) (now (old .entry)) (now (new .entry)) p q (partFirst (now (part .entry)) + tree .0) face) ⌝ }
 {
-    let j = records::neighbour_of(part, part::sound::tree_at(tree), face);
+    let j = records::read::neighbour_of(part, part::sound::tree_at(tree), face);
     let number = read::number_at(part, count, LocalIndex(j));
     let k = number.0;
     if rule::goes(part, old, new, p, q, count, LocalIndex(j), GlobalIndex(k)) {
-        bits::add_member(&mut *marks, k);
+        bits::set::add_member(&mut *marks, k);
     }
 }
 
@@ -51,7 +51,10 @@ fn mark_tree(
     ensures { λ u. ⌜ Added (now (marks .entry)) (now (marks .exit)) (goesBeside (now (part .entry)) (now (old .entry)) (now (new .entry)) p q (partFirst (now (part .entry)) + tree .0) (faceCount (shapeOf (partCore (now (part .entry)) (partFirst (now (part .entry)) + tree .0))))) ⌝ }
 {
     let i = tree.0;
-    let faces = records::face_count(records::shape_of(part, part::sound::tree_at(tree)));
+    let faces = records::shape::face_count(records::read::shape_of(
+        part,
+        part::sound::tree_at(tree),
+    ));
     let mut face = 0;
     while face < faces {
         mark_face(

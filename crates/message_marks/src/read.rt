@@ -23,7 +23,7 @@ pub fn number_at(part: &[u8], count: u32, local: LocalIndex) -> GlobalIndex
     requires { ⌜ recordPlace count (local .0) + coreSize ≤ length (now part) ⌝ }
     ensures { λ r. ⌜ r .0 ≡ numberAt (now (part .entry)) count (local .0) ⌝ }
 {
-    GlobalIndex(records::number_of(part, record_at(count, local)))
+    GlobalIndex(records::read::number_of(part, record_at(count, local)))
 }
 
 // The number of the neighbour across a face: a tree stores a local index, a ghost the number.
@@ -32,7 +32,7 @@ pub fn across(part: &[u8], count: u32, local: LocalIndex, face: u32) -> GlobalIn
     ensures { λ r. ⌜ r .0 ≡ acrossAt (now (part .entry)) count (local .0) face ⌝ }
 {
     let j = local.0;
-    let next = records::neighbour_of(part, record_at(count, LocalIndex(j)), face);
+    let next = records::read::neighbour_of(part, record_at(count, LocalIndex(j)), face);
     if j < count {
         return number_at(part, count, LocalIndex(next));
     }

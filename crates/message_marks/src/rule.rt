@@ -71,6 +71,9 @@ pub fn goes(
     if p == q {
         return true;
     }
-    let faces = records::face_count(records::shape_of(part, record_at(count, LocalIndex(j))));
+    let faces = records::shape::face_count(records::read::shape_of(
+        part,
+        record_at(count, LocalIndex(j)),
+    ));
     !beside_before(part, old, new, p, q, count, LocalIndex(j), faces)
 }

@@ -50,7 +50,7 @@ pub fn entry(t: &[u8], p: usize) -> u64
     requires { ⌜ tableLength p ≤ length (now t) ⌝ }
     ensures { λ r. ⌜ r ≡ entryOf (now (t .entry)) p ⌝ }
 {
-    encoding::read_u64(t, 8 * p)
+    encoding::bytes::read_u64(t, 8 * p)
 }
 
 pub fn negative(v: u64) -> bool

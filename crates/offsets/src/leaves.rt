@@ -112,8 +112,8 @@ pub fn write(ranks: usize, leaves: &[u32], out: &mut [u8])
         tree = at.tree;
         start = at.start;
         let entry = entry_of(tree as u64, start, lo, hi);
-        encoding::write_u64(&mut *out, 8 * p, entry);
+        encoding::bytes::write_u64(&mut *out, 8 * p, entry);
         p += 1;
     }
-    encoding::write_u64(&mut *out, 8 * ranks, leaves.len() as u64);
+    encoding::bytes::write_u64(&mut *out, 8 * ranks, leaves.len() as u64);
 }

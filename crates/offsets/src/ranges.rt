@@ -1,6 +1,6 @@
 // The table of a partition that is given by a first tree and a count for each rank.
 use crate::inner;
-use encoding::write_u64;
+use encoding::bytes::write_u64;
 ghost use mathlib.Core.Path.{_≡_};
 ghost use Prim.Native.Nat.{_≤_};
 ghost use lib.ListN.{length};

@@ -25,7 +25,7 @@ fn minus(n: u64) -> u64 {
 fn put_entry(t: &mut [u8; 64], entries: &[u64], p: usize) {
     if p < entries.len() {
         if p < 8 {
-            encoding::write_u64(t, 8 * p, entries[p]);
+            encoding::bytes::write_u64(t, 8 * p, entries[p]);
         }
     }
 }
@@ -33,7 +33,7 @@ fn put_entry(t: &mut [u8; 64], entries: &[u64], p: usize) {
 // An entry of a table with its sign, and a comma behind it.
 fn print_entry(t: &[u8], p: usize) {
     if p < t.len() / 8 {
-        let v = encoding::read_u64(t, 8 * p);
+        let v = encoding::bytes::read_u64(t, 8 * p);
         if v < 9223372036854775808 {
             number(v);
         } else {

@@ -29,14 +29,14 @@ pub fn write_header(
     requires { ⌜ partHeader ≤ length (now out) ⌝ }
     ensures { λ u. ⌜ now (out .exit) ≡ splice (now (out .entry)) 0 (headerBytes dimension trees ranks rank first count ghosts) ⌝ }
 {
-    encoding::write_u32(&mut *out, 0, dimension);
-    encoding::write_u32(&mut *out, 4, trees);
-    encoding::write_u32(&mut *out, 8, ranks);
-    encoding::write_u32(&mut *out, 12, rank);
-    encoding::write_u32(&mut *out, 16, first);
-    encoding::write_u32(&mut *out, 20, count);
-    encoding::write_u32(&mut *out, 24, ghosts);
-    encoding::write_u32(&mut *out, 28, 0);
+    encoding::bytes::write_u32(&mut *out, 0, dimension);
+    encoding::bytes::write_u32(&mut *out, 4, trees);
+    encoding::bytes::write_u32(&mut *out, 8, ranks);
+    encoding::bytes::write_u32(&mut *out, 12, rank);
+    encoding::bytes::write_u32(&mut *out, 16, first);
+    encoding::bytes::write_u32(&mut *out, 20, count);
+    encoding::bytes::write_u32(&mut *out, 24, ghosts);
+    encoding::bytes::write_u32(&mut *out, 28, 0);
 }
 
 // Writes the cores of the range's ghosts from byte `at` on, in one ascending pass.
@@ -67,7 +67,7 @@ pub fn find_ghost(bs: &[u8], at: usize, count: u32, number: GlobalIndex) -> u32
     let mut high = count;
     while low < high {
         let mid = low + (high - low) / 2;
-        if encoding::read_u32(bs, at + 40 * (mid as usize)) < k {
+        if encoding::bytes::read_u32(bs, at + 40 * (mid as usize)) < k {
             low = mid + 1;
         } else {
             high = mid;
@@ -199,7 +199,7 @@ pub fn write(
     ensures { λ u. ⌜ now (out .exit) ≡ splice (now (out .entry)) 0 (partWith (now (mesh .entry)) trees ranks rank first end (now (out .entry)) at count) ⌝ }
 {
     let dimension = mesh::inner::dimension(mesh);
-    let faces = records::faces_in(dimension);
+    let faces = records::shape::faces_in(dimension);
     write_ghosts(mesh, trees, first, end, &mut *out, at);
     write_trees(mesh, faces, first, end, &mut *out, at, count);
     write_header(

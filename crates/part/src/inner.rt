@@ -60,7 +60,11 @@ pub fn beside(bs: &[u8], at: usize, faces: u32, first: u32, end: u32) -> bool
 {
     let mut face = 0;
     while face < faces {
-        if in_range(first, end, GlobalIndex(records::neighbour_of(bs, at, face))) {
+        if in_range(
+            first,
+            end,
+            GlobalIndex(records::read::neighbour_of(bs, at, face)),
+        ) {
             return true;
         }
         face += 1;
@@ -78,7 +82,7 @@ pub fn is_ghost(mesh: &[u8], tree: GlobalIndex, first: u32, end: u32) -> bool
         return false;
     }
     let at = mesh::inner::tree_at(k);
-    let faces = records::face_count(records::shape_of(mesh, at));
+    let faces = records::shape::face_count(records::read::shape_of(mesh, at));
     beside(mesh, at, faces, first, end)
 }
 

@@ -94,7 +94,7 @@ pub fn neighbour_of(part: &[u8], table: &[u8], rank: u32, local: LocalIndex, fac
     if !sound::part_sound(part, table, rank) {
         return neighbour::refused(8);
     }
-    let shape = records::shape_of(part, sound::tree_at(local));
+    let shape = records::read::shape_of(part, sound::tree_at(local));
     let link = neighbour::link_of(part, local, face);
     Neighbour {
         refusal: 0,
@@ -112,7 +112,7 @@ fn find(bs: &[u8], size: usize, number: GlobalIndex) -> usize
     let n = bs.len() / size;
     let mut i = 0;
     while i < n {
-        if encoding::read_u32(bs, size * i) == wanted {
+        if encoding::bytes::read_u32(bs, size * i) == wanted {
             return i;
         }
         i += 1;

@@ -70,7 +70,8 @@ fn to_itself(part: &[u8], at: usize, own: LocalIndex, face: u32) -> bool
     requires { ⌜ (at + coreSize ≤ length (now part)) × (face < 6) ⌝ }
     ensures { λ r. ⌜ r ≡ toItself (own .0) (piece (now (part .entry)) at coreSize) face ⌝ }
 {
-    (records::neighbour_of(part, at, face) == own.0) & (records::face_of(part, at, face) == face)
+    (records::read::neighbour_of(part, at, face) == own.0)
+        & (records::read::face_of(part, at, face) == face)
 }
 
 // What stands across a face of a tree of a sound part.
@@ -79,17 +80,17 @@ pub fn link_of(part: &[u8], tree: LocalIndex, face: u32) -> Link
     ensures { λ r. ⌜ r ≡ linkOf (now (part .entry)) (tree .0) face ⌝ }
 {
     let at = tree_at(tree);
-    if records::face_count(records::shape_of(part, at)) <= face {
+    if records::shape::face_count(records::read::shape_of(part, at)) <= face {
         return Link::Unused(across_to(LocalIndex(0), 0, 0));
     }
     if to_itself(part, at, tree, face) {
         return Link::Boundary(across_to(tree, face, 0));
     }
-    let j = records::neighbour_of(part, at, face);
+    let j = records::read::neighbour_of(part, at, face);
     let there = across_to(
         LocalIndex(j),
-        records::face_of(part, at, face),
-        records::orientation_of(part, at, face),
+        records::read::face_of(part, at, face),
+        records::read::orientation_of(part, at, face),
     );
     if j < tree_count(part) {
         return Link::Local(there);

@@ -38,7 +38,7 @@ pub fn dimension(part: &[u8]) -> u32
     requires { ⌜ partHeader ≤ length (now part) ⌝ }
     ensures { λ r. ⌜ r ≡ partDimension (now (part .entry)) ⌝ }
 {
-    encoding::read_u32(part, 0)
+    encoding::bytes::read_u32(part, 0)
 }
 
 // K.
@@ -46,14 +46,14 @@ pub fn trees(part: &[u8]) -> u32
     requires { ⌜ partHeader ≤ length (now part) ⌝ }
     ensures { λ r. ⌜ r ≡ partK (now (part .entry)) ⌝ }
 {
-    encoding::read_u32(part, 4)
+    encoding::bytes::read_u32(part, 4)
 }
 
 pub fn first_tree(part: &[u8]) -> GlobalIndex
     requires { ⌜ partHeader ≤ length (now part) ⌝ }
     ensures { λ r. ⌜ r .0 ≡ partFirst (now (part .entry)) ⌝ }
 {
-    GlobalIndex(encoding::read_u32(part, 16))
+    GlobalIndex(encoding::bytes::read_u32(part, 16))
 }
 
 // n.
@@ -61,7 +61,7 @@ pub fn tree_count(part: &[u8]) -> u32
     requires { ⌜ partHeader ≤ length (now part) ⌝ }
     ensures { λ r. ⌜ r ≡ partCount (now (part .entry)) ⌝ }
 {
-    encoding::read_u32(part, 20)
+    encoding::bytes::read_u32(part, 20)
 }
 
 // g.
@@ -69,7 +69,7 @@ pub fn ghost_count(part: &[u8]) -> u32
     requires { ⌜ partHeader ≤ length (now part) ⌝ }
     ensures { λ r. ⌜ r ≡ partGhostCount (now (part .entry)) ⌝ }
 {
-    encoding::read_u32(part, 24)
+    encoding::bytes::read_u32(part, 24)
 }
 
 // Whether the header is as table and rank say, and the length as the header says.
@@ -86,11 +86,11 @@ fn header_sound(part: &[u8], table: &[u8], rank: u32) -> bool
     let count = tree_count(part);
     mesh::inner::dimension_ok(dimension(part))
         & (trees(part) as u64 == offsets::inner::entry(table, ranks))
-        & (encoding::read_u32(part, 8) as usize == ranks)
-        & (encoding::read_u32(part, 12) == rank)
+        & (encoding::bytes::read_u32(part, 8) as usize == ranks)
+        & (encoding::bytes::read_u32(part, 12) == rank)
         & (first_tree(part).0 as u64 == first)
         & (count as u64 == end - first)
-        & (encoding::read_u32(part, 28) == 0)
+        & (encoding::bytes::read_u32(part, 28) == 0)
         & (part.len() == ghost_at(count, ghost_count(part)))
 }
 
@@ -111,7 +111,7 @@ fn tree_numbers(part: &[u8], first: u32, count: u32) -> bool
 {
     let mut i = 0;
     while i < count {
-        if records::number_of(part, tree_at(LocalIndex(i))) != first + i {
+        if records::read::number_of(part, tree_at(LocalIndex(i))) != first + i {
             return false;
         }
         i += 1;
@@ -126,14 +126,15 @@ fn ghost_behind(part: &[u8], count: u32, j: u32) -> bool
     if j == 0 {
         return true;
     }
-    records::number_of(part, ghost_at(count, j - 1)) < records::number_of(part, ghost_at(count, j))
+    records::read::number_of(part, ghost_at(count, j - 1))
+        < records::read::number_of(part, ghost_at(count, j))
 }
 
 fn ghost_numbered(part: &[u8], first: u32, count: u32, trees: u32, j: u32) -> bool
     requires { ⌜ (ghostPlace count j + coreSize ≤ length (now part)) × (first + count ≤ maxTrees) ⌝ }
     ensures { λ r. ⌜ r ≡ ghostNumbered first count (ghostCore (now (part .entry)) count) trees j ⌝ }
 {
-    let number = records::number_of(part, ghost_at(count, j));
+    let number = records::read::number_of(part, ghost_at(count, j));
     (number < trees)
         & !in_range(first, first + count, GlobalIndex(number))
         & ghost_behind(part, count, j)
@@ -177,12 +178,12 @@ fn tree_face(
 {
     let i = tree.0;
     let at = tree_at(tree);
-    let j = records::neighbour_of(part, at, face);
+    let j = records::read::neighbour_of(part, at, face);
     if j < count {
         return link_ok(part, dimension, i, at, face, tree_at(LocalIndex(j)));
     }
     if j - count < ghosts {
-        let number = records::number_of(part, at);
+        let number = records::read::number_of(part, at);
         return link_ok(
             part,
             dimension,
@@ -222,16 +223,16 @@ fn tree_sound(part: &[u8], count: u32, ghosts: u32, dimension: u32, tree: LocalI
 {
     let i = tree.0;
     let at = tree_at(tree);
-    let shape = records::shape_of(part, at);
-    records::in_form(part, at, i)
-        & (records::dimension_of(shape) == dimension)
+    let shape = records::read::shape_of(part, at);
+    records::form::in_form(part, at, i)
+        & (records::shape::dimension_of(shape) == dimension)
         & tree_faces(
             part,
             count,
             ghosts,
             dimension,
             tree,
-            records::face_count(shape),
+            records::shape::face_count(shape),
         )
 }
 
@@ -261,7 +262,7 @@ fn ghost_with(part: &[u8], count: u32, ghosts: u32, number: GlobalIndex) -> u32
     if ghosts <= position {
         return ghosts;
     }
-    if records::number_of(part, ghost_at(count, position)) != wanted {
+    if records::read::number_of(part, ghost_at(count, position)) != wanted {
         return ghosts;
     }
     position
@@ -282,7 +283,7 @@ fn ghost_has(part: &[u8], count: u32, ghosts: u32, number: GlobalIndex, position
     if ghosts <= position {
         return false;
     }
-    records::number_of(part, ghost_at(count, position)) == wanted
+    records::read::number_of(part, ghost_at(count, position)) == wanted
 }
 
 // As ghost_with, for a neighbour of ghost j, whose number is `own`. Ghosts side by side often have consecutive numbers: the place by that is tried before the search.
@@ -319,13 +320,13 @@ fn ghost_face(
     ensures { λ r. ⌜ r ≡ ghostFace (linkQuick dimension) first count ghosts (storedTree (now (part .entry))) (ghostCore (now (part .entry)) count) trees j face ⌝ }
 {
     let at = ghost_at(count, j);
-    let k = records::neighbour_of(part, at, face);
+    let k = records::read::neighbour_of(part, at, face);
     if in_range(first, first + count, GlobalIndex(k)) {
         let tree = to_local(GlobalIndex(k), GlobalIndex(first));
         let own = ghost_index(count, j);
         return link_ok(part, dimension, own.0, at, face, tree_at(tree));
     }
-    let number = records::number_of(part, at);
+    let number = records::read::number_of(part, at);
     let position = ghost_near(part, count, ghosts, j, GlobalIndex(number), GlobalIndex(k));
     if position < ghosts {
         return link_ok(part, dimension, number, at, face, ghost_at(count, position));
@@ -369,10 +370,10 @@ fn ghost_sound(
     ensures { λ r. ⌜ r ≡ ghostStored (linkQuick dimension) first count ghosts (storedTree (now (part .entry))) (ghostCore (now (part .entry)) count) dimension trees j ⌝ }
 {
     let at = ghost_at(count, j);
-    let shape = records::shape_of(part, at);
-    let faces = records::face_count(shape);
-    records::in_form(part, at, records::number_of(part, at))
-        & (records::dimension_of(shape) == dimension)
+    let shape = records::read::shape_of(part, at);
+    let faces = records::shape::face_count(shape);
+    records::form::in_form(part, at, records::read::number_of(part, at))
+        & (records::shape::dimension_of(shape) == dimension)
         & beside(part, at, faces, first, first + count)
         & ghost_faces(part, first, count, ghosts, dimension, trees, j, faces)
 }

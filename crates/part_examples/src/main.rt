@@ -50,7 +50,7 @@ fn minus(n: u64) -> u64 {
 
 fn put_entry(t: &mut [u8; 32], p: usize, v: u64) {
     if p < 4 {
-        encoding::write_u64(t, 8 * p, v);
+        encoding::bytes::write_u64(t, 8 * p, v);
     }
 }
 
@@ -79,7 +79,7 @@ fn put(m: &mut [u8; 264], at: usize, v: u8) {
 
 fn put_u32(m: &mut [u8; 264], at: usize, v: u32) {
     if at <= 260 {
-        encoding::write_u32(m, at, v);
+        encoding::bytes::write_u32(m, at, v);
     }
 }
 
@@ -114,7 +114,7 @@ fn link(m: &mut [u8; 264], dimension: u32, k: u32, f: u32, n: u32, g: u32, orien
 
 // A boundary where the shape has the face, else unused.
 fn edge(m: &mut [u8; 264], dimension: u32, k: u32, shape: u32, f: u32) {
-    if f < records::face_count(shape) {
+    if f < records::shape::face_count(shape) {
         half(m, dimension, k, f, k, f, 0);
     } else {
         half(m, dimension, k, f, 4294967295, 0, 0);
@@ -228,7 +228,7 @@ fn number_at(bs: &[u8], at: usize) -> u32 {
     if bs.len() - 4 < at {
         return 0;
     }
-    encoding::read_u32(bs, at)
+    encoding::bytes::read_u32(bs, at)
 }
 
 fn show_hex(n: u32) {
@@ -405,7 +405,7 @@ fn show_bytes_of(label: &[u8], m: &[u8; 264], n: usize, table: &[u8; 32]) {
 // Whether face f of tree k of a mesh leads to face g of tree n with the orientation.
 fn leads(mesh: &[u8], k: u32, f: u32, n: u32, g: u32, orientation: u32) -> bool {
     let at = 8 + 64 * (k as usize);
-    let faces = records::faces_in(number_at(mesh, 0));
+    let faces = records::shape::faces_in(number_at(mesh, 0));
     let code = number_at(mesh, at + 32 + (f as usize)) % 256;
     (number_at(mesh, at + 8 + 4 * (f as usize)) == n)
         & (code % faces == g)

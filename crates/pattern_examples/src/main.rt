@@ -40,7 +40,7 @@ fn minus(n: u64) -> u64 {
 // One of some entries, at its place in a table.
 fn put_entry(t: &mut [u8; 32], entries: [u64; 4], p: usize) {
     if p < 4 {
-        encoding::write_u64(t, 8 * p, entries[p]);
+        encoding::bytes::write_u64(t, 8 * p, entries[p]);
     }
 }
 

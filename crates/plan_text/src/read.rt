@@ -146,7 +146,7 @@ fn store(table: &mut [u8], i: usize, v: u64)
     ensures { λ r. ⌜ now (table .exit) ≡ stored (now (table .entry)) i v ⌝ }
 {
     if i < table.len() / 8 {
-        encoding::write_u64(&mut *table, 8 * i, v);
+        encoding::bytes::write_u64(&mut *table, 8 * i, v);
     }
 }
 

@@ -17,7 +17,7 @@ fn blank() -> [u8; 176]
 
 fn put(m: &mut [u8; 176], at: usize, v: u32) {
     if at <= 172 {
-        encoding::write_u32(m, at, v);
+        encoding::bytes::write_u32(m, at, v);
     }
 }
 
@@ -55,7 +55,7 @@ fn show_record(message: &[u8], at: u64) {
     word(b": ", piece.len() as u64);
     io::write_all(STDOUT_FILENO, b" bytes");
     if 4 <= piece.len() {
-        word(b", number ", encoding::read_u32(piece, 0) as u64);
+        word(b", number ", encoding::bytes::read_u32(piece, 0) as u64);
     }
     let following = message_reader::after(message, at);
     word(b", ", following.remain);

@@ -18,7 +18,7 @@ use Rattle.encoding.proofs.Pieces.{piece-at, piece-past}
 use Rattle.encoding.proofs.Numbers.{at-step, at-none, at-bound}
 use Rattle.records.specs.Shape.{shapeOk, dimensionOf, faceCount}
 use Rattle.records.specs.Record.{coreSize, unused, numberOf, shapeOf, neighbourOf, codeOf, facesOf, faceOf, orientationOf, tailOk, zerosOk, unusedOk, toItself, boundaryOk, inForm}
-use Rattle.records.specs.Mirror.{faceForm}
+use Rattle.records.specs.Means.{faceForm}
 use Rattle.records.proofs.Shapes.{count-six, count-faces, faces-positive, faces-six, faces-either}
 
 -- ---- records in a buffer

@@ -2,4 +2,4 @@
 pub mod Shape
 pub mod Record
 pub mod Links
-pub mod Mirror
+pub mod Means

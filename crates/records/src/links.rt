@@ -1,6 +1,6 @@
 // The six links of a record, worked on together: six rows of neighbour, face and orientation.
-use crate::code_of;
-use crate::neighbour_of;
+use crate::read::code_of;
+use crate::read::neighbour_of;
 ghost use mathlib.Core.Path.{_≡_};
 ghost use Prim.Native.Nat.{_+_, _*_, _≤_, _<_};
 ghost use lib.ListN.{length, getD, set};
@@ -36,7 +36,7 @@ fn put_row(bs: &mut [u8], at: usize, face: u32, row: [u32; 3], faces: u32)
     requires { ⌜ (at + coreSize ≤ length (now bs)) × ((face < 6) × (getD row 2 0 * faces + getD row 1 0 < 256)) ⌝ }
     ensures { λ u. ⌜ now (bs .exit) ≡ set (putU32 (now (bs .entry)) (at + (8 + 4 * face)) (getD row 0 0)) (at + (32 + face)) (getD row 2 0 * faces + getD row 1 0) ⌝ }
 {
-    encoding::write_u32(&mut *bs, at + (8 + 4 * (face as usize)), row[0]);
+    encoding::bytes::write_u32(&mut *bs, at + (8 + 4 * (face as usize)), row[0]);
     bs[at + (32 + (face as usize))] = (row[2] * faces + row[1]) as u8;
 }
 

@@ -20,16 +20,40 @@ ghost-at-requires : tie.Need-ghost-at-requires
 ghost-at-requires c κs = search needs
 
 returns-2 : tie.Need-returns-2
-returns-2 c = close-short _ _ (c .before .before .before .before .before .refusal .ensures) (c .before .before .before .before .if1 .left) (λ i. c .before .before .before .before .before .before .before .shared-slice-known .given i .fits) (c .before .before .before .count .ensures) (c .before .before .ghosts .ensures) (c .before .ghost-at .ensures) (c .if2 .taken)
+returns-2 c =
+    let refusal = c .before .before .before .before .before .refusal in
+    let if1 = c .before .before .before .before .if1 in
+    let shared-slice-known = c .before .before .before .before .before .before .before .shared-slice-known in
+    let count = c .before .before .before .count in
+    let ghosts = c .before .before .ghosts in
+    let ghost-at = c .before .ghost-at in
+    close-short _ _ (refusal .ensures) (if1 .left) (λ i. shared-slice-known .given i .fits) (count .ensures) (ghosts .ensures) (ghost-at .ensures) (c .if2 .taken)
 
 write-part-requires : tie.Need-write-part-requires
-write-part-requires c κs = join-room _ _ (c .before .before .before .before .before .before .refusal .ensures) (c .before .before .before .before .before .if1 .left) (λ i. c .before .before .before .before .before .before .before .before .shared-slice-known .given i .fits) (c .before .before .before .before .count .ensures) (c .before .before .before .ghosts .ensures) (c .before .before .ghost-at .ensures) (c .before .if2 .left)
+write-part-requires c κs =
+    let refusal = c .before .before .before .before .before .before .refusal in
+    let if1 = c .before .before .before .before .before .if1 in
+    let shared-slice-known = c .before .before .before .before .before .before .before .before .shared-slice-known in
+    let count = c .before .before .before .before .count in
+    let ghosts = c .before .before .before .ghosts in
+    let ghost-at = c .before .before .ghost-at in
+    let if2 = c .before .if2 in
+    join-room _ _ (refusal .ensures) (if1 .left) (λ i. shared-slice-known .given i .fits) (count .ensures) (ghosts .ensures) (ghost-at .ensures) (if2 .left)
 
 same-length : tie.Need-same-length
 same-length c = search needs
 
 returns-3 : tie.Need-returns-3
-returns-3 c = close-done _ _ (c .before .before .before .before .before .before .before .before .before .refusal .ensures) (c .before .before .before .before .before .before .before .before .if1 .left) (λ i. c .before .before .before .before .before .before .before .before .before .before .before .shared-slice-known .given i .fits) (c .before .before .before .before .before .before .before .count .ensures) (c .before .before .before .before .before .before .ghosts .ensures) (c .before .before .before .before .before .ghost-at .ensures) (c .before .before .before .before .if2 .left) (c .before .before .write-part .ensures)
+returns-3 c =
+    let refusal = c .before .before .before .before .before .before .before .before .before .refusal in
+    let if1 = c .before .before .before .before .before .before .before .before .if1 in
+    let shared-slice-known = c .before .before .before .before .before .before .before .before .before .before .before .shared-slice-known in
+    let count = c .before .before .before .before .before .before .before .count in
+    let ghosts = c .before .before .before .before .before .before .ghosts in
+    let ghost-at = c .before .before .before .before .before .ghost-at in
+    let if2 = c .before .before .before .before .if2 in
+    let write-part = c .before .before .write-part in
+    close-done _ _ (refusal .ensures) (if1 .left) (λ i. shared-slice-known .given i .fits) (count .ensures) (ghosts .ensures) (ghost-at .ensures) (if2 .left) (write-part .ensures)
 
 pub close-area-spec : {M : Type 1} → statement M
 close-area-spec =

@@ -19,7 +19,13 @@ ghost-at-requires : tie.Need-ghost-at-requires
 ghost-at-requires c κs = search needs
 
 returns-2 : tie.Need-returns-2
-returns-2 c = length-read _ (λ i. c .before .before .before .before .before .shared-slice-known .given i .fits) (c .before .before .before .before .refusal .ensures) (c .before .before .before .if1 .left) (c .before .before .count .ensures) (c .before .ghosts .ensures) (c .ghost-at .ensures)
+returns-2 c =
+    let shared-slice-known = c .before .before .before .before .before .shared-slice-known in
+    let refusal = c .before .before .before .before .refusal in
+    let if1 = c .before .before .before .if1 in
+    let count = c .before .before .count in
+    let ghosts = c .before .ghosts in
+    length-read _ (λ i. shared-slice-known .given i .fits) (refusal .ensures) (if1 .left) (count .ensures) (ghosts .ensures) (c .ghost-at .ensures)
 
 pub part-of-area-length-spec : {M : Type 1} → statement M
 part-of-area-length-spec =

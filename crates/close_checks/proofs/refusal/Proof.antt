@@ -15,13 +15,25 @@ returns : tie.Need-returns
 returns c = refused-area _ (sym (c .before .area-sound .ensures) ∙ not-true _ (c .if1 .taken))
 
 ranks-requires : tie.Need-ranks-requires
-ranks-requires c κs = omega (arith, (sound-holds _ (sym (c .before .area-sound .ensures) ∙ not-false _ (c .if1 .left)) (λ i. c .before .before .shared-slice-known .given i .fits)) .long)
+ranks-requires c κs =
+    let area-sound = c .before .area-sound in
+    let shared-slice-known = c .before .before .shared-slice-known in
+    omega (arith, (sound-holds _ (sym (area-sound .ensures) ∙ not-false _ (c .if1 .left)) (λ i. shared-slice-known .given i .fits)) .long)
 
 new-place-requires : tie.Need-new-place-requires
-new-place-requires c κs = omega (arith, (sound-holds _ (sym (c .before .before .area-sound .ensures) ∙ not-false _ (c .before .if1 .left)) (λ i. c .before .before .before .shared-slice-known .given i .fits)) .ranksHigh, c .ranks .ensures)
+new-place-requires c κs =
+    let area-sound = c .before .before .area-sound in
+    let if1 = c .before .if1 in
+    let shared-slice-known = c .before .before .before .shared-slice-known in
+    omega (arith, (sound-holds _ (sym (area-sound .ensures) ∙ not-false _ (if1 .left)) (λ i. shared-slice-known .given i .fits)) .ranksHigh, c .ranks .ensures)
 
 words-place-requires : tie.Need-words-place-requires
-words-place-requires c κs = omega (arith, (sound-holds _ (sym (c .before .before .before .area-sound .ensures) ∙ not-false _ (c .before .before .if1 .left)) (λ i. c .before .before .before .before .shared-slice-known .given i .fits)) .ranksHigh, c .before .ranks .ensures)
+words-place-requires c κs =
+    let area-sound = c .before .before .before .area-sound in
+    let if1 = c .before .before .if1 in
+    let shared-slice-known = c .before .before .before .before .shared-slice-known in
+    let ranks = c .before .ranks in
+    omega (arith, (sound-holds _ (sym (area-sound .ensures) ∙ not-false _ (if1 .left)) (λ i. shared-slice-known .given i .fits)) .ranksHigh, ranks .ensures)
 
 sub-old : tie.Need-sub-old
 sub-old c = search needs
@@ -30,7 +42,13 @@ part-old-start : tie.Need-part-old-start
 part-old-start c = search needs
 
 part-old-end : tie.Need-part-old-end
-part-old-end c = omega (arith, (sound-holds _ (sym (c .before .before .before .before .area-sound .ensures) ∙ not-false _ (c .before .before .before .if1 .left)) (λ i. c .before .before .before .before .before .shared-slice-known .given i .fits)) .long, c .before .before .ranks .ensures, c .before .new-place .ensures .1)
+part-old-end c =
+    let area-sound = c .before .before .before .before .area-sound in
+    let if1 = c .before .before .before .if1 in
+    let shared-slice-known = c .before .before .before .before .before .shared-slice-known in
+    let ranks = c .before .before .ranks in
+    let new-place = c .before .new-place in
+    omega (arith, (sound-holds _ (sym (area-sound .ensures) ∙ not-false _ (if1 .left)) (λ i. shared-slice-known .given i .fits)) .long, ranks .ensures, new-place .ensures .1)
 
 sub-new : tie.Need-sub-new
 sub-new c = search needs
@@ -39,22 +57,59 @@ part-new-start : tie.Need-part-new-start
 part-new-start c = search needs
 
 part-new-end : tie.Need-part-new-end
-part-new-end c = omega (arith, (sound-holds _ (sym (c .before .before .before .before .before .area-sound .ensures) ∙ not-false _ (c .before .before .before .before .if1 .left)) (λ i. c .before .before .before .before .before .before .shared-slice-known .given i .fits)) .long, c .before .before .before .ranks .ensures, c .before .words-place .ensures .1)
+part-new-end c =
+    let area-sound = c .before .before .before .before .before .area-sound in
+    let if1 = c .before .before .before .before .if1 in
+    let shared-slice-known = c .before .before .before .before .before .before .shared-slice-known in
+    let ranks = c .before .before .before .ranks in
+    let words-place = c .before .words-place in
+    omega (arith, (sound-holds _ (sym (area-sound .ensures) ∙ not-false _ (if1 .left)) (λ i. shared-slice-known .given i .fits)) .long, ranks .ensures, words-place .ensures .1)
 
 all-heard-requires : tie.Need-all-heard-requires
-all-heard-requires c κs = tabled _ (c .before .before .before .before .ranks .ensures) (c .before .before .before .new-place .ensures .0) (c .before .before .words-place .ensures .0) (sound-holds _ (sym (c .before .before .before .before .before .before .area-sound .ensures) ∙ not-false _ (c .before .before .before .before .before .if1 .left)) (λ i. c .before .before .before .before .before .before .before .shared-slice-known .given i .fits))
+all-heard-requires c κs =
+    let ranks = c .before .before .before .before .ranks in
+    let new-place = c .before .before .before .new-place in
+    let words-place = c .before .before .words-place in
+    let area-sound = c .before .before .before .before .before .before .area-sound in
+    let if1 = c .before .before .before .before .before .if1 in
+    let shared-slice-known = c .before .before .before .before .before .before .before .shared-slice-known in
+    tabled _ (ranks .ensures) (new-place .ensures .0) (words-place .ensures .0) (sound-holds _ (sym (area-sound .ensures) ∙ not-false _ (if1 .left)) (λ i. shared-slice-known .given i .fits))
 
 returns-2 : tie.Need-returns-2
-returns-2 c = refused-heard _ (sym (c .before .before .before .before .before .before .before .before .area-sound .ensures) ∙ not-false _ (c .before .before .before .before .before .before .before .if1 .left)) (sym (c .before .all-heard .ensures) ∙ not-true _ (c .if2 .taken))
+returns-2 c =
+    let area-sound = c .before .before .before .before .before .before .before .before .area-sound in
+    let if1 = c .before .before .before .before .before .before .before .if1 in
+    let all-heard = c .before .all-heard in
+    refused-heard _ (sym (area-sound .ensures) ∙ not-false _ (if1 .left)) (sym (all-heard .ensures) ∙ not-true _ (c .if2 .taken))
 
 join-sound-requires : tie.Need-join-sound-requires
-join-sound-requires c κs = record { header = sound-holds _ (sym (c .before .before .before .before .before .before .before .before .area-sound .ensures) ∙ not-false _ (c .before .before .before .before .before .before .before .if1 .left)) (λ i. c .before .before .before .before .before .before .before .before .before .shared-slice-known .given i .fits); isNew = (tabled _ (c .before .before .before .before .before .before .ranks .ensures) (c .before .before .before .before .before .new-place .ensures .0) (c .before .before .before .before .words-place .ensures .0) (sound-holds _ (sym (c .before .before .before .before .before .before .before .before .area-sound .ensures) ∙ not-false _ (c .before .before .before .before .before .before .before .if1 .left)) (λ i. c .before .before .before .before .before .before .before .before .before .shared-slice-known .given i .fits))) .isNew; sound = sym (c .before .before .before .before .before .before .before .before .area-sound .ensures) ∙ not-false _ (c .before .before .before .before .before .before .before .if1 .left); all = sym (c .before .all-heard .ensures) ∙ not-false _ (c .if2 .left) }
+join-sound-requires c κs =
+    let area-sound = c .before .before .before .before .before .before .before .before .area-sound in
+    let if1 = c .before .before .before .before .before .before .before .if1 in
+    let shared-slice-known = c .before .before .before .before .before .before .before .before .before .shared-slice-known in
+    let ranks = c .before .before .before .before .before .before .ranks in
+    let new-place = c .before .before .before .before .before .new-place in
+    let words-place = c .before .before .before .before .words-place in
+    let all-heard = c .before .all-heard in
+    record { header = sound-holds _ (sym (area-sound .ensures) ∙ not-false _ (if1 .left)) (λ i. shared-slice-known .given i .fits); isNew = (tabled _ (ranks .ensures) (new-place .ensures .0) (words-place .ensures .0) (sound-holds _ (sym (area-sound .ensures) ∙ not-false _ (if1 .left)) (λ i. shared-slice-known .given i .fits))) .isNew; sound = sym (area-sound .ensures) ∙ not-false _ (if1 .left); all = sym (all-heard .ensures) ∙ not-false _ (c .if2 .left) }
 
 returns-3 : tie.Need-returns-3
-returns-3 c = refused-join _ (sym (c .before .before .before .before .before .before .before .before .before .before .area-sound .ensures) ∙ not-false _ (c .before .before .before .before .before .before .before .before .before .if1 .left)) (sym (c .before .before .before .all-heard .ensures) ∙ not-false _ (c .before .before .if2 .left)) (sym (c .before .join-sound .ensures) ∙ not-true _ (c .if3 .taken))
+returns-3 c =
+    let area-sound = c .before .before .before .before .before .before .before .before .before .before .area-sound in
+    let if1 = c .before .before .before .before .before .before .before .before .before .if1 in
+    let all-heard = c .before .before .before .all-heard in
+    let if2 = c .before .before .if2 in
+    let join-sound = c .before .join-sound in
+    refused-join _ (sym (area-sound .ensures) ∙ not-false _ (if1 .left)) (sym (all-heard .ensures) ∙ not-false _ (if2 .left)) (sym (join-sound .ensures) ∙ not-true _ (c .if3 .taken))
 
 returns-4 : tie.Need-returns-4
-returns-4 c = not-refused _ (sym (c .before .before .before .before .before .before .before .before .before .before .area-sound .ensures) ∙ not-false _ (c .before .before .before .before .before .before .before .before .before .if1 .left)) (sym (c .before .before .before .all-heard .ensures) ∙ not-false _ (c .before .before .if2 .left)) (sym (c .before .join-sound .ensures) ∙ not-false _ (c .if3 .left))
+returns-4 c =
+    let area-sound = c .before .before .before .before .before .before .before .before .before .before .area-sound in
+    let if1 = c .before .before .before .before .before .before .before .before .before .if1 in
+    let all-heard = c .before .before .before .all-heard in
+    let if2 = c .before .before .if2 in
+    let join-sound = c .before .join-sound in
+    not-refused _ (sym (area-sound .ensures) ∙ not-false _ (if1 .left)) (sym (all-heard .ensures) ∙ not-false _ (if2 .left)) (sym (join-sound .ensures) ∙ not-false _ (c .if3 .left))
 
 pub refusal-spec : {M : Type 1} → statement M
 refusal-spec =

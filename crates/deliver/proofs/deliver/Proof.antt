@@ -19,7 +19,11 @@ same-length-2 : tie.Need-same-length-2
 same-length-2 c = search needs
 
 returns-2 : tie.Need-returns-2
-returns-2 c = deliver-accepted _ _ (c .before .before .before .before .before .refusal .ensures) (c .before .before .before .before .if1 .left) (c .before .before .write-delivery .ensures)
+returns-2 c =
+    let refusal = c .before .before .before .before .before .refusal in
+    let if1 = c .before .before .before .before .if1 in
+    let write-delivery = c .before .before .write-delivery in
+    deliver-accepted _ _ (refusal .ensures) (if1 .left) (write-delivery .ensures)
 
 pub deliver-spec : {M : Type 1} → statement M
 deliver-spec =

@@ -28,7 +28,12 @@ ghost-bound-requires : tie.Need-ghost-bound-requires
 ghost-bound-requires c κs = search needs
 
 returns : tie.Need-returns
-returns c = room-read _ _ (c .before .before .before .before .ghosts .ensures) (c .before .before .before .ghost-count .ensures) (c .before .before .count .ensures) (c .before .dimension .ensures) (c .ghost-bound .ensures .0)
+returns c =
+    let ghosts = c .before .before .before .before .ghosts in
+    let ghost-count = c .before .before .before .ghost-count in
+    let count = c .before .before .count in
+    let dimension = c .before .dimension in
+    room-read _ _ (ghosts .ensures) (ghost-count .ensures) (count .ensures) (dimension .ensures) (c .ghost-bound .ensures .0)
 
 pub has-room-spec : {M : Type 1} → statement M
 has-room-spec =

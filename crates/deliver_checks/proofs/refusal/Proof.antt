@@ -16,28 +16,80 @@ in-layout-requires : tie.Need-in-layout-requires
 in-layout-requires c κs = search needs
 
 returns-2 : tie.Need-returns-2
-returns-2 c = fails-layout _ _ (c .before .before .before .area-sound .ensures) (not-false _ (c .before .before .if1 .left)) (c .before .in-layout .ensures) (not-true _ (c .if2 .taken))
+returns-2 c =
+    let area-sound = c .before .before .before .area-sound in
+    let if1 = c .before .before .if1 in
+    let in-layout = c .before .in-layout in
+    fails-layout _ _ (area-sound .ensures) (not-false _ (if1 .left)) (in-layout .ensures) (not-true _ (c .if2 .taken))
 
 same-run-requires : tie.Need-same-run-requires
-same-run-requires c κs = headed _ _ (c .before .before .before .area-sound .ensures) (not-false _ (c .before .before .if1 .left)) (c .before .in-layout .ensures) (not-false _ (c .if2 .left)) (λ i. c .before .before .before .before .before .shared-slice-known .given i .fits)
+same-run-requires c κs =
+    let area-sound = c .before .before .before .area-sound in
+    let if1 = c .before .before .if1 in
+    let in-layout = c .before .in-layout in
+    let shared-slice-known = c .before .before .before .before .before .shared-slice-known in
+    headed _ _ (area-sound .ensures) (not-false _ (if1 .left)) (in-layout .ensures) (not-false _ (c .if2 .left)) (λ i. shared-slice-known .given i .fits)
 
 returns-3 : tie.Need-returns-3
-returns-3 c = fails-run _ _ (c .before .before .before .before .before .area-sound .ensures) (not-false _ (c .before .before .before .before .if1 .left)) (c .before .before .before .in-layout .ensures) (not-false _ (c .before .before .if2 .left)) (c .before .same-run .ensures) (not-true _ (c .if3 .taken))
+returns-3 c =
+    let area-sound = c .before .before .before .before .before .area-sound in
+    let if1 = c .before .before .before .before .if1 in
+    let in-layout = c .before .before .before .in-layout in
+    let if2 = c .before .before .if2 in
+    let same-run = c .before .same-run in
+    fails-run _ _ (area-sound .ensures) (not-false _ (if1 .left)) (in-layout .ensures) (not-false _ (if2 .left)) (same-run .ensures) (not-true _ (c .if3 .taken))
 
 receiver-is-requires : tie.Need-receiver-is-requires
-receiver-is-requires c κs = headed _ _ (c .before .before .before .before .before .area-sound .ensures) (not-false _ (c .before .before .before .before .if1 .left)) (c .before .before .before .in-layout .ensures) (not-false _ (c .before .before .if2 .left)) (λ i. c .before .before .before .before .before .before .before .shared-slice-known .given i .fits)
+receiver-is-requires c κs =
+    let area-sound = c .before .before .before .before .before .area-sound in
+    let if1 = c .before .before .before .before .if1 in
+    let in-layout = c .before .before .before .in-layout in
+    let if2 = c .before .before .if2 in
+    let shared-slice-known = c .before .before .before .before .before .before .before .shared-slice-known in
+    headed _ _ (area-sound .ensures) (not-false _ (if1 .left)) (in-layout .ensures) (not-false _ (if2 .left)) (λ i. shared-slice-known .given i .fits)
 
 returns-4 : tie.Need-returns-4
-returns-4 c = fails-receiver _ _ (c .before .before .before .before .before .before .before .area-sound .ensures) (not-false _ (c .before .before .before .before .before .before .if1 .left)) (c .before .before .before .before .before .in-layout .ensures) (not-false _ (c .before .before .before .before .if2 .left)) (c .before .before .before .same-run .ensures) (not-false _ (c .before .before .if3 .left)) (c .before .receiver-is .ensures) (not-true _ (c .if4 .taken))
+returns-4 c =
+    let area-sound = c .before .before .before .before .before .before .before .area-sound in
+    let if1 = c .before .before .before .before .before .before .if1 in
+    let in-layout = c .before .before .before .before .before .in-layout in
+    let if2 = c .before .before .before .before .if2 in
+    let same-run = c .before .before .before .same-run in
+    let if3 = c .before .before .if3 in
+    let receiver-is = c .before .receiver-is in
+    fails-receiver _ _ (area-sound .ensures) (not-false _ (if1 .left)) (in-layout .ensures) (not-false _ (if2 .left)) (same-run .ensures) (not-false _ (if3 .left)) (receiver-is .ensures) (not-true _ (c .if4 .taken))
 
 ranks-requires : tie.Need-ranks-requires
-ranks-requires c κs = headed _ _ (c .before .before .before .before .before .before .before .area-sound .ensures) (not-false _ (c .before .before .before .before .before .before .if1 .left)) (c .before .before .before .before .before .in-layout .ensures) (not-false _ (c .before .before .before .before .if2 .left)) (λ i. c .before .before .before .before .before .before .before .before .before .shared-slice-known .given i .fits) .area
+ranks-requires c κs =
+    let area-sound = c .before .before .before .before .before .before .before .area-sound in
+    let if1 = c .before .before .before .before .before .before .if1 in
+    let in-layout = c .before .before .before .before .before .in-layout in
+    let if2 = c .before .before .before .before .if2 in
+    let shared-slice-known = c .before .before .before .before .before .before .before .before .before .shared-slice-known in
+    headed _ _ (area-sound .ensures) (not-false _ (if1 .left)) (in-layout .ensures) (not-false _ (if2 .left)) (λ i. shared-slice-known .given i .fits) .area
 
 new-place-requires : tie.Need-new-place-requires
-new-place-requires c κs = omega (arith, ready _ _ (c .before .before .before .before .before .before .before .before .area-sound .ensures) (not-false _ (c .before .before .before .before .before .before .before .if1 .left)) (c .before .before .before .before .before .before .in-layout .ensures) (not-false _ (c .before .before .before .before .before .if2 .left)) (c .before .before .before .before .same-run .ensures) (not-false _ (c .before .before .before .if3 .left)) (λ i. c .before .before .before .before .before .before .before .before .before .before .shared-slice-known .given i .fits) .header .ranksHigh, c .ranks .ensures)
+new-place-requires c κs =
+    let area-sound = c .before .before .before .before .before .before .before .before .area-sound in
+    let if1 = c .before .before .before .before .before .before .before .if1 in
+    let in-layout = c .before .before .before .before .before .before .in-layout in
+    let if2 = c .before .before .before .before .before .if2 in
+    let same-run = c .before .before .before .before .same-run in
+    let if3 = c .before .before .before .if3 in
+    let shared-slice-known = c .before .before .before .before .before .before .before .before .before .before .shared-slice-known in
+    omega (arith, ready _ _ (area-sound .ensures) (not-false _ (if1 .left)) (in-layout .ensures) (not-false _ (if2 .left)) (same-run .ensures) (not-false _ (if3 .left)) (λ i. shared-slice-known .given i .fits) .header .ranksHigh, c .ranks .ensures)
 
 words-place-requires : tie.Need-words-place-requires
-words-place-requires c κs = omega (arith, ready _ _ (c .before .before .before .before .before .before .before .before .before .area-sound .ensures) (not-false _ (c .before .before .before .before .before .before .before .before .if1 .left)) (c .before .before .before .before .before .before .before .in-layout .ensures) (not-false _ (c .before .before .before .before .before .before .if2 .left)) (c .before .before .before .before .before .same-run .ensures) (not-false _ (c .before .before .before .before .if3 .left)) (λ i. c .before .before .before .before .before .before .before .before .before .before .before .shared-slice-known .given i .fits) .header .ranksHigh, c .before .ranks .ensures)
+words-place-requires c κs =
+    let area-sound = c .before .before .before .before .before .before .before .before .before .area-sound in
+    let if1 = c .before .before .before .before .before .before .before .before .if1 in
+    let in-layout = c .before .before .before .before .before .before .before .in-layout in
+    let if2 = c .before .before .before .before .before .before .if2 in
+    let same-run = c .before .before .before .before .before .same-run in
+    let if3 = c .before .before .before .before .if3 in
+    let shared-slice-known = c .before .before .before .before .before .before .before .before .before .before .before .shared-slice-known in
+    let ranks = c .before .ranks in
+    omega (arith, ready _ _ (area-sound .ensures) (not-false _ (if1 .left)) (in-layout .ensures) (not-false _ (if2 .left)) (same-run .ensures) (not-false _ (if3 .left)) (λ i. shared-slice-known .given i .fits) .header .ranksHigh, ranks .ensures)
 
 sub-old : tie.Need-sub-old
 sub-old c = search needs
@@ -46,7 +98,17 @@ part-old-start : tie.Need-part-old-start
 part-old-start c = search needs
 
 part-old-end : tie.Need-part-old-end
-part-old-end c = omega (arith, ready _ _ (c .before .before .before .before .before .before .before .before .before .before .area-sound .ensures) (not-false _ (c .before .before .before .before .before .before .before .before .before .if1 .left)) (c .before .before .before .before .before .before .before .before .in-layout .ensures) (not-false _ (c .before .before .before .before .before .before .before .if2 .left)) (c .before .before .before .before .before .before .same-run .ensures) (not-false _ (c .before .before .before .before .before .if3 .left)) (λ i. c .before .before .before .before .before .before .before .before .before .before .before .before .shared-slice-known .given i .fits) .header .long, c .before .before .ranks .ensures, c .before .new-place .ensures .1)
+part-old-end c =
+    let area-sound = c .before .before .before .before .before .before .before .before .before .before .area-sound in
+    let if1 = c .before .before .before .before .before .before .before .before .before .if1 in
+    let in-layout = c .before .before .before .before .before .before .before .before .in-layout in
+    let if2 = c .before .before .before .before .before .before .before .if2 in
+    let same-run = c .before .before .before .before .before .before .same-run in
+    let if3 = c .before .before .before .before .before .if3 in
+    let shared-slice-known = c .before .before .before .before .before .before .before .before .before .before .before .before .shared-slice-known in
+    let ranks = c .before .before .ranks in
+    let new-place = c .before .new-place in
+    omega (arith, ready _ _ (area-sound .ensures) (not-false _ (if1 .left)) (in-layout .ensures) (not-false _ (if2 .left)) (same-run .ensures) (not-false _ (if3 .left)) (λ i. shared-slice-known .given i .fits) .header .long, ranks .ensures, new-place .ensures .1)
 
 sub-new : tie.Need-sub-new
 sub-new c = search needs
@@ -55,13 +117,43 @@ part-new-start : tie.Need-part-new-start
 part-new-start c = search needs
 
 part-new-end : tie.Need-part-new-end
-part-new-end c = omega (arith, ready _ _ (c .before .before .before .before .before .before .before .before .before .before .before .area-sound .ensures) (not-false _ (c .before .before .before .before .before .before .before .before .before .before .if1 .left)) (c .before .before .before .before .before .before .before .before .before .in-layout .ensures) (not-false _ (c .before .before .before .before .before .before .before .before .if2 .left)) (c .before .before .before .before .before .before .before .same-run .ensures) (not-false _ (c .before .before .before .before .before .before .if3 .left)) (λ i. c .before .before .before .before .before .before .before .before .before .before .before .before .before .shared-slice-known .given i .fits) .header .long, c .before .before .before .ranks .ensures, c .before .words-place .ensures .1)
+part-new-end c =
+    let area-sound = c .before .before .before .before .before .before .before .before .before .before .before .area-sound in
+    let if1 = c .before .before .before .before .before .before .before .before .before .before .if1 in
+    let in-layout = c .before .before .before .before .before .before .before .before .before .in-layout in
+    let if2 = c .before .before .before .before .before .before .before .before .if2 in
+    let same-run = c .before .before .before .before .before .before .before .same-run in
+    let if3 = c .before .before .before .before .before .before .if3 in
+    let shared-slice-known = c .before .before .before .before .before .before .before .before .before .before .before .before .before .shared-slice-known in
+    let ranks = c .before .before .before .ranks in
+    let words-place = c .before .words-place in
+    omega (arith, ready _ _ (area-sound .ensures) (not-false _ (if1 .left)) (in-layout .ensures) (not-false _ (if2 .left)) (same-run .ensures) (not-false _ (if3 .left)) (λ i. shared-slice-known .given i .fits) .header .long, ranks .ensures, words-place .ensures .1)
 
 due-refusal-requires : tie.Need-due-refusal-requires
-due-refusal-requires c κs = (tabled _ (c .before .before .before .before .ranks .ensures) (c .before .before .before .new-place .ensures .0) (c .before .before .words-place .ensures .0) (ready _ _ (c .before .before .before .before .before .before .before .before .before .before .before .before .area-sound .ensures) (not-false _ (c .before .before .before .before .before .before .before .before .before .before .before .if1 .left)) (c .before .before .before .before .before .before .before .before .before .before .in-layout .ensures) (not-false _ (c .before .before .before .before .before .before .before .before .before .if2 .left)) (c .before .before .before .before .before .before .before .before .same-run .ensures) (not-false _ (c .before .before .before .before .before .before .before .if3 .left)) (λ i. c .before .before .before .before .before .before .before .before .before .before .before .before .before .before .shared-slice-known .given i .fits) .header), ready _ _ (c .before .before .before .before .before .before .before .before .before .before .before .before .area-sound .ensures) (not-false _ (c .before .before .before .before .before .before .before .before .before .before .before .if1 .left)) (c .before .before .before .before .before .before .before .before .before .before .in-layout .ensures) (not-false _ (c .before .before .before .before .before .before .before .before .before .if2 .left)) (c .before .before .before .before .before .before .before .before .same-run .ensures) (not-false _ (c .before .before .before .before .before .before .before .if3 .left)) (λ i. c .before .before .before .before .before .before .before .before .before .before .before .before .before .before .shared-slice-known .given i .fits))
+due-refusal-requires c κs =
+    let ranks = c .before .before .before .before .ranks in
+    let new-place = c .before .before .before .new-place in
+    let words-place = c .before .before .words-place in
+    let area-sound = c .before .before .before .before .before .before .before .before .before .before .before .before .area-sound in
+    let if1 = c .before .before .before .before .before .before .before .before .before .before .before .if1 in
+    let in-layout = c .before .before .before .before .before .before .before .before .before .before .in-layout in
+    let if2 = c .before .before .before .before .before .before .before .before .before .if2 in
+    let same-run = c .before .before .before .before .before .before .before .before .same-run in
+    let if3 = c .before .before .before .before .before .before .before .if3 in
+    let shared-slice-known = c .before .before .before .before .before .before .before .before .before .before .before .before .before .before .shared-slice-known in
+    (tabled _ (ranks .ensures) (new-place .ensures .0) (words-place .ensures .0) (ready _ _ (area-sound .ensures) (not-false _ (if1 .left)) (in-layout .ensures) (not-false _ (if2 .left)) (same-run .ensures) (not-false _ (if3 .left)) (λ i. shared-slice-known .given i .fits) .header), ready _ _ (area-sound .ensures) (not-false _ (if1 .left)) (in-layout .ensures) (not-false _ (if2 .left)) (same-run .ensures) (not-false _ (if3 .left)) (λ i. shared-slice-known .given i .fits))
 
 returns-5 : tie.Need-returns-5
-returns-5 c = rest-checks _ _ (c .before .before .before .before .before .before .before .before .before .before .before .before .before .area-sound .ensures) (not-false _ (c .before .before .before .before .before .before .before .before .before .before .before .before .if1 .left)) (c .before .before .before .before .before .before .before .before .before .before .before .in-layout .ensures) (not-false _ (c .before .before .before .before .before .before .before .before .before .before .if2 .left)) (c .before .before .before .before .before .before .before .before .before .same-run .ensures) (not-false _ (c .before .before .before .before .before .before .before .before .if3 .left)) (c .before .before .before .before .before .before .before .receiver-is .ensures) (not-false _ (c .before .before .before .before .before .before .if4 .left)) (c .due-refusal .ensures)
+returns-5 c =
+    let area-sound = c .before .before .before .before .before .before .before .before .before .before .before .before .before .area-sound in
+    let if1 = c .before .before .before .before .before .before .before .before .before .before .before .before .if1 in
+    let in-layout = c .before .before .before .before .before .before .before .before .before .before .before .in-layout in
+    let if2 = c .before .before .before .before .before .before .before .before .before .before .if2 in
+    let same-run = c .before .before .before .before .before .before .before .before .before .same-run in
+    let if3 = c .before .before .before .before .before .before .before .before .if3 in
+    let receiver-is = c .before .before .before .before .before .before .before .receiver-is in
+    let if4 = c .before .before .before .before .before .before .if4 in
+    rest-checks _ _ (area-sound .ensures) (not-false _ (if1 .left)) (in-layout .ensures) (not-false _ (if2 .left)) (same-run .ensures) (not-false _ (if3 .left)) (receiver-is .ensures) (not-false _ (if4 .left)) (c .due-refusal .ensures)
 
 pub refusal-spec : {M : Type 1} → statement M
 refusal-spec =

@@ -31,7 +31,15 @@ ranks-requires-2 : tie.Need-ranks-requires-2
 ranks-requires-2 c κs = search needs
 
 returns : tie.Need-returns
-returns c = run-read _ _ (c .before .before .before .before .before .before .before .epoch .ensures) (c .before .before .before .before .before .before .epoch2 .ensures) (c .before .before .before .before .before .dimension .ensures) (c .before .before .before .before .dimension2 .ensures) (c .before .before .before .trees-below .ensures) (c .before .before .trees .ensures) (c .before .ranks .ensures) (c .ranks2 .ensures)
+returns c =
+    let epoch = c .before .before .before .before .before .before .before .epoch in
+    let epoch2 = c .before .before .before .before .before .before .epoch2 in
+    let dimension = c .before .before .before .before .before .dimension in
+    let dimension2 = c .before .before .before .before .dimension2 in
+    let trees-below = c .before .before .before .trees-below in
+    let trees = c .before .before .trees in
+    let ranks = c .before .ranks in
+    run-read _ _ (epoch .ensures) (epoch2 .ensures) (dimension .ensures) (dimension2 .ensures) (trees-below .ensures) (trees .ensures) (ranks .ensures) (c .ranks2 .ensures)
 
 pub same-run-spec : {M : Type 1} → statement M
 same-run-spec =

@@ -21,10 +21,20 @@ rank-requires : tie.Need-rank-requires
 rank-requires c κs = search needs
 
 sends-some-requires : tie.Need-sends-some-requires
-sends-some-requires c κs = tabled-pair (c .before .before .before .before .before .before .before .before .pre .0) (omega (arith, c .before .before .ranks .ensures, c .before .if1 .left)) (c .rank .ensures)
+sends-some-requires c κs =
+    let pre = c .before .before .before .before .before .before .before .before .pre in
+    let ranks = c .before .before .ranks in
+    let if1 = c .before .if1 in
+    tabled-pair (pre .0) (omega (arith, ranks .ensures, if1 .left)) (c .rank .ensures)
 
 returns-2 : tie.Need-returns-2
-returns-2 c = sender-read _ _ (c .before .before .before .before .sender .ensures) (c .before .before .before .before .before .before .before .before .before .pre .0) (c .before .rank .ensures) (c .before .before .before .ranks .ensures) (c .before .before .if1 .left) (c .sends-some .ensures)
+returns-2 c =
+    let sender = c .before .before .before .before .sender in
+    let pre = c .before .before .before .before .before .before .before .before .before .pre in
+    let rank = c .before .rank in
+    let ranks = c .before .before .before .ranks in
+    let if1 = c .before .before .if1 in
+    sender-read _ _ (sender .ensures) (pre .0) (rank .ensures) (ranks .ensures) (if1 .left) (c .sends-some .ensures)
 
 pub sender-due-spec : {M : Type 1} → statement M
 sender-due-spec =

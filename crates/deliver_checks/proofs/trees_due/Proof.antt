@@ -16,19 +16,38 @@ rank-requires : tie.Need-rank-requires
 rank-requires c κs = search needs
 
 sent-requires : tie.Need-sent-requires
-sent-requires c κs = tabled-pair (c .before .before .before .before .before .before .pre .0) (omega (arith, c .before .sender .ensures, c .before .before .before .before .before .before .pre .2)) (c .rank .ensures)
+sent-requires c κs =
+    let pre = c .before .before .before .before .before .before .pre in
+    let sender = c .before .sender in
+    tabled-pair (pre .0) (omega (arith, sender .ensures, pre .2)) (c .rank .ensures)
 
 tree-count-requires : tie.Need-tree-count-requires
 tree-count-requires c κs = layout-header _ (c .before .before .before .before .before .before .before .pre .1)
 
 returns : tie.Need-returns
-returns c = trees-other _ _ (c .before .before .before .before .sender .ensures) (c .before .before .before .before .before .before .before .before .before .pre .0) (c .before .before .before .rank .ensures) (c .before .tree-count .ensures) (c .before .before .sent .ensures .1) (c .if1 .taken)
+returns c =
+    let sender = c .before .before .before .before .sender in
+    let pre = c .before .before .before .before .before .before .before .before .before .pre in
+    let rank = c .before .before .before .rank in
+    let tree-count = c .before .tree-count in
+    let sent = c .before .before .sent in
+    trees-other _ _ (sender .ensures) (pre .0) (rank .ensures) (tree-count .ensures) (sent .ensures .1) (c .if1 .taken)
 
 trees-from-requires : tie.Need-trees-from-requires
-trees-from-requires c κs = layout-room _ (c .before .before .before .before .before .before .before .before .before .pre .1) (sym (c .if1 .left) ∙ c .before .tree-count .ensures)
+trees-from-requires c κs =
+    let pre = c .before .before .before .before .before .before .before .before .before .pre in
+    let tree-count = c .before .tree-count in
+    layout-room _ (pre .1) (sym (c .if1 .left) ∙ tree-count .ensures)
 
 returns-2 : tie.Need-returns-2
-returns-2 c = trees-read _ _ (c .before .before .before .before .before .sender .ensures) (c .before .before .before .before .before .before .before .before .before .before .pre .0) (c .before .before .before .before .rank .ensures) (c .before .before .tree-count .ensures) (c .before .before .before .sent .ensures .1) (c .before .if1 .left) (c .before .before .before .sent .ensures .0) (c .trees-from .ensures)
+returns-2 c =
+    let sender = c .before .before .before .before .before .sender in
+    let pre = c .before .before .before .before .before .before .before .before .before .before .pre in
+    let rank = c .before .before .before .before .rank in
+    let tree-count = c .before .before .tree-count in
+    let sent = c .before .before .before .sent in
+    let if1 = c .before .if1 in
+    trees-read _ _ (sender .ensures) (pre .0) (rank .ensures) (tree-count .ensures) (sent .ensures .1) (if1 .left) (sent .ensures .0) (c .trees-from .ensures)
 
 pub trees-due-spec : {M : Type 1} → statement M
 trees-due-spec =

@@ -32,7 +32,11 @@ add-t7 : tie.Need-add-t7
 add-t7 c = search needs
 
 returns-2 : tie.Need-returns-2
-returns-2 c = reading-begins _ (sym (c .before .before .before .in-layout .ensures) ∙ not-false _ (c .before .before .if1 .left)) (c .before .tree-count .ensures) (c .ghost-count .ensures)
+returns-2 c =
+    let in-layout = c .before .before .before .in-layout in
+    let if1 = c .before .before .if1 in
+    let tree-count = c .before .tree-count in
+    reading-begins _ (sym (in-layout .ensures) ∙ not-false _ (if1 .left)) (tree-count .ensures) (c .ghost-count .ensures)
 
 pub begin-reading-spec : {M : Type 1} → statement M
 begin-reading-spec =

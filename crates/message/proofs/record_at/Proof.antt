@@ -38,10 +38,20 @@ part-result-start : tie.Need-part-result-start
 part-result-start c = search needs
 
 part-result-end : tie.Need-part-result-end
-part-result-end c = omega (arith, size-length _ (sym (c .before .before .before .before .size-laid .ensures) ∙ not-false _ (c .before .before .before .if1 .left)), c .before .before .tree-count .ensures, c .tree-at .ensures)
+part-result-end c =
+    let size-laid = c .before .before .before .before .size-laid in
+    let if1 = c .before .before .before .if1 in
+    let tree-count = c .before .before .tree-count in
+    omega (arith, size-length _ (sym (size-laid .ensures) ∙ not-false _ (if1 .left)), tree-count .ensures, c .tree-at .ensures)
 
 returns-2 : tie.Need-returns-2
-returns-2 c = tree-lent _ (sym (c .before .before .before .before .before .size-laid .ensures) ∙ not-false _ (c .before .before .before .before .if1 .left)) _ (c .before .before .before .tree-count .ensures) (c .before .before .if2 .taken) (c .before .tree-at .ensures)
+returns-2 c =
+    let size-laid = c .before .before .before .before .before .size-laid in
+    let if1 = c .before .before .before .before .if1 in
+    let tree-count = c .before .before .before .tree-count in
+    let if2 = c .before .before .if2 in
+    let tree-at = c .before .tree-at in
+    tree-lent _ (sym (size-laid .ensures) ∙ not-false _ (if1 .left)) _ (tree-count .ensures) (if2 .taken) (tree-at .ensures)
 
 cast-j : tie.Need-cast-j
 cast-j c = search needs
@@ -71,16 +81,36 @@ part-result-start-2 : tie.Need-part-result-start-2
 part-result-start-2 c = search needs
 
 part-result-end-2 : tie.Need-part-result-end-2
-part-result-end-2 c = omega (arith, size-length _ (sym (c .before .before .before .before .before .before .size-laid .ensures) ∙ not-false _ (c .before .before .before .before .before .if1 .left)), c .before .before .before .before .tree-count .ensures, c .before .before .ghost-count .ensures, c .ghost-at .ensures)
+part-result-end-2 c =
+    let size-laid = c .before .before .before .before .before .before .size-laid in
+    let if1 = c .before .before .before .before .before .if1 in
+    let tree-count = c .before .before .before .before .tree-count in
+    let ghost-count = c .before .before .ghost-count in
+    omega (arith, size-length _ (sym (size-laid .ensures) ∙ not-false _ (if1 .left)), tree-count .ensures, ghost-count .ensures, c .ghost-at .ensures)
 
 returns-3 : tie.Need-returns-3
-returns-3 c = ghost-lent _ (sym (c .before .before .before .before .before .before .before .size-laid .ensures) ∙ not-false _ (c .before .before .before .before .before .before .if1 .left)) _ (c .before .before .before .before .before .tree-count .ensures) (c .before .before .before .ghost-count .ensures) (c .before .before .before .before .if2 .left) (c .before .before .if3 .taken) (c .before .ghost-at .ensures)
+returns-3 c =
+    let size-laid = c .before .before .before .before .before .before .before .size-laid in
+    let if1 = c .before .before .before .before .before .before .if1 in
+    let tree-count = c .before .before .before .before .before .tree-count in
+    let ghost-count = c .before .before .before .ghost-count in
+    let if2 = c .before .before .before .before .if2 in
+    let if3 = c .before .before .if3 in
+    let ghost-at = c .before .ghost-at in
+    ghost-lent _ (sym (size-laid .ensures) ∙ not-false _ (if1 .left)) _ (tree-count .ensures) (ghost-count .ensures) (if2 .left) (if3 .taken) (ghost-at .ensures)
 
 slice-aggregate-result-2 : tie.Need-slice-aggregate-result-2
 slice-aggregate-result-2 c = search needs
 
 returns-4 : tie.Need-returns-4
-returns-4 c = none-lent _ (sym (c .before .before .before .before .before .before .size-laid .ensures) ∙ not-false _ (c .before .before .before .before .before .if1 .left)) _ (c .before .before .before .before .tree-count .ensures) (c .before .before .ghost-count .ensures) (c .before .before .before .if2 .left) (c .before .if3 .left)
+returns-4 c =
+    let size-laid = c .before .before .before .before .before .before .size-laid in
+    let if1 = c .before .before .before .before .before .if1 in
+    let tree-count = c .before .before .before .before .tree-count in
+    let ghost-count = c .before .before .ghost-count in
+    let if2 = c .before .before .before .if2 in
+    let if3 = c .before .if3 in
+    none-lent _ (sym (size-laid .ensures) ∙ not-false _ (if1 .left)) _ (tree-count .ensures) (ghost-count .ensures) (if2 .left) (if3 .left)
 
 pub record-at-spec : {M : Type 1} → statement M
 record-at-spec =

@@ -29,7 +29,12 @@ add-count : tie.Need-add-count
 add-count c = search needs
 
 returns-2 : tie.Need-returns-2
-returns-2 c = none-remain _ (sym (c .before .before .before .before .size-laid .ensures) ∙ not-false _ (c .before .before .before .if1 .left)) _ (c .before .before .tree-count .ensures) (c .before .ghost-count .ensures) (c .if2 .taken)
+returns-2 c =
+    let size-laid = c .before .before .before .before .size-laid in
+    let if1 = c .before .before .before .if1 in
+    let tree-count = c .before .before .tree-count in
+    let ghost-count = c .before .ghost-count in
+    none-remain _ (sym (size-laid .ensures) ∙ not-false _ (if1 .left)) _ (tree-count .ensures) (ghost-count .ensures) (c .if2 .taken)
 
 sub-result : tie.Need-sub-result
 sub-result c = search needs
@@ -38,7 +43,12 @@ sub-result-2 : tie.Need-sub-result-2
 sub-result-2 c = search needs
 
 returns-3 : tie.Need-returns-3
-returns-3 c = some-remain _ (sym (c .before .before .before .before .size-laid .ensures) ∙ not-false _ (c .before .before .before .if1 .left)) _ (c .before .before .tree-count .ensures) (c .before .ghost-count .ensures) (c .if2 .left)
+returns-3 c =
+    let size-laid = c .before .before .before .before .size-laid in
+    let if1 = c .before .before .before .if1 in
+    let tree-count = c .before .before .tree-count in
+    let ghost-count = c .before .ghost-count in
+    some-remain _ (sym (size-laid .ensures) ∙ not-false _ (if1 .left)) _ (tree-count .ensures) (ghost-count .ensures) (c .if2 .left)
 
 pub remain-after-spec : {M : Type 1} → statement M
 remain-after-spec =

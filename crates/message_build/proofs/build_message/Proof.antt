@@ -15,28 +15,63 @@ slice-aggregate-mark-ghosts : tie.Need-slice-aggregate-mark-ghosts
 slice-aggregate-mark-ghosts c = search needs
 
 mark-ghosts-requires : tie.Need-mark-ghosts-requires
-mark-ghosts-requires c κs = (may-send _ _ _ _ _ (c .before .before .refusal .ensures) (λ i. c .before .before .before .before .before .shared-slice-known2 .given i .fits) (λ i. c .before .before .before .before .shared-slice-known3 .given i .fits) (c .before .if1 .left), blank 16384 refl)
+mark-ghosts-requires c κs =
+    let refusal = c .before .before .refusal in
+    let shared-slice-known2 = c .before .before .before .before .before .shared-slice-known2 in
+    let shared-slice-known3 = c .before .before .before .before .shared-slice-known3 in
+    let if1 = c .before .if1 in
+    (may-send _ _ _ _ _ (refusal .ensures) (λ i. shared-slice-known2 .given i .fits) (λ i. shared-slice-known3 .given i .fits) (if1 .left), blank 16384 refl)
 
 slice-aggregate-message-size : tie.Need-slice-aggregate-message-size
 slice-aggregate-message-size c = search needs
 
 message-size-requires : tie.Need-message-size-requires
-message-size-requires c κs = (may-send _ _ _ _ _ (c .before .before .before .before .before .refusal .ensures) (λ i. c .before .before .before .before .before .before .before .before .shared-slice-known2 .given i .fits) (λ i. c .before .before .before .before .before .before .before .shared-slice-known3 .given i .fits) (c .before .before .before .before .if1 .left) .pair, omega (arith, c .before .before .mark-ghosts .ensures .long))
+message-size-requires c κs =
+    let refusal = c .before .before .before .before .before .refusal in
+    let shared-slice-known2 = c .before .before .before .before .before .before .before .before .shared-slice-known2 in
+    let shared-slice-known3 = c .before .before .before .before .before .before .before .shared-slice-known3 in
+    let if1 = c .before .before .before .before .if1 in
+    let mark-ghosts = c .before .before .mark-ghosts in
+    (may-send _ _ _ _ _ (refusal .ensures) (λ i. shared-slice-known2 .given i .fits) (λ i. shared-slice-known3 .given i .fits) (if1 .left) .pair, omega (arith, mark-ghosts .ensures .long))
 
 returns-2 : tie.Need-returns-2
-returns-2 c = build-short _ _ _ _ _ (c .before .before .before .before .before .before .before .refusal .ensures) _ _ (c .before .before .before .before .before .before .if1 .left) (size-is _ _ _ _ _ (may-send _ _ _ _ _ (c .before .before .before .before .before .before .before .refusal .ensures) (λ i. c .before .before .before .before .before .before .before .before .before .before .shared-slice-known2 .given i .fits) (λ i. c .before .before .before .before .before .before .before .before .before .shared-slice-known3 .given i .fits) (c .before .before .before .before .before .before .if1 .left)) _ (c .before .before .before .before .mark-ghosts .ensures) _ (c .before .message-size .ensures)) (c .if2 .taken)
+returns-2 c =
+    let refusal = c .before .before .before .before .before .before .before .refusal in
+    let if1 = c .before .before .before .before .before .before .if1 in
+    let shared-slice-known2 = c .before .before .before .before .before .before .before .before .before .before .shared-slice-known2 in
+    let shared-slice-known3 = c .before .before .before .before .before .before .before .before .before .shared-slice-known3 in
+    let mark-ghosts = c .before .before .before .before .mark-ghosts in
+    let message-size = c .before .message-size in
+    build-short _ _ _ _ _ (refusal .ensures) _ _ (if1 .left) (size-is _ _ _ _ _ (may-send _ _ _ _ _ (refusal .ensures) (λ i. shared-slice-known2 .given i .fits) (λ i. shared-slice-known3 .given i .fits) (if1 .left)) _ (mark-ghosts .ensures) _ (message-size .ensures)) (c .if2 .taken)
 
 slice-aggregate-write-message : tie.Need-slice-aggregate-write-message
 slice-aggregate-write-message c = search needs
 
 write-message-requires : tie.Need-write-message-requires
-write-message-requires c κs = message-room _ _ _ _ _ (may-send _ _ _ _ _ (c .before .before .before .before .before .before .before .before .before .refusal .ensures) (λ i. c .before .before .before .before .before .before .before .before .before .before .before .before .shared-slice-known2 .given i .fits) (λ i. c .before .before .before .before .before .before .before .before .before .before .before .shared-slice-known3 .given i .fits) (c .before .before .before .before .before .before .before .before .if1 .left)) _ (c .before .before .before .before .before .before .mark-ghosts .ensures) _ _ (c .before .before .before .message-size .ensures) (c .before .before .if2 .left)
+write-message-requires c κs =
+    let refusal = c .before .before .before .before .before .before .before .before .before .refusal in
+    let shared-slice-known2 = c .before .before .before .before .before .before .before .before .before .before .before .before .shared-slice-known2 in
+    let shared-slice-known3 = c .before .before .before .before .before .before .before .before .before .before .before .shared-slice-known3 in
+    let if1 = c .before .before .before .before .before .before .before .before .if1 in
+    let mark-ghosts = c .before .before .before .before .before .before .mark-ghosts in
+    let message-size = c .before .before .before .message-size in
+    let if2 = c .before .before .if2 in
+    message-room _ _ _ _ _ (may-send _ _ _ _ _ (refusal .ensures) (λ i. shared-slice-known2 .given i .fits) (λ i. shared-slice-known3 .given i .fits) (if1 .left)) _ (mark-ghosts .ensures) _ _ (message-size .ensures) (if2 .left)
 
 same-length : tie.Need-same-length
 same-length c = search needs
 
 returns-3 : tie.Need-returns-3
-returns-3 c = build-done _ _ _ _ _ (c .before .before .before .before .before .before .before .before .before .before .before .before .refusal .ensures) _ _ (c .before .before .before .before .before .before .before .before .before .before .before .if1 .left) (size-is _ _ _ _ _ (may-send _ _ _ _ _ (c .before .before .before .before .before .before .before .before .before .before .before .before .refusal .ensures) (λ i. c .before .before .before .before .before .before .before .before .before .before .before .before .before .before .before .shared-slice-known2 .given i .fits) (λ i. c .before .before .before .before .before .before .before .before .before .before .before .before .before .before .shared-slice-known3 .given i .fits) (c .before .before .before .before .before .before .before .before .before .before .before .if1 .left)) _ (c .before .before .before .before .before .before .before .before .before .mark-ghosts .ensures) _ (c .before .before .before .before .before .before .message-size .ensures)) (c .before .before .before .before .before .if2 .left) (c .before .before .write-message .ensures)
+returns-3 c =
+    let refusal = c .before .before .before .before .before .before .before .before .before .before .before .before .refusal in
+    let if1 = c .before .before .before .before .before .before .before .before .before .before .before .if1 in
+    let shared-slice-known2 = c .before .before .before .before .before .before .before .before .before .before .before .before .before .before .before .shared-slice-known2 in
+    let shared-slice-known3 = c .before .before .before .before .before .before .before .before .before .before .before .before .before .before .shared-slice-known3 in
+    let mark-ghosts = c .before .before .before .before .before .before .before .before .before .mark-ghosts in
+    let message-size = c .before .before .before .before .before .before .message-size in
+    let if2 = c .before .before .before .before .before .if2 in
+    let write-message = c .before .before .write-message in
+    build-done _ _ _ _ _ (refusal .ensures) _ _ (if1 .left) (size-is _ _ _ _ _ (may-send _ _ _ _ _ (refusal .ensures) (λ i. shared-slice-known2 .given i .fits) (λ i. shared-slice-known3 .given i .fits) (if1 .left)) _ (mark-ghosts .ensures) _ (message-size .ensures)) (if2 .left) (write-message .ensures)
 
 pub build-message-spec : {M : Type 1} → statement M
 build-message-spec =

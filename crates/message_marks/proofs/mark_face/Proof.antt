@@ -8,25 +8,53 @@ tree-at-requires : tie.Need-tree-at-requires
 tree-at-requires c κs = search needs
 
 neighbour-of-requires : tie.Need-neighbour-of-requires
-neighbour-of-requires c κs = tree-face _ _ _ _ _ _ _ (c .before .before .before .before .before .pre .0) _ (c .before .before .before .before .before .pre .1) _ (c .tree-at .ensures)
+neighbour-of-requires c κs =
+    let pre = c .before .before .before .before .before .pre in
+    tree-face _ _ _ _ _ _ _ (pre .0) _ (pre .1) _ (c .tree-at .ensures)
 
 number-at-requires : tie.Need-number-at-requires
-number-at-requires c κs = across-fits _ _ _ _ _ _ _ (c .before .before .before .before .before .before .pre .0) _ (c .before .before .before .before .before .before .pre .1) _ _ (c .before .tree-at .ensures) (c .neighbour-of .ensures)
+number-at-requires c κs =
+    let pre = c .before .before .before .before .before .before .pre in
+    let tree-at = c .before .tree-at in
+    across-fits _ _ _ _ _ _ _ (pre .0) _ (pre .1) _ _ (tree-at .ensures) (c .neighbour-of .ensures)
 
 goes-requires : tie.Need-goes-requires
-goes-requires c κs = (across-record _ _ _ _ _ _ _ (c .before .before .before .before .before .before .before .pre .0) _ (c .before .before .before .before .before .before .before .pre .1) _ _ (c .before .before .tree-at .ensures) (c .before .neighbour-of .ensures), c .number-at .ensures)
+goes-requires c κs =
+    let pre = c .before .before .before .before .before .before .before .pre in
+    let tree-at = c .before .before .tree-at in
+    let neighbour-of = c .before .neighbour-of in
+    (across-record _ _ _ _ _ _ _ (pre .0) _ (pre .1) _ _ (tree-at .ensures) (neighbour-of .ensures), c .number-at .ensures)
 
 add-member-requires : tie.Need-add-member-requires
-add-member-requires c κs = omega (arith, number-fits _ _ _ _ _ _ _ (c .before .before .before .before .before .before .before .before .before .before .pre .0) _ (c .before .before .before .before .before .before .before .before .before .before .pre .1) _ _ (c .before .before .before .before .before .tree-at .ensures) (c .before .before .before .before .neighbour-of .ensures) _ (c .before .before .before .number-at .ensures), c .before .before .before .before .before .before .before .before .before .before .pre .2)
+add-member-requires c κs =
+    let pre = c .before .before .before .before .before .before .before .before .before .before .pre in
+    let tree-at = c .before .before .before .before .before .tree-at in
+    let neighbour-of = c .before .before .before .before .neighbour-of in
+    let number-at = c .before .before .before .number-at in
+    omega (arith, number-fits _ _ _ _ _ _ _ (pre .0) _ (pre .1) _ _ (tree-at .ensures) (neighbour-of .ensures) _ (number-at .ensures), pre .2)
 
 same-length : tie.Need-same-length
 same-length c = search needs
 
 returns : tie.Need-returns
-returns c = face-marked _ _ _ _ _ _ _ (c .before .before .before .before .before .before .before .before .before .before .before .before .before .pre .0) _ (c .before .before .before .before .before .before .before .before .before .before .before .before .before .pre .1) _ _ (c .before .before .before .before .before .before .before .before .tree-at .ensures) (c .before .before .before .before .before .before .before .neighbour-of .ensures) _ (c .before .before .before .before .before .before .number-at .ensures) _ (c .before .before .before .before .before .goes .ensures) _ _ (c .before .before .before .before .before .before .before .before .before .before .before .before .before .pre .2) (c .before .before .before .before .if1 .taken) (c .before .before .add-member .ensures)
+returns c =
+    let pre = c .before .before .before .before .before .before .before .before .before .before .before .before .before .pre in
+    let tree-at = c .before .before .before .before .before .before .before .before .tree-at in
+    let neighbour-of = c .before .before .before .before .before .before .before .neighbour-of in
+    let number-at = c .before .before .before .before .before .before .number-at in
+    let goes = c .before .before .before .before .before .goes in
+    let if1 = c .before .before .before .before .if1 in
+    let add-member = c .before .before .add-member in
+    face-marked _ _ _ _ _ _ _ (pre .0) _ (pre .1) _ _ (tree-at .ensures) (neighbour-of .ensures) _ (number-at .ensures) _ (goes .ensures) _ _ (pre .2) (if1 .taken) (add-member .ensures)
 
 returns-2 : tie.Need-returns-2
-returns-2 c = face-left _ _ _ _ _ _ _ (c .before .before .before .before .before .before .before .before .before .pre .0) _ (c .before .before .before .before .before .before .before .before .before .pre .1) _ _ (c .before .before .before .before .tree-at .ensures) (c .before .before .before .neighbour-of .ensures) _ (c .before .before .number-at .ensures) _ (c .before .goes .ensures) _ (c .if1 .left)
+returns-2 c =
+    let pre = c .before .before .before .before .before .before .before .before .before .pre in
+    let tree-at = c .before .before .before .before .tree-at in
+    let neighbour-of = c .before .before .before .neighbour-of in
+    let number-at = c .before .before .number-at in
+    let goes = c .before .goes in
+    face-left _ _ _ _ _ _ _ (pre .0) _ (pre .1) _ _ (tree-at .ensures) (neighbour-of .ensures) _ (number-at .ensures) _ (goes .ensures) _ (c .if1 .left)
 
 pub mark-face-spec : {M : Type 1} → statement M
 mark-face-spec =

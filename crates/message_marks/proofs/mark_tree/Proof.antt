@@ -27,7 +27,14 @@ loop-holds : tie.Need-loop-holds Inv-loop μ-loop
 loop-holds c = (omega arith, faces-start _ _ _ _ _ _ _)
 
 mark-face-requires : tie.Need-mark-face-requires Inv-loop μ-loop
-mark-face-requires c κs = (c .before .before .before .before .before .before .before .before .before .before .pre .0, face-under _ _ _ (faces-tree _ _ _ _ _ _ _ (c .before .before .before .before .before .before .before .before .before .before .pre .0) _ _ _ (c .before .before .before .before .before .tree-at .ensures) (c .before .before .before .before .shape-of .ensures) (c .before .before .before .face-count .ensures .0)) (c .before .loop-test .taken), c .before .before .loop .inv .1 .same-length ∙ c .before .before .before .before .before .before .before .before .before .before .pre .1)
+mark-face-requires c κs =
+    let pre = c .before .before .before .before .before .before .before .before .before .before .pre in
+    let tree-at = c .before .before .before .before .before .tree-at in
+    let shape-of = c .before .before .before .before .shape-of in
+    let face-count = c .before .before .before .face-count in
+    let loop-test = c .before .loop-test in
+    let loop = c .before .before .loop in
+    (pre .0, face-under _ _ _ (faces-tree _ _ _ _ _ _ _ (pre .0) _ _ _ (tree-at .ensures) (shape-of .ensures) (face-count .ensures .0)) (loop-test .taken), loop .inv .1 .same-length ∙ pre .1)
 
 add-face : tie.Need-add-face Inv-loop μ-loop
 add-face c = search needs
@@ -42,7 +49,13 @@ same-length : tie.Need-same-length Inv-loop μ-loop
 same-length c = c .before .loop .inv .1 .same-length
 
 returns : tie.Need-returns Inv-loop μ-loop
-returns c = faces-end _ _ _ _ _ _ _ _ _ _ _ (c .before .loop .inv .0) (omega arith) (faces-tree _ _ _ _ _ _ _ (c .before .before .before .before .before .before .before .before .before .pre .0) _ _ _ (c .before .before .before .before .tree-at .ensures) (c .before .before .before .shape-of .ensures) (c .before .before .face-count .ensures .0)) (c .before .loop .inv .1)
+returns c =
+    let loop = c .before .loop in
+    let pre = c .before .before .before .before .before .before .before .before .before .pre in
+    let tree-at = c .before .before .before .before .tree-at in
+    let shape-of = c .before .before .before .shape-of in
+    let face-count = c .before .before .face-count in
+    faces-end _ _ _ _ _ _ _ _ _ _ _ (loop .inv .0) (omega arith) (faces-tree _ _ _ _ _ _ _ (pre .0) _ _ _ (tree-at .ensures) (shape-of .ensures) (face-count .ensures .0)) (loop .inv .1)
 
 pub mark-tree-spec : {M : Type 1} → statement M
 mark-tree-spec =

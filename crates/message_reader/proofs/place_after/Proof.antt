@@ -14,7 +14,10 @@ returns : tie.Need-returns
 returns c = sym (place-last _ _ (empty-past _ _ (ap length (sym (c .before .record-at .ensures)) ∙ c .if1 .taken)))
 
 add-result : tie.Need-add-result
-add-result c = record { fits = omega (arith, count-short (now (c .before .before .before .args .message)), filled-below _ _ (λ e. c .if1 .left (ap length (c .before .record-at .ensures) ∙ e))) }
+add-result c =
+    let args = c .before .before .before .args in
+    let record-at = c .before .record-at in
+    record { fits = omega (arith, count-short (now (args .message)), filled-below _ _ (λ e. c .if1 .left (ap length (record-at .ensures) ∙ e))) }
 
 returns-2 : tie.Need-returns-2
 returns-2 c = sym (place-next _ _ (filled-below _ _ (λ e. c .if1 .left (ap length (c .before .record-at .ensures) ∙ e))))

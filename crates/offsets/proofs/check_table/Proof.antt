@@ -18,11 +18,19 @@ valid-requires c κs = sym (c .before .ranks-ok .ensures) ∙ not-false _ (c .if
 
 returns-2 : tie.Need-returns-2
 unfolding tableRefusal firstFailed
-returns-2 c = simp (← c .before .before .before .ranks-ok .ensures, not-false (c .before .before .before .ranks-ok .result) (c .before .before .if1 .left), ← c .before .valid .ensures, not-true (c .before .valid .result) (c .if2 .taken))
+returns-2 c =
+    let ranks-ok = c .before .before .before .ranks-ok in
+    let if1 = c .before .before .if1 in
+    let valid = c .before .valid in
+    simp (← ranks-ok .ensures, not-false (ranks-ok .result) (if1 .left), ← valid .ensures, not-true (valid .result) (c .if2 .taken))
 
 returns-3 : tie.Need-returns-3
 unfolding tableRefusal firstFailed
-returns-3 c = simp (← c .before .before .before .ranks-ok .ensures, not-false (c .before .before .before .ranks-ok .result) (c .before .before .if1 .left), ← c .before .valid .ensures, not-false (c .before .valid .result) (c .if2 .left))
+returns-3 c =
+    let ranks-ok = c .before .before .before .ranks-ok in
+    let if1 = c .before .before .if1 in
+    let valid = c .before .valid in
+    simp (← ranks-ok .ensures, not-false (ranks-ok .result) (if1 .left), ← valid .ensures, not-false (valid .result) (c .if2 .left))
 
 pub check-table-spec : {M : Type 1} → statement M
 check-table-spec =

@@ -30,7 +30,12 @@ refused-requires-2 c κs = search needs
 
 returns-2 : tie.Need-returns-2
 unfolding tableFromLeaves leavesRefusal firstFailed writeAnswer lengthAnswer written
-returns-2 c = simp (c .refused2 .ensures, ← c .before .before .before .before .rank-count-ok .ensures, not-false (c .before .before .before .before .rank-count-ok .result) (c .before .before .before .if1 .left), ← c .before .before .leaves-ok .ensures, not-true (c .before .before .leaves-ok .result) (c .before .if2 .taken))
+returns-2 c =
+    let rank-count-ok = c .before .before .before .before .rank-count-ok in
+    let if1 = c .before .before .before .if1 in
+    let leaves-ok = c .before .before .leaves-ok in
+    let if2 = c .before .if2 in
+    simp (c .refused2 .ensures, ← rank-count-ok .ensures, not-false (rank-count-ok .result) (if1 .left), ← leaves-ok .ensures, not-true (leaves-ok .result) (if2 .taken))
 
 add-n : tie.Need-add-n
 add-n c = search needs
@@ -43,17 +48,38 @@ refused-requires-3 c κs = search needs
 
 returns-3 : tie.Need-returns-3
 unfolding tableFromLeaves leavesRefusal firstFailed writeAnswer lengthAnswer written
-returns-3 c = simp (c .refused3 .ensures, ← c .before .before .before .before .before .rank-count-ok .ensures, not-false (c .before .before .before .before .before .rank-count-ok .result) (c .before .before .before .before .if1 .left), ← c .before .before .before .leaves-ok .ensures, not-false (c .before .before .before .leaves-ok .result) (c .before .before .if2 .left), lt-leb (tableLength (c .before .before .before .before .before .before .before .before .args .ranks)) (length (c .before .before .before .before .before .before .before .before .args .out .now)) (c .before .if3 .taken))
+returns-3 c =
+    let rank-count-ok = c .before .before .before .before .before .rank-count-ok in
+    let if1 = c .before .before .before .before .if1 in
+    let leaves-ok = c .before .before .before .leaves-ok in
+    let if2 = c .before .before .if2 in
+    let args = c .before .before .before .before .before .before .before .before .args in
+    let if3 = c .before .if3 in
+    simp (c .refused3 .ensures, ← rank-count-ok .ensures, not-false (rank-count-ok .result) (if1 .left), ← leaves-ok .ensures, not-false (leaves-ok .result) (if2 .left), lt-leb (tableLength (args .ranks)) (length (args .out .now)) (if3 .taken))
 
 write-requires : tie.Need-write-requires
-write-requires c κs = (sym (c .before .before .before .before .before .rank-count-ok .ensures) ∙ not-false _ (c .before .before .before .before .if1 .left), (sym (c .before .before .before .leaves-ok .ensures) ∙ not-false _ (c .before .before .if2 .left), c .before .if3 .left))
+write-requires c κs =
+    let rank-count-ok = c .before .before .before .before .before .rank-count-ok in
+    let if1 = c .before .before .before .before .if1 in
+    let leaves-ok = c .before .before .before .leaves-ok in
+    let if2 = c .before .before .if2 in
+    let if3 = c .before .if3 in
+    (sym (rank-count-ok .ensures) ∙ not-false _ (if1 .left), (sym (leaves-ok .ensures) ∙ not-false _ (if2 .left), if3 .left))
 
 same-length : tie.Need-same-length
 same-length c = search needs
 
 returns-4 : tie.Need-returns-4
 unfolding tableFromLeaves leavesRefusal firstFailed writeAnswer lengthAnswer written
-returns-4 c = simp (← c .before .before .before .before .before .before .before .before .rank-count-ok .ensures, not-false (c .before .before .before .before .before .before .before .before .rank-count-ok .result) (c .before .before .before .before .before .before .before .if1 .left), ← c .before .before .before .before .before .before .leaves-ok .ensures, not-false (c .before .before .before .before .before .before .leaves-ok .result) (c .before .before .before .before .before .if2 .left), le-leb (tableLength (c .before .before .before .before .before .before .before .before .before .before .before .args .ranks)) (length (c .before .before .before .before .before .before .before .before .before .before .before .args .out .now)) (c .before .before .before .before .if3 .left), c .before .before .write .ensures, leaf-table-length (c .before .before .before .before .before .before .before .before .before .before .before .args .ranks) (c .before .before .before .before .before .before .before .before .before .before .before .args .leaves .now))
+returns-4 c =
+    let rank-count-ok = c .before .before .before .before .before .before .before .before .rank-count-ok in
+    let if1 = c .before .before .before .before .before .before .before .if1 in
+    let leaves-ok = c .before .before .before .before .before .before .leaves-ok in
+    let if2 = c .before .before .before .before .before .if2 in
+    let args = c .before .before .before .before .before .before .before .before .before .before .before .args in
+    let if3 = c .before .before .before .before .if3 in
+    let write = c .before .before .write in
+    simp (← rank-count-ok .ensures, not-false (rank-count-ok .result) (if1 .left), ← leaves-ok .ensures, not-false (leaves-ok .result) (if2 .left), le-leb (tableLength (args .ranks)) (length (args .out .now)) (if3 .left), write .ensures, leaf-table-length (args .ranks) (args .leaves .now))
 
 pub table-from-leaves-spec : {M : Type 1} → statement M
 table-from-leaves-spec =

@@ -29,7 +29,12 @@ range-refused-requires-2 c κs = search needs
 
 returns-2 : tie.Need-returns-2
 unfolding tableRange rangeRefusal rangeAnswer firstFailed
-returns-2 c = simp (c .range-refused2 .ensures, ← c .before .before .before .before .ranks-ok .ensures, not-false (c .before .before .before .before .ranks-ok .result) (c .before .before .before .if1 .left), ← c .before .before .valid .ensures, not-true (c .before .before .valid .result) (c .before .if2 .taken))
+returns-2 c =
+    let ranks-ok = c .before .before .before .before .ranks-ok in
+    let if1 = c .before .before .before .if1 in
+    let valid = c .before .before .valid in
+    let if2 = c .before .if2 in
+    simp (c .range-refused2 .ensures, ← ranks-ok .ensures, not-false (ranks-ok .result) (if1 .left), ← valid .ensures, not-true (valid .result) (if2 .taken))
 
 ranks-requires : tie.Need-ranks-requires
 ranks-requires c κs = sym (c .before .before .before .ranks-ok .ensures) ∙ not-false _ (c .before .before .if1 .left)
@@ -39,7 +44,15 @@ range-refused-requires-3 c κs = search needs
 
 returns-3 : tie.Need-returns-3
 unfolding tableRange rangeRefusal rangeAnswer firstFailed
-returns-3 c = simp (c .range-refused3 .ensures, ← c .before .before .before .before .before .before .ranks-ok .ensures, not-false (c .before .before .before .before .before .before .ranks-ok .result) (c .before .before .before .before .before .if1 .left), ← c .before .before .before .before .valid .ensures, not-false (c .before .before .before .before .valid .result) (c .before .before .before .if2 .left), ← (c .before .before .ranks .ensures .0), le-ltb (c .before .before .before .before .before .before .before .before .args .rank) (c .before .before .ranks .result) (c .before .if3 .taken))
+returns-3 c =
+    let ranks-ok = c .before .before .before .before .before .before .ranks-ok in
+    let if1 = c .before .before .before .before .before .if1 in
+    let valid = c .before .before .before .before .valid in
+    let if2 = c .before .before .before .if2 in
+    let ranks = c .before .before .ranks in
+    let args = c .before .before .before .before .before .before .before .before .args in
+    let if3 = c .before .if3 in
+    simp (c .range-refused3 .ensures, ← ranks-ok .ensures, not-false (ranks-ok .result) (if1 .left), ← valid .ensures, not-false (valid .result) (if2 .left), ← (ranks .ensures .0), le-ltb (args .rank) (ranks .result) (if3 .taken))
 
 first-tree-requires : tie.Need-first-tree-requires
 first-tree-requires c κs = search needs
@@ -53,7 +66,15 @@ start c = c .before .before .before .before .before .before .before .before .bef
 -- the rank's range fits 32 bits
 range : (c : tie.After-end-tree)
     → (firstTree (start c .args .table .now) (start c .args .rank) ≤ endTree (start c .args .table .now) (start c .args .rank)) × (endTree (start c .args .table .now) (start c .args .rank) ≤ maxTrees)
-range c = range-fits (start c .args .table .now) _ _ (λ i. c .before .before .before .before .before .before .before .before .shared-slice-known .given i .fits) (sym (c .before .before .before .before .before .before .before .ranks-ok .ensures) ∙ not-false _ (c .before .before .before .before .before .before .if1 .left)) (sym (c .before .before .before .before .before .valid .ensures) ∙ not-false _ (c .before .before .before .before .if2 .left)) (c .before .before .before .ranks .ensures .0) (c .before .before .if3 .left)
+range c =
+    let shared-slice-known = c .before .before .before .before .before .before .before .before .shared-slice-known in
+    let ranks-ok = c .before .before .before .before .before .before .before .ranks-ok in
+    let if1 = c .before .before .before .before .before .before .if1 in
+    let valid = c .before .before .before .before .before .valid in
+    let if2 = c .before .before .before .before .if2 in
+    let ranks = c .before .before .before .ranks in
+    let if3 = c .before .before .if3 in
+    range-fits (start c .args .table .now) _ _ (λ i. shared-slice-known .given i .fits) (sym (ranks-ok .ensures) ∙ not-false _ (if1 .left)) (sym (valid .ensures) ∙ not-false _ (if2 .left)) (ranks .ensures .0) (if3 .left)
 
 cast-t9 : tie.Need-cast-t9
 cast-t9 c = omega (arith, range c, c .before .first-tree .ensures, c .end-tree .ensures)
@@ -66,7 +87,15 @@ cast-t11 c = omega (arith, range c, c .before .first-tree .ensures, c .end-tree 
 
 returns-4 : tie.Need-returns-4
 unfolding tableRange rangeRefusal rangeAnswer firstFailed treeCount
-returns-4 c = simp (← c .before .before .before .before .before .before .before .ranks-ok .ensures, not-false (c .before .before .before .before .before .before .before .ranks-ok .result) (c .before .before .before .before .before .before .if1 .left), ← c .before .before .before .before .before .valid .ensures, not-false (c .before .before .before .before .before .valid .result) (c .before .before .before .before .if2 .left), ← (c .before .before .before .ranks .ensures .0), lt-ltb (start c .args .rank) (c .before .before .before .ranks .result) (c .before .before .if3 .left), c .before .first-tree .ensures, c .end-tree .ensures)
+returns-4 c =
+    let ranks-ok = c .before .before .before .before .before .before .before .ranks-ok in
+    let if1 = c .before .before .before .before .before .before .if1 in
+    let valid = c .before .before .before .before .before .valid in
+    let if2 = c .before .before .before .before .if2 in
+    let ranks = c .before .before .before .ranks in
+    let if3 = c .before .before .if3 in
+    let first-tree = c .before .first-tree in
+    simp (← ranks-ok .ensures, not-false (ranks-ok .result) (if1 .left), ← valid .ensures, not-false (valid .result) (if2 .left), ← (ranks .ensures .0), lt-ltb (start c .args .rank) (ranks .result) (if3 .left), first-tree .ensures, c .end-tree .ensures)
 
 pub table-range-spec : {M : Type 1} → statement M
 table-range-spec =

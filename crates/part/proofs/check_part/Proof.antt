@@ -14,10 +14,18 @@ part-sound-requires : tie.Need-part-sound-requires
 part-sound-requires c κs = rank-known _ _ (c .before .rank-refusal .ensures) (c .if1 .left)
 
 returns-2 : tie.Need-returns-2
-returns-2 c = check-fails _ _ (c .before .before .before .rank-refusal .ensures) _ (c .before .before .if1 .left) (c .before .part-sound .ensures) (not-true _ (c .if2 .taken))
+returns-2 c =
+    let rank-refusal = c .before .before .before .rank-refusal in
+    let if1 = c .before .before .if1 in
+    let part-sound = c .before .part-sound in
+    check-fails _ _ (rank-refusal .ensures) _ (if1 .left) (part-sound .ensures) (not-true _ (c .if2 .taken))
 
 returns-3 : tie.Need-returns-3
-returns-3 c = check-passes _ _ (c .before .before .before .rank-refusal .ensures) _ (c .before .before .if1 .left) (c .before .part-sound .ensures) (not-false _ (c .if2 .left))
+returns-3 c =
+    let rank-refusal = c .before .before .before .rank-refusal in
+    let if1 = c .before .before .if1 in
+    let part-sound = c .before .part-sound in
+    check-passes _ _ (rank-refusal .ensures) _ (if1 .left) (part-sound .ensures) (not-false _ (c .if2 .left))
 
 pub check-part-spec : {M : Type 1} → statement M
 check-part-spec =

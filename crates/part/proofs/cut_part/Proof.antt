@@ -16,31 +16,69 @@ first-tree-requires : tie.Need-first-tree-requires
 first-tree-requires c κs = omega (arith, cut-fits _ _ _ (c .before .cut-refusal .ensures) (c .if1 .left) (λ i. c .before .before .before .shared-slice-known2 .given i .fits))
 
 cast-first : tie.Need-cast-first
-cast-first c = omega (arith, cut-fits _ _ _ (c .before .before .cut-refusal .ensures) (c .before .if1 .left) (λ i. c .before .before .before .before .shared-slice-known2 .given i .fits), c .first-tree .ensures)
+cast-first c =
+    let cut-refusal = c .before .before .cut-refusal in
+    let if1 = c .before .if1 in
+    let shared-slice-known2 = c .before .before .before .before .shared-slice-known2 in
+    omega (arith, cut-fits _ _ _ (cut-refusal .ensures) (if1 .left) (λ i. shared-slice-known2 .given i .fits), c .first-tree .ensures)
 
 end-tree-requires : tie.Need-end-tree-requires
-end-tree-requires c κs = omega (arith, cut-fits _ _ _ (c .before .before .cut-refusal .ensures) (c .before .if1 .left) (λ i. c .before .before .before .before .shared-slice-known2 .given i .fits))
+end-tree-requires c κs =
+    let cut-refusal = c .before .before .cut-refusal in
+    let if1 = c .before .if1 in
+    let shared-slice-known2 = c .before .before .before .before .shared-slice-known2 in
+    omega (arith, cut-fits _ _ _ (cut-refusal .ensures) (if1 .left) (λ i. shared-slice-known2 .given i .fits))
 
 cast-end : tie.Need-cast-end
-cast-end c = omega (arith, cut-fits _ _ _ (c .before .before .before .cut-refusal .ensures) (c .before .before .if1 .left) (λ i. c .before .before .before .before .before .shared-slice-known2 .given i .fits), c .end-tree .ensures)
+cast-end c =
+    let cut-refusal = c .before .before .before .cut-refusal in
+    let if1 = c .before .before .if1 in
+    let shared-slice-known2 = c .before .before .before .before .before .shared-slice-known2 in
+    omega (arith, cut-fits _ _ _ (cut-refusal .ensures) (if1 .left) (λ i. shared-slice-known2 .given i .fits), c .end-tree .ensures)
 
 trees-requires : tie.Need-trees-requires
-trees-requires c κs = omega (arith, cut-fits _ _ _ (c .before .before .before .cut-refusal .ensures) (c .before .before .if1 .left) (λ i. c .before .before .before .before .before .shared-slice-known2 .given i .fits))
+trees-requires c κs =
+    let cut-refusal = c .before .before .before .cut-refusal in
+    let if1 = c .before .before .if1 in
+    let shared-slice-known2 = c .before .before .before .before .before .shared-slice-known2 in
+    omega (arith, cut-fits _ _ _ (cut-refusal .ensures) (if1 .left) (λ i. shared-slice-known2 .given i .fits))
 
 ghost-count-requires : tie.Need-ghost-count-requires
-ghost-count-requires c κs = omega (arith, cut-fits _ _ _ (c .before .before .before .before .cut-refusal .ensures) (c .before .before .before .if1 .left) (λ i. c .before .before .before .before .before .before .shared-slice-known2 .given i .fits), c .trees .ensures)
+ghost-count-requires c κs =
+    let cut-refusal = c .before .before .before .before .cut-refusal in
+    let if1 = c .before .before .before .if1 in
+    let shared-slice-known2 = c .before .before .before .before .before .before .shared-slice-known2 in
+    omega (arith, cut-fits _ _ _ (cut-refusal .ensures) (if1 .left) (λ i. shared-slice-known2 .given i .fits), c .trees .ensures)
 
 sub-at : tie.Need-sub-at
-sub-at c = omega (arith, cut-fits _ _ _ (c .before .before .before .before .before .cut-refusal .ensures) (c .before .before .before .before .if1 .left) (λ i. c .before .before .before .before .before .before .before .shared-slice-known2 .given i .fits), c .before .before .before .first-tree .ensures, c .before .before .end-tree .ensures)
+sub-at c =
+    let cut-refusal = c .before .before .before .before .before .cut-refusal in
+    let if1 = c .before .before .before .before .if1 in
+    let shared-slice-known2 = c .before .before .before .before .before .before .before .shared-slice-known2 in
+    let first-tree = c .before .before .before .first-tree in
+    let end-tree = c .before .before .end-tree in
+    omega (arith, cut-fits _ _ _ (cut-refusal .ensures) (if1 .left) (λ i. shared-slice-known2 .given i .fits), first-tree .ensures, end-tree .ensures)
 
 cast-at : tie.Need-cast-at
 cast-at c = search needs
 
 mul-at : tie.Need-mul-at
-mul-at c = omega (arith, cut-fits _ _ _ (c .before .before .before .before .before .cut-refusal .ensures) (c .before .before .before .before .if1 .left) (λ i. c .before .before .before .before .before .before .before .shared-slice-known2 .given i .fits), c .before .before .before .first-tree .ensures, c .before .before .end-tree .ensures)
+mul-at c =
+    let cut-refusal = c .before .before .before .before .before .cut-refusal in
+    let if1 = c .before .before .before .before .if1 in
+    let shared-slice-known2 = c .before .before .before .before .before .before .before .shared-slice-known2 in
+    let first-tree = c .before .before .before .first-tree in
+    let end-tree = c .before .before .end-tree in
+    omega (arith, cut-fits _ _ _ (cut-refusal .ensures) (if1 .left) (λ i. shared-slice-known2 .given i .fits), first-tree .ensures, end-tree .ensures)
 
 add-at : tie.Need-add-at
-add-at c = omega (arith, cut-fits _ _ _ (c .before .before .before .before .before .cut-refusal .ensures) (c .before .before .before .before .if1 .left) (λ i. c .before .before .before .before .before .before .before .shared-slice-known2 .given i .fits), c .before .before .before .first-tree .ensures, c .before .before .end-tree .ensures)
+add-at c =
+    let cut-refusal = c .before .before .before .before .before .cut-refusal in
+    let if1 = c .before .before .before .before .if1 in
+    let shared-slice-known2 = c .before .before .before .before .before .before .before .shared-slice-known2 in
+    let first-tree = c .before .before .before .first-tree in
+    let end-tree = c .before .before .end-tree in
+    omega (arith, cut-fits _ _ _ (cut-refusal .ensures) (if1 .left) (λ i. shared-slice-known2 .given i .fits), first-tree .ensures, end-tree .ensures)
 
 cast-n : tie.Need-cast-n
 cast-n c = search needs
@@ -49,25 +87,64 @@ mul-n : tie.Need-mul-n
 mul-n c = search needs
 
 add-n : tie.Need-add-n
-add-n c = omega (arith, cut-fits _ _ _ (c .before .before .before .before .before .cut-refusal .ensures) (c .before .before .before .before .if1 .left) (λ i. c .before .before .before .before .before .before .before .shared-slice-known2 .given i .fits), c .before .before .before .first-tree .ensures, c .before .before .end-tree .ensures)
+add-n c =
+    let cut-refusal = c .before .before .before .before .before .cut-refusal in
+    let if1 = c .before .before .before .before .if1 in
+    let shared-slice-known2 = c .before .before .before .before .before .before .before .shared-slice-known2 in
+    let first-tree = c .before .before .before .first-tree in
+    let end-tree = c .before .before .end-tree in
+    omega (arith, cut-fits _ _ _ (cut-refusal .ensures) (if1 .left) (λ i. shared-slice-known2 .given i .fits), first-tree .ensures, end-tree .ensures)
 
 returns-2 : tie.Need-returns-2
-returns-2 c = cut-short _ _ _ _ (c .before .before .before .before .before .before .cut-refusal .ensures) (c .before .before .before .before .before .if1 .left) (room-long _ _ _ (c .before .before .before .before .before .before .before .before .before .before .args .out .now) (c .before .before .before .before .before .before .cut-refusal .ensures) (c .before .before .before .before .before .if1 .left) (λ i. c .before .before .before .before .before .before .before .before .shared-slice-known2 .given i .fits) (c .before .before .before .before .first-tree .ensures) (c .before .before .before .end-tree .ensures) (c .before .before .trees .ensures) (c .before .ghost-count .ensures .0) refl) (c .if2 .taken)
+returns-2 c =
+    let cut-refusal = c .before .before .before .before .before .before .cut-refusal in
+    let if1 = c .before .before .before .before .before .if1 in
+    let args = c .before .before .before .before .before .before .before .before .before .before .args in
+    let shared-slice-known2 = c .before .before .before .before .before .before .before .before .shared-slice-known2 in
+    let first-tree = c .before .before .before .before .first-tree in
+    let end-tree = c .before .before .before .end-tree in
+    let trees = c .before .before .trees in
+    let ghost-count = c .before .ghost-count in
+    cut-short _ _ _ _ (cut-refusal .ensures) (if1 .left) (room-long _ _ _ (args .out .now) (cut-refusal .ensures) (if1 .left) (λ i. shared-slice-known2 .given i .fits) (first-tree .ensures) (end-tree .ensures) (trees .ensures) (ghost-count .ensures .0) refl) (c .if2 .taken)
 
 ranks-requires : tie.Need-ranks-requires
-ranks-requires c κs = all-hold _ _ _ (c .before .before .before .before .before .before .cut-refusal .ensures) (c .before .before .before .before .before .if1 .left) .table-ranks
+ranks-requires c κs =
+    let cut-refusal = c .before .before .before .before .before .before .cut-refusal in
+    let if1 = c .before .before .before .before .before .if1 in
+    all-hold _ _ _ (cut-refusal .ensures) (if1 .left) .table-ranks
 
 cast-ranks : tie.Need-cast-ranks
 cast-ranks c = search needs
 
 write-requires : tie.Need-write-requires
-write-requires c κs = part-room _ _ _ _ (c .before .before .before .before .before .before .before .before .cut-refusal .ensures) (c .before .before .before .before .before .before .before .if1 .left) (λ i. c .before .before .before .before .before .before .before .before .before .before .shared-slice-known2 .given i .fits) (c .before .before .before .before .before .before .first-tree .ensures) (c .before .before .before .before .before .end-tree .ensures) (c .before .before .before .before .trees .ensures) (c .before .before .before .ghost-count .ensures .0) refl (c .before .before .if2 .left)
+write-requires c κs =
+    let cut-refusal = c .before .before .before .before .before .before .before .before .cut-refusal in
+    let if1 = c .before .before .before .before .before .before .before .if1 in
+    let shared-slice-known2 = c .before .before .before .before .before .before .before .before .before .before .shared-slice-known2 in
+    let first-tree = c .before .before .before .before .before .before .first-tree in
+    let end-tree = c .before .before .before .before .before .end-tree in
+    let trees = c .before .before .before .before .trees in
+    let ghost-count = c .before .before .before .ghost-count in
+    let if2 = c .before .before .if2 in
+    part-room _ _ _ _ (cut-refusal .ensures) (if1 .left) (λ i. shared-slice-known2 .given i .fits) (first-tree .ensures) (end-tree .ensures) (trees .ensures) (ghost-count .ensures .0) refl (if2 .left)
 
 same-length : tie.Need-same-length
 same-length c = search needs
 
 returns-3 : tie.Need-returns-3
-returns-3 c = cut-done _ _ _ _ (c .before .before .before .before .before .before .before .before .before .before .before .cut-refusal .ensures) (c .before .before .before .before .before .before .before .before .before .before .if1 .left) (room-long _ _ _ (c .before .before .before .before .before .before .before .before .before .before .before .before .before .before .before .args .out .now) (c .before .before .before .before .before .before .before .before .before .before .before .cut-refusal .ensures) (c .before .before .before .before .before .before .before .before .before .before .if1 .left) (λ i. c .before .before .before .before .before .before .before .before .before .before .before .before .before .shared-slice-known2 .given i .fits) (c .before .before .before .before .before .before .before .before .before .first-tree .ensures) (c .before .before .before .before .before .before .before .before .end-tree .ensures) (c .before .before .before .before .before .before .before .trees .ensures) (c .before .before .before .before .before .before .ghost-count .ensures .0) refl) (c .before .before .before .before .before .if2 .left) (part-cut _ _ _ _ (c .before .before .before .before .before .before .before .before .before .before .before .cut-refusal .ensures) (c .before .before .before .before .before .before .before .before .before .before .if1 .left) (λ i. c .before .before .before .before .before .before .before .before .before .before .before .before .before .shared-slice-known2 .given i .fits) (c .before .before .before .before .before .before .before .before .before .first-tree .ensures) (c .before .before .before .before .before .before .before .before .end-tree .ensures) (c .before .before .before .before .before .before .before .trees .ensures) (c .before .before .before .before .before .before .ghost-count .ensures .0) refl (c .before .before .before .before .ranks .ensures .0) (part-room _ _ _ _ (c .before .before .before .before .before .before .before .before .before .before .before .cut-refusal .ensures) (c .before .before .before .before .before .before .before .before .before .before .if1 .left) (λ i. c .before .before .before .before .before .before .before .before .before .before .before .before .before .shared-slice-known2 .given i .fits) (c .before .before .before .before .before .before .before .before .before .first-tree .ensures) (c .before .before .before .before .before .before .before .before .end-tree .ensures) (c .before .before .before .before .before .before .before .trees .ensures) (c .before .before .before .before .before .before .ghost-count .ensures .0) refl (c .before .before .before .before .before .if2 .left)) (c .before .before .write .ensures))
+returns-3 c =
+    let cut-refusal = c .before .before .before .before .before .before .before .before .before .before .before .cut-refusal in
+    let if1 = c .before .before .before .before .before .before .before .before .before .before .if1 in
+    let args = c .before .before .before .before .before .before .before .before .before .before .before .before .before .before .before .args in
+    let shared-slice-known2 = c .before .before .before .before .before .before .before .before .before .before .before .before .before .shared-slice-known2 in
+    let first-tree = c .before .before .before .before .before .before .before .before .before .first-tree in
+    let end-tree = c .before .before .before .before .before .before .before .before .end-tree in
+    let trees = c .before .before .before .before .before .before .before .trees in
+    let ghost-count = c .before .before .before .before .before .before .ghost-count in
+    let if2 = c .before .before .before .before .before .if2 in
+    let ranks = c .before .before .before .before .ranks in
+    let write = c .before .before .write in
+    cut-done _ _ _ _ (cut-refusal .ensures) (if1 .left) (room-long _ _ _ (args .out .now) (cut-refusal .ensures) (if1 .left) (λ i. shared-slice-known2 .given i .fits) (first-tree .ensures) (end-tree .ensures) (trees .ensures) (ghost-count .ensures .0) refl) (if2 .left) (part-cut _ _ _ _ (cut-refusal .ensures) (if1 .left) (λ i. shared-slice-known2 .given i .fits) (first-tree .ensures) (end-tree .ensures) (trees .ensures) (ghost-count .ensures .0) refl (ranks .ensures .0) (part-room _ _ _ _ (cut-refusal .ensures) (if1 .left) (λ i. shared-slice-known2 .given i .fits) (first-tree .ensures) (end-tree .ensures) (trees .ensures) (ghost-count .ensures .0) refl (if2 .left)) (write .ensures))
 
 pub cut-part-spec : {M : Type 1} → statement M
 cut-part-spec =

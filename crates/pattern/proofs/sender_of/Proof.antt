@@ -16,31 +16,67 @@ returns : tie.Need-returns
 returns c = c .sender-refused .ensures ∙ sender-fails _ _ _ (c .before .before .tables-refusal .ensures) _ _ (c .before .if1 .taken)
 
 trees-requires : tie.Need-trees-requires
-trees-requires c κs = old-ranks _ _ _ (c .before .tables-refusal .ensures) (λ i. c .before .before .before .shared-slice-known .given i .fits) (λ i. c .before .before .shared-slice-known2 .given i .fits) (c .if1 .left)
+trees-requires c κs =
+    let tables-refusal = c .before .tables-refusal in
+    let shared-slice-known = c .before .before .before .shared-slice-known in
+    let shared-slice-known2 = c .before .before .shared-slice-known2 in
+    old-ranks _ _ _ (tables-refusal .ensures) (λ i. shared-slice-known .given i .fits) (λ i. shared-slice-known2 .given i .fits) (c .if1 .left)
 
 sender-refused-requires-2 : tie.Need-sender-refused-requires-2
 sender-refused-requires-2 c κs = search needs
 
 returns-2 : tie.Need-returns-2
-returns-2 c = c .sender-refused2 .ensures ∙ tree-past _ _ _ (c .before .before .before .before .tables-refusal .ensures) _ _ (c .before .before .before .if1 .left) _ (c .before .before .trees .ensures) (c .before .if2 .taken)
+returns-2 c =
+    let tables-refusal = c .before .before .before .before .tables-refusal in
+    let if1 = c .before .before .before .if1 in
+    let trees = c .before .before .trees in
+    let if2 = c .before .if2 in
+    c .sender-refused2 .ensures ∙ tree-past _ _ _ (tables-refusal .ensures) _ _ (if1 .left) _ (trees .ensures) (if2 .taken)
 
 ranks-requires : tie.Need-ranks-requires
-ranks-requires c κs = old-ranks _ _ _ (c .before .before .before .tables-refusal .ensures) (λ i. c .before .before .before .before .before .shared-slice-known .given i .fits) (λ i. c .before .before .before .before .shared-slice-known2 .given i .fits) (c .before .before .if1 .left)
+ranks-requires c κs =
+    let tables-refusal = c .before .before .before .tables-refusal in
+    let shared-slice-known = c .before .before .before .before .before .shared-slice-known in
+    let shared-slice-known2 = c .before .before .before .before .shared-slice-known2 in
+    let if1 = c .before .before .if1 in
+    old-ranks _ _ _ (tables-refusal .ensures) (λ i. shared-slice-known .given i .fits) (λ i. shared-slice-known2 .given i .fits) (if1 .left)
 
 sender-refused-requires-3 : tie.Need-sender-refused-requires-3
 sender-refused-requires-3 c κs = search needs
 
 returns-3 : tie.Need-returns-3
-returns-3 c = c .sender-refused3 .ensures ∙ receiver-past _ _ _ (c .before .before .before .before .before .before .tables-refusal .ensures) _ _ (c .before .before .before .before .before .if1 .left) _ (c .before .before .before .before .trees .ensures) _ (c .before .before .ranks .ensures .0) (c .before .if3 .taken)
+returns-3 c =
+    let tables-refusal = c .before .before .before .before .before .before .tables-refusal in
+    let if1 = c .before .before .before .before .before .if1 in
+    let trees = c .before .before .before .before .trees in
+    let ranks = c .before .before .ranks in
+    let if3 = c .before .if3 in
+    c .sender-refused3 .ensures ∙ receiver-past _ _ _ (tables-refusal .ensures) _ _ (if1 .left) _ (trees .ensures) _ (ranks .ensures .0) (if3 .taken)
 
 sender-to-requires : tie.Need-sender-to-requires
-sender-to-requires c κs = tree-to _ _ _ (c .before .before .before .before .before .tables-refusal .ensures) (λ i. c .before .before .before .before .before .before .before .shared-slice-known .given i .fits) (λ i. c .before .before .before .before .before .before .shared-slice-known2 .given i .fits) (c .before .before .before .before .if1 .left) _ _ _ _ (c .before .before .before .trees .ensures) (c .before .before .if2 .left) (c .before .ranks .ensures .0) (c .if3 .left)
+sender-to-requires c κs =
+    let tables-refusal = c .before .before .before .before .before .tables-refusal in
+    let shared-slice-known = c .before .before .before .before .before .before .before .shared-slice-known in
+    let shared-slice-known2 = c .before .before .before .before .before .before .shared-slice-known2 in
+    let if1 = c .before .before .before .before .if1 in
+    let trees = c .before .before .before .trees in
+    let if2 = c .before .before .if2 in
+    let ranks = c .before .ranks in
+    tree-to _ _ _ (tables-refusal .ensures) (λ i. shared-slice-known .given i .fits) (λ i. shared-slice-known2 .given i .fits) (if1 .left) _ _ _ _ (trees .ensures) (if2 .left) (ranks .ensures .0) (c .if3 .left)
 
 sender-number-requires : tie.Need-sender-number-requires
 sender-number-requires c κs = search needs
 
 returns-4 : tie.Need-returns-4
-returns-4 c = sender-found _ _ _ (c .before .before .before .before .before .before .before .tables-refusal .ensures) _ _ (c .before .before .before .before .before .before .if1 .left) _ (c .before .before .before .before .before .trees .ensures) _ (c .before .before .before .ranks .ensures .0) (c .before .before .before .before .if2 .left) (c .before .before .if3 .left) _ _ (c .before .sender-to .ensures .0) (toZ-ofZ {w = w32} (record { sfits = c .sender-number .ok }) ∙ c .sender-number .ensures)
+returns-4 c =
+    let tables-refusal = c .before .before .before .before .before .before .before .tables-refusal in
+    let if1 = c .before .before .before .before .before .before .if1 in
+    let trees = c .before .before .before .before .before .trees in
+    let ranks = c .before .before .before .ranks in
+    let if2 = c .before .before .before .before .if2 in
+    let if3 = c .before .before .if3 in
+    let sender-to = c .before .sender-to in
+    sender-found _ _ _ (tables-refusal .ensures) _ _ (if1 .left) _ (trees .ensures) _ (ranks .ensures .0) (if2 .left) (if3 .left) _ _ (sender-to .ensures .0) (toZ-ofZ {w = w32} (record { sfits = c .sender-number .ok }) ∙ c .sender-number .ensures)
 
 pub sender-of-spec : {M : Type 1} → statement M
 sender-of-spec =

@@ -23,7 +23,11 @@ same-length-3 : tie.Need-same-length-3
 same-length-3 c = search needs
 
 returns : tie.Need-returns
-returns c = answered _ _ (read-unformed (c .before .before .before .before .before .before .before .before .before .before .read-input .ensures) (not-true _ (c .before .before .before .before .if1 .taken))) (c .before .before .write-refused .ensures)
+returns c =
+    let read-input = c .before .before .before .before .before .before .before .before .before .before .read-input in
+    let if1 = c .before .before .before .before .if1 in
+    let write-refused = c .before .before .write-refused in
+    answered _ _ (read-unformed (read-input .ensures) (not-true _ (if1 .taken))) (write-refused .ensures)
 
 rank-count-ok-requires : tie.Need-rank-count-ok-requires
 rank-count-ok-requires c κs = search needs
@@ -41,25 +45,58 @@ same-length-6 : tie.Need-same-length-6
 same-length-6 c = search needs
 
 returns-2 : tie.Need-returns-2
-returns-2 c = answered _ _ (read-unranked (c .before .before .before .before .before .before .before .before .before .before .before .before .read-input .ensures) (not-false _ (c .before .before .before .before .before .before .if1 .left)) (sym (c .before .before .before .before .before .rank-count-ok .ensures) ∙ not-true _ (c .before .before .before .before .if2 .taken))) (c .before .before .write-refused2 .ensures)
+returns-2 c =
+    let read-input = c .before .before .before .before .before .before .before .before .before .before .before .before .read-input in
+    let if1 = c .before .before .before .before .before .before .if1 in
+    let rank-count-ok = c .before .before .before .before .before .rank-count-ok in
+    let if2 = c .before .before .before .before .if2 in
+    let write-refused2 = c .before .before .write-refused2 in
+    answered _ _ (read-unranked (read-input .ensures) (not-false _ (if1 .left)) (sym (rank-count-ok .ensures) ∙ not-true _ (if2 .taken))) (write-refused2 .ensures)
 
 add-end : tie.Need-add-end
-add-end c = omega (arith, read-most (c .before .before .before .before .before .before .before .before .read-input .ensures) (not-false _ (c .before .before .if1 .left)) (sym (c .before .rank-count-ok .ensures) ∙ not-false _ (c .if2 .left)))
+add-end c =
+    let read-input = c .before .before .before .before .before .before .before .before .read-input in
+    let if1 = c .before .before .if1 in
+    let rank-count-ok = c .before .rank-count-ok in
+    omega (arith, read-most (read-input .ensures) (not-false _ (if1 .left)) (sym (rank-count-ok .ensures) ∙ not-false _ (c .if2 .left)))
 
 mul-end : tie.Need-mul-end
-mul-end c = omega (arith, read-most (c .before .before .before .before .before .before .before .before .read-input .ensures) (not-false _ (c .before .before .if1 .left)) (sym (c .before .rank-count-ok .ensures) ∙ not-false _ (c .if2 .left)))
+mul-end c =
+    let read-input = c .before .before .before .before .before .before .before .before .read-input in
+    let if1 = c .before .before .if1 in
+    let rank-count-ok = c .before .rank-count-ok in
+    omega (arith, read-most (read-input .ensures) (not-false _ (if1 .left)) (sym (rank-count-ok .ensures) ∙ not-false _ (c .if2 .left)))
 
 slice-reshare-prefix-plan-tables : tie.Need-slice-reshare-prefix-plan-tables
-slice-reshare-prefix-plan-tables c = omega (arith, read-most (c .before .before .before .before .before .before .before .before .read-input .ensures) (not-false _ (c .before .before .if1 .left)) (sym (c .before .rank-count-ok .ensures) ∙ not-false _ (c .if2 .left)))
+slice-reshare-prefix-plan-tables c =
+    let read-input = c .before .before .before .before .before .before .before .before .read-input in
+    let if1 = c .before .before .if1 in
+    let rank-count-ok = c .before .rank-count-ok in
+    omega (arith, read-most (read-input .ensures) (not-false _ (if1 .left)) (sym (rank-count-ok .ensures) ∙ not-false _ (c .if2 .left)))
 
 slice-aggregate-plan-tables : tie.Need-slice-aggregate-plan-tables
-slice-aggregate-plan-tables c = let m = read-most (c .before .before .before .before .before .before .before .before .before .read-input .ensures) (not-false _ (c .before .before .before .if1 .left)) (sym (c .before .before .rank-count-ok .ensures) ∙ not-false _ (c .before .if2 .left)) in sym (length-take-le _ _ (omega arith))
+slice-aggregate-plan-tables c =
+    let read-input = c .before .before .before .before .before .before .before .before .before .read-input in
+    let if1 = c .before .before .before .if1 in
+    let rank-count-ok = c .before .before .rank-count-ok in
+    let if2 = c .before .if2 in
+    let m = read-most (read-input .ensures) (not-false _ (if1 .left)) (sym (rank-count-ok .ensures) ∙ not-false _ (if2 .left)) in sym (length-take-le _ _ (omega arith))
 
 slice-reshare-prefix-plan-tables-2 : tie.Need-slice-reshare-prefix-plan-tables-2
-slice-reshare-prefix-plan-tables-2 c = omega (arith, read-most (c .before .before .before .before .before .before .before .before .before .read-input .ensures) (not-false _ (c .before .before .before .if1 .left)) (sym (c .before .before .rank-count-ok .ensures) ∙ not-false _ (c .before .if2 .left)))
+slice-reshare-prefix-plan-tables-2 c =
+    let read-input = c .before .before .before .before .before .before .before .before .before .read-input in
+    let if1 = c .before .before .before .if1 in
+    let rank-count-ok = c .before .before .rank-count-ok in
+    let if2 = c .before .if2 in
+    omega (arith, read-most (read-input .ensures) (not-false _ (if1 .left)) (sym (rank-count-ok .ensures) ∙ not-false _ (if2 .left)))
 
 slice-aggregate-plan-tables-2 : tie.Need-slice-aggregate-plan-tables-2
-slice-aggregate-plan-tables-2 c = let m = read-most (c .before .before .before .before .before .before .before .before .before .before .read-input .ensures) (not-false _ (c .before .before .before .before .if1 .left)) (sym (c .before .before .before .rank-count-ok .ensures) ∙ not-false _ (c .before .before .if2 .left)) in sym (length-take-le _ _ (omega arith))
+slice-aggregate-plan-tables-2 c =
+    let read-input = c .before .before .before .before .before .before .before .before .before .before .read-input in
+    let if1 = c .before .before .before .before .if1 in
+    let rank-count-ok = c .before .before .before .rank-count-ok in
+    let if2 = c .before .before .if2 in
+    let m = read-most (read-input .ensures) (not-false _ (if1 .left)) (sym (rank-count-ok .ensures) ∙ not-false _ (if2 .left)) in sym (length-take-le _ _ (omega arith))
 
 plan-tables-requires : tie.Need-plan-tables-requires
 plan-tables-requires c κs = search needs
@@ -74,7 +111,14 @@ same-length-9 : tie.Need-same-length-9
 same-length-9 c = search needs
 
 returns-3 : tie.Need-returns-3
-returns-3 c = answered _ _ (read-tables (c .before .before .before .before .before .before .before .before .before .before .before .before .before .before .read-input .ensures) (not-false _ (c .before .before .before .before .before .before .before .before .if1 .left)) (sym (c .before .before .before .before .before .before .before .rank-count-ok .ensures) ∙ not-false _ (c .before .before .before .before .before .before .if2 .left)) (c .before .before .before .before .before .before .before .before .before .before .before .before .before .before .before .before .before .before .before .before .before .pre .0) (c .before .before .before .before .before .before .before .before .before .before .before .before .before .before .before .before .before .before .before .before .before .pre .1)) (c .before .before .plan-tables .ensures)
+returns-3 c =
+    let read-input = c .before .before .before .before .before .before .before .before .before .before .before .before .before .before .read-input in
+    let if1 = c .before .before .before .before .before .before .before .before .if1 in
+    let rank-count-ok = c .before .before .before .before .before .before .before .rank-count-ok in
+    let if2 = c .before .before .before .before .before .before .if2 in
+    let pre = c .before .before .before .before .before .before .before .before .before .before .before .before .before .before .before .before .before .before .before .before .before .pre in
+    let plan-tables = c .before .before .plan-tables in
+    answered _ _ (read-tables (read-input .ensures) (not-false _ (if1 .left)) (sym (rank-count-ok .ensures) ∙ not-false _ (if2 .left)) (pre .0) (pre .1)) (plan-tables .ensures)
 
 pub plan-in-spec : {M : Type 1} → statement M
 plan-in-spec =

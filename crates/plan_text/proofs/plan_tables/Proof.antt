@@ -16,16 +16,31 @@ same-length : tie.Need-same-length
 same-length c = search needs
 
 returns : tie.Need-returns
-returns c = c .before .before .write-refused .ensures ∙ ap (λ o. outputAnswer o (c .before .before .before .before .before .before .before .before .before .args .out .now)) (tables-refused _ _ (c .before .before .before .before .before .tables-refusal .ensures) (c .before .before .before .before .if1 .taken))
+returns c =
+    let write-refused = c .before .before .write-refused in
+    let args = c .before .before .before .before .before .before .before .before .before .args in
+    let tables-refusal = c .before .before .before .before .before .tables-refusal in
+    let if1 = c .before .before .before .before .if1 in
+    write-refused .ensures ∙ ap (λ o. outputAnswer o (args .out .now)) (tables-refused _ _ (tables-refusal .ensures) (if1 .taken))
 
 write-moves-requires : tie.Need-write-moves-requires
-write-moves-requires c κs = tables-agree _ _ _ (c .before .before .tables-refusal .ensures) (λ i. c .before .before .before .before .before .shared-slice-known .given i .fits) (λ i. c .before .before .before .before .shared-slice-known2 .given i .fits) (c .before .if1 .left)
+write-moves-requires c κs =
+    let tables-refusal = c .before .before .tables-refusal in
+    let shared-slice-known = c .before .before .before .before .before .shared-slice-known in
+    let shared-slice-known2 = c .before .before .before .before .shared-slice-known2 in
+    let if1 = c .before .if1 in
+    tables-agree _ _ _ (tables-refusal .ensures) (λ i. shared-slice-known .given i .fits) (λ i. shared-slice-known2 .given i .fits) (if1 .left)
 
 same-length-2 : tie.Need-same-length-2
 same-length-2 c = search needs
 
 returns-2 : tie.Need-returns-2
-returns-2 c = c .before .before .write-moves .ensures ∙ ap (λ o. outputAnswer o (c .before .before .before .before .before .before .before .before .before .args .out .now)) (tables-moved _ _ (c .before .before .before .before .before .tables-refusal .ensures) (c .before .before .before .before .if1 .left))
+returns-2 c =
+    let write-moves = c .before .before .write-moves in
+    let args = c .before .before .before .before .before .before .before .before .before .args in
+    let tables-refusal = c .before .before .before .before .before .tables-refusal in
+    let if1 = c .before .before .before .before .if1 in
+    write-moves .ensures ∙ ap (λ o. outputAnswer o (args .out .now)) (tables-moved _ _ (tables-refusal .ensures) (if1 .left))
 
 pub plan-tables-spec : {M : Type 1} → statement M
 plan-tables-spec =

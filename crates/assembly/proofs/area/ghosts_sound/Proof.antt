@@ -21,7 +21,13 @@ cast-if1 : tie.Need-cast-if1
 cast-if1 c = search needs
 
 returns : tie.Need-returns
-returns c = ghosts-over (c .before .before .before .before .before .before .before .before .pre) (c .before .before .before .before .ghosts .ensures) (c .before .before .before .count .ensures) (c .before .before .dimension .ensures) (c .before .ghost-bound .ensures .0) (c .if1 .taken)
+returns c =
+    let pre = c .before .before .before .before .before .before .before .before .pre in
+    let ghosts = c .before .before .before .before .ghosts in
+    let count = c .before .before .before .count in
+    let dimension = c .before .before .dimension in
+    let ghost-bound = c .before .ghost-bound in
+    ghosts-over pre (ghosts .ensures) (count .ensures) (dimension .ensures) (ghost-bound .ensures .0) (c .if1 .taken)
 
 rank-requires : tie.Need-rank-requires
 rank-requires c κs = search needs
@@ -42,10 +48,33 @@ trees-requires : tie.Need-trees-requires
 trees-requires c κs = search needs
 
 ghosts-held-requires : tie.Need-ghosts-held-requires
-ghosts-held-requires c κs = ghosts-room (c .before .before .before .before .before .before .before .before .before .before .before .before .before .before .pre) (c .before .before .before .before .before .before .before .before .before .before .ghosts .ensures) (c .before .before .before .before .before .before .before .before .before .count .ensures) (c .before .before .before .before .before .before .before .before .dimension .ensures) (c .before .before .before .before .before .before .before .ghost-bound .ensures .0) (c .before .before .before .before .before .before .if1 .left) (c .before .before .ranks .ensures) (c .before .ghost-slots-place .ensures .0) .0
+ghosts-held-requires c κs =
+    let pre = c .before .before .before .before .before .before .before .before .before .before .before .before .before .before .pre in
+    let ghosts = c .before .before .before .before .before .before .before .before .before .before .ghosts in
+    let count = c .before .before .before .before .before .before .before .before .before .count in
+    let dimension = c .before .before .before .before .before .before .before .before .dimension in
+    let ghost-bound = c .before .before .before .before .before .before .before .ghost-bound in
+    let if1 = c .before .before .before .before .before .before .if1 in
+    let ranks = c .before .before .ranks in
+    let ghost-slots-place = c .before .ghost-slots-place in
+    ghosts-room pre (ghosts .ensures) (count .ensures) (dimension .ensures) (ghost-bound .ensures .0) (if1 .left) (ranks .ensures) (ghost-slots-place .ensures .0) .0
 
 returns-2 : tie.Need-returns-2
-returns-2 c = ghosts-fail (c .before .before .before .before .before .before .before .before .before .before .before .before .before .before .before .before .pre) (c .before .before .before .before .before .before .before .before .before .before .before .before .ghosts .ensures) (c .before .before .before .before .before .before .before .before .before .before .before .count .ensures) (c .before .before .before .before .before .before .before .before .before .before .dimension .ensures) (c .before .before .before .before .before .before .before .before .before .ghost-bound .ensures .0) (c .before .before .before .before .before .before .before .before .if1 .left) (c .before .before .before .before .ranks .ensures) (c .before .before .before .ghost-slots-place .ensures .0) (c .before .before .trees .ensures) (c .before .before .before .before .before .before .before .rank .ensures) (c .before .before .before .before .before .before .first-tree .ensures) (c .before .before .before .before .before .end-tree .ensures) (c .before .ghosts-held .ensures) (not-true _ (c .if2 .taken))
+returns-2 c =
+    let pre = c .before .before .before .before .before .before .before .before .before .before .before .before .before .before .before .before .pre in
+    let ghosts = c .before .before .before .before .before .before .before .before .before .before .before .before .ghosts in
+    let count = c .before .before .before .before .before .before .before .before .before .before .before .count in
+    let dimension = c .before .before .before .before .before .before .before .before .before .before .dimension in
+    let ghost-bound = c .before .before .before .before .before .before .before .before .before .ghost-bound in
+    let if1 = c .before .before .before .before .before .before .before .before .if1 in
+    let ranks = c .before .before .before .before .ranks in
+    let ghost-slots-place = c .before .before .before .ghost-slots-place in
+    let trees = c .before .before .trees in
+    let rank = c .before .before .before .before .before .before .before .rank in
+    let first-tree = c .before .before .before .before .before .before .first-tree in
+    let end-tree = c .before .before .before .before .before .end-tree in
+    let ghosts-held = c .before .ghosts-held in
+    ghosts-fail pre (ghosts .ensures) (count .ensures) (dimension .ensures) (ghost-bound .ensures .0) (if1 .left) (ranks .ensures) (ghost-slots-place .ensures .0) (trees .ensures) (rank .ensures) (first-tree .ensures) (end-tree .ensures) (ghosts-held .ensures) (not-true _ (c .if2 .taken))
 
 cast-from : tie.Need-cast-from
 cast-from c = search needs
@@ -70,14 +99,36 @@ part-all-zero-start c = search needs
 
 part-all-zero-end : tie.Need-part-all-zero-end
 part-all-zero-end c =
-    let room = ghosts-room (c .before .before .before .before .before .before .before .before .before .before .before .before .before .before .before .before .pre) (c .before .before .before .before .before .before .before .before .before .before .before .before .ghosts .ensures) (c .before .before .before .before .before .before .before .before .before .before .before .count .ensures) (c .before .before .before .before .before .before .before .before .before .before .dimension .ensures) (c .before .before .before .before .before .before .before .before .before .ghost-bound .ensures .0) (c .before .before .before .before .before .before .before .before .if1 .left) (c .before .before .before .before .ranks .ensures) (c .before .before .before .ghost-slots-place .ensures .0) in
-    omega (arith, room .0, room .1)
+    let pre = c .before .before .before .before .before .before .before .before .before .before .before .before .before .before .before .before .pre in
+    let ghosts = c .before .before .before .before .before .before .before .before .before .before .before .before .ghosts in
+    let count = c .before .before .before .before .before .before .before .before .before .before .before .count in
+    let dimension = c .before .before .before .before .before .before .before .before .before .before .dimension in
+    let ghost-bound = c .before .before .before .before .before .before .before .before .before .ghost-bound in
+    let if1 = c .before .before .before .before .before .before .before .before .if1 in
+    let ranks = c .before .before .before .before .ranks in
+    let ghost-slots-place = c .before .before .before .ghost-slots-place in
+    let room = ghosts-room pre (ghosts .ensures) (count .ensures) (dimension .ensures) (ghost-bound .ensures .0) (if1 .left) (ranks .ensures) (ghost-slots-place .ensures .0) in omega (arith, room .0, room .1)
 
 all-zero-requires : tie.Need-all-zero-requires
 all-zero-requires c κs = search needs
 
 returns-3 : tie.Need-returns-3
-returns-3 c = ghosts-read (c .before .before .before .before .before .before .before .before .before .before .before .before .before .before .before .before .before .before .pre) (c .before .before .before .before .before .before .before .before .before .before .before .before .before .before .ghosts .ensures) (c .before .before .before .before .before .before .before .before .before .before .before .before .before .count .ensures) (c .before .before .before .before .before .before .before .before .before .before .before .before .dimension .ensures) (c .before .before .before .before .before .before .before .before .before .before .before .ghost-bound .ensures .0) (c .before .before .before .before .before .before .before .before .before .before .if1 .left) (c .before .before .before .before .before .before .ranks .ensures) (c .before .before .before .before .before .ghost-slots-place .ensures .0) (c .before .before .before .before .trees .ensures) (c .before .before .before .before .before .before .before .before .before .rank .ensures) (c .before .before .before .before .before .before .before .before .first-tree .ensures) (c .before .before .before .before .before .before .before .end-tree .ensures) (c .before .before .before .ghosts-held .ensures) (not-false _ (c .before .before .if2 .left)) (c .all-zero .ensures)
+returns-3 c =
+    let pre = c .before .before .before .before .before .before .before .before .before .before .before .before .before .before .before .before .before .before .pre in
+    let ghosts = c .before .before .before .before .before .before .before .before .before .before .before .before .before .before .ghosts in
+    let count = c .before .before .before .before .before .before .before .before .before .before .before .before .before .count in
+    let dimension = c .before .before .before .before .before .before .before .before .before .before .before .before .dimension in
+    let ghost-bound = c .before .before .before .before .before .before .before .before .before .before .before .ghost-bound in
+    let if1 = c .before .before .before .before .before .before .before .before .before .before .if1 in
+    let ranks = c .before .before .before .before .before .before .ranks in
+    let ghost-slots-place = c .before .before .before .before .before .ghost-slots-place in
+    let trees = c .before .before .before .before .trees in
+    let rank = c .before .before .before .before .before .before .before .before .before .rank in
+    let first-tree = c .before .before .before .before .before .before .before .before .first-tree in
+    let end-tree = c .before .before .before .before .before .before .before .end-tree in
+    let ghosts-held = c .before .before .before .ghosts-held in
+    let if2 = c .before .before .if2 in
+    ghosts-read pre (ghosts .ensures) (count .ensures) (dimension .ensures) (ghost-bound .ensures .0) (if1 .left) (ranks .ensures) (ghost-slots-place .ensures .0) (trees .ensures) (rank .ensures) (first-tree .ensures) (end-tree .ensures) (ghosts-held .ensures) (not-false _ (if2 .left)) (c .all-zero .ensures)
 
 pub ghosts-sound-spec : {M : Type 1} → statement M
 ghosts-sound-spec =

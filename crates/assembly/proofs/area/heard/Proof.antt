@@ -25,7 +25,11 @@ bit-requires : tie.Need-bit-requires
 bit-requires c κs = search needs
 
 returns : tie.Need-returns
-returns c = heard-read _ _ (c .before .before .before .ranks .ensures) (c .before .before .words-place .ensures .0) (c .before .read-u64 .ensures) (c .bit .ensures)
+returns c =
+    let ranks = c .before .before .before .ranks in
+    let words-place = c .before .before .words-place in
+    let read-u64 = c .before .read-u64 in
+    heard-read _ _ (ranks .ensures) (words-place .ensures .0) (read-u64 .ensures) (c .bit .ensures)
 
 pub heard-spec : {M : Type 1} → statement M
 heard-spec =

@@ -44,7 +44,12 @@ loop-less : tie.Need-loop-less Inv-loop μ-loop
 loop-less c = search needs
 
 loop-again : tie.Need-loop-again Inv-loop μ-loop
-loop-again c = (omega arith, (ones-more _ _ (c .before .before .before .before .before .ranks .ensures) (c .before .before .before .before .words-place .ensures .0) (c .before .before .before .loop .inv .1 .0) (c .before .read-u64 .ensures) (c .ones .ensures .0), omega arith))
+loop-again c =
+    let ranks = c .before .before .before .before .before .ranks in
+    let words-place = c .before .before .before .before .words-place in
+    let loop = c .before .before .before .loop in
+    let read-u64 = c .before .read-u64 in
+    (omega arith, (ones-more _ _ (ranks .ensures) (words-place .ensures .0) (loop .inv .1 .0) (read-u64 .ensures) (c .ones .ensures .0), omega arith))
 
 returns : tie.Need-returns Inv-loop μ-loop
 returns c = ones-end _ (c .before .loop .inv .0) (omega arith) (c .before .loop .inv .1 .0) (c .before .loop .inv .1 .1)

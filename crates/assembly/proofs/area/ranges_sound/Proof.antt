@@ -28,7 +28,12 @@ range-sound-requires : tie.Need-range-sound-requires Inv-loop μ-loop
 range-sound-requires c κs = search needs
 
 returns : tie.Need-returns Inv-loop μ-loop
-returns c = ranges-fail (c .before .before .before .before .before .before .before .before .pre .header) (c .before .before .before .before .ranks .ensures) (c .before .before .loop-test .taken) (sym (c .before .range-sound .ensures) ∙ not-true _ (c .if1 .taken))
+returns c =
+    let pre = c .before .before .before .before .before .before .before .before .pre in
+    let ranks = c .before .before .before .before .ranks in
+    let loop-test = c .before .before .loop-test in
+    let range-sound = c .before .range-sound in
+    ranges-fail (pre .header) (ranks .ensures) (loop-test .taken) (sym (range-sound .ensures) ∙ not-true _ (c .if1 .taken))
 
 add-s : tie.Need-add-s Inv-loop μ-loop
 add-s c = search needs
@@ -40,7 +45,11 @@ loop-again : tie.Need-loop-again Inv-loop μ-loop
 loop-again c = (omega arith, all-more _ _ (c .before .before .before .loop .inv .1) (sym (c .before .range-sound .ensures) ∙ not-false _ (c .if1 .left)))
 
 returns-2 : tie.Need-returns-2 Inv-loop μ-loop
-returns-2 c = ranges-pass (c .before .before .before .before .before .before .pre .header) (c .before .before .ranks .ensures) (c .before .loop .inv .0) (omega arith) (c .before .loop .inv .1)
+returns-2 c =
+    let pre = c .before .before .before .before .before .before .pre in
+    let ranks = c .before .before .ranks in
+    let loop = c .before .loop in
+    ranges-pass (pre .header) (ranks .ensures) (loop .inv .0) (omega arith) (loop .inv .1)
 
 pub ranges-sound-spec : {M : Type 1} → statement M
 ranges-sound-spec =

@@ -29,7 +29,15 @@ ranks-requires : tie.Need-ranks-requires
 ranks-requires c κs = omega (arith, sized-long (c .before .before .before .before .before .before .before .before .before .pre))
 
 returns : tie.Need-returns
-returns c = fit-read (c .before .before .before .before .before .before .before .before .before .before .pre) (c .before .before .before .before .before .before .trees .ensures) (c .before .before .before .before .before .valid .ensures) (c .before .before .before .before .valid2 .ensures) (c .before .before .before .trees2 .ensures) (c .before .before .trees3 .ensures) (c .before .rank .ensures) (c .ranks .ensures)
+returns c =
+    let pre = c .before .before .before .before .before .before .before .before .before .before .pre in
+    let trees = c .before .before .before .before .before .before .trees in
+    let valid = c .before .before .before .before .before .valid in
+    let valid2 = c .before .before .before .before .valid2 in
+    let trees2 = c .before .before .before .trees2 in
+    let trees3 = c .before .before .trees3 in
+    let rank = c .before .rank in
+    fit-read pre (trees .ensures) (valid .ensures) (valid2 .ensures) (trees2 .ensures) (trees3 .ensures) (rank .ensures) (c .ranks .ensures)
 
 pub tables-fit-spec : {M : Type 1} → statement M
 tables-fit-spec =

@@ -10,13 +10,25 @@ end-tree-requires : tie.Need-end-tree-requires
 end-tree-requires c κs = omega (arith, range-fits _ _ (λ i. c .before .shared-slice-known .given i .fits) (c .before .before .pre))
 
 sub-result : tie.Need-sub-result
-sub-result c = omega (arith, range-fits _ _ (λ i. c .before .before .shared-slice-known .given i .fits) (c .before .before .before .pre), c .before .first-tree .ensures, c .end-tree .ensures)
+sub-result c =
+    let shared-slice-known = c .before .before .shared-slice-known in
+    let pre = c .before .before .before .pre in
+    let first-tree = c .before .first-tree in
+    omega (arith, range-fits _ _ (λ i. shared-slice-known .given i .fits) pre, first-tree .ensures, c .end-tree .ensures)
 
 cast-result : tie.Need-cast-result
-cast-result c = omega (arith, range-fits _ _ (λ i. c .before .before .shared-slice-known .given i .fits) (c .before .before .before .pre), c .before .first-tree .ensures, c .end-tree .ensures)
+cast-result c =
+    let shared-slice-known = c .before .before .shared-slice-known in
+    let pre = c .before .before .before .pre in
+    let first-tree = c .before .first-tree in
+    omega (arith, range-fits _ _ (λ i. shared-slice-known .given i .fits) pre, first-tree .ensures, c .end-tree .ensures)
 
 returns : tie.Need-returns
-returns c = count-read _ _ (range-fits _ _ (λ i. c .before .before .shared-slice-known .given i .fits) (c .before .before .before .pre)) (c .before .first-tree .ensures) (c .end-tree .ensures)
+returns c =
+    let shared-slice-known = c .before .before .shared-slice-known in
+    let pre = c .before .before .before .pre in
+    let first-tree = c .before .first-tree in
+    count-read _ _ (range-fits _ _ (λ i. shared-slice-known .given i .fits) pre) (first-tree .ensures) (c .end-tree .ensures)
 
 pub tree-count-spec : {M : Type 1} → statement M
 tree-count-spec =

@@ -12,7 +12,10 @@ trees-requires : tie.Need-trees-requires
 trees-requires c κs = search needs
 
 cast-trees : tie.Need-cast-trees
-cast-trees c = omega (arith, c .trees .ensures, trees-high _ (λ i. c .before .before .before .before .shared-slice-known .given i .fits) (c .before .before .before .before .before .pre .tables .oldRanks) (c .before .before .before .before .before .pre .tables .oldValid))
+cast-trees c =
+    let shared-slice-known = c .before .before .before .before .shared-slice-known in
+    let pre = c .before .before .before .before .before .pre in
+    omega (arith, c .trees .ensures, trees-high _ (λ i. shared-slice-known .given i .fits) (pre .tables .oldRanks) (pre .tables .oldValid))
 
 tree-count-requires : tie.Need-tree-count-requires
 tree-count-requires c κs = search needs
@@ -30,28 +33,62 @@ cast-write-header : tie.Need-cast-write-header
 cast-write-header c = search needs
 
 write-header-requires : tie.Need-write-header-requires
-write-header-requires c κs = omega (arith, open-fits (c .before .before .before .before .before .before .before .before .before .before .pre) (c .before .before .before .before .before .before .ranks .ensures .0) (c .before .before .before .before .tree-count .ensures .0) (c .before .area-size .ensures .0))
+write-header-requires c κs =
+    let pre = c .before .before .before .before .before .before .before .before .before .before .pre in
+    let ranks = c .before .before .before .before .before .before .ranks in
+    let tree-count = c .before .before .before .before .tree-count in
+    let area-size = c .before .area-size in
+    omega (arith, open-fits pre (ranks .ensures .0) (tree-count .ensures .0) (area-size .ensures .0))
 
 add-copy-words : tie.Need-add-copy-words
 add-copy-words c = search needs
 
 copy-words-requires : tie.Need-copy-words-requires
-copy-words-requires c κs = let f = open-fits (c .before .before .before .before .before .before .before .before .before .before .before .before .before .before .pre) (c .before .before .before .before .before .before .before .before .before .before .ranks .ensures .0) (c .before .before .before .before .before .before .before .before .tree-count .ensures .0) (c .before .before .before .before .before .area-size .ensures .0) in record { whole = f .oldLong; room = omega (arith, f .zones, f .room) }
+copy-words-requires c κs =
+    let pre = c .before .before .before .before .before .before .before .before .before .before .before .before .before .before .pre in
+    let ranks = c .before .before .before .before .before .before .before .before .before .before .ranks in
+    let tree-count = c .before .before .before .before .before .before .before .before .tree-count in
+    let area-size = c .before .before .before .before .before .area-size in
+    let f = open-fits pre (ranks .ensures .0) (tree-count .ensures .0) (area-size .ensures .0) in record { whole = f .oldLong; room = omega (arith, f .zones, f .room) }
 
 add-copy-words-2 : tie.Need-add-copy-words-2
 add-copy-words-2 c = search needs
 
 copy-words-requires-2 : tie.Need-copy-words-requires-2
-copy-words-requires-2 c κs = let f = open-fits (c .before .before .before .before .before .before .before .before .before .before .before .before .before .before .before .before .before .before .pre) (c .before .before .before .before .before .before .before .before .before .before .before .before .before .before .ranks .ensures .0) (c .before .before .before .before .before .before .before .before .before .before .before .before .tree-count .ensures .0) (c .before .before .before .before .before .before .before .before .before .area-size .ensures .0) in record { whole = f .newLong; room = omega (arith, f .zones, f .room, c .before .before .before .before .before .before .before .before .before .before .before .new-place .ensures .1) }
+copy-words-requires-2 c κs =
+    let pre = c .before .before .before .before .before .before .before .before .before .before .before .before .before .before .before .before .before .before .pre in
+    let ranks = c .before .before .before .before .before .before .before .before .before .before .before .before .before .before .ranks in
+    let tree-count = c .before .before .before .before .before .before .before .before .before .before .before .before .tree-count in
+    let area-size = c .before .before .before .before .before .before .before .before .before .area-size in
+    let new-place = c .before .before .before .before .before .before .before .before .before .before .before .new-place in
+    let f = open-fits pre (ranks .ensures .0) (tree-count .ensures .0) (area-size .ensures .0) in record { whole = f .newLong; room = omega (arith, f .zones, f .room, new-place .ensures .1) }
 
 clear-requires : tie.Need-clear-requires
-clear-requires c κs = let f = open-fits (c .before .before .before .before .before .before .before .before .before .before .before .before .before .before .before .before .before .before .before .before .before .before .pre) (c .before .before .before .before .before .before .before .before .before .before .before .before .before .before .before .before .before .before .ranks .ensures .0) (c .before .before .before .before .before .before .before .before .before .before .before .before .before .before .before .before .tree-count .ensures .0) (c .before .before .before .before .before .before .before .before .before .before .before .before .before .area-size .ensures .0) in (omega (arith, f .zones, c .before .before .before .before .before .before .before .before .before .before .before .before .before .before .words-place .ensures .1), omega (arith, f .room))
+clear-requires c κs =
+    let pre = c .before .before .before .before .before .before .before .before .before .before .before .before .before .before .before .before .before .before .before .before .before .before .pre in
+    let ranks = c .before .before .before .before .before .before .before .before .before .before .before .before .before .before .before .before .before .before .ranks in
+    let tree-count = c .before .before .before .before .before .before .before .before .before .before .before .before .before .before .before .before .tree-count in
+    let area-size = c .before .before .before .before .before .before .before .before .before .before .before .before .before .area-size in
+    let words-place = c .before .before .before .before .before .before .before .before .before .before .before .before .before .before .words-place in
+    let f = open-fits pre (ranks .ensures .0) (tree-count .ensures .0) (area-size .ensures .0) in (omega (arith, f .zones, words-place .ensures .1), omega (arith, f .room))
 
 same-length : tie.Need-same-length
 same-length c = search needs
 
 returns : tie.Need-returns
-returns c = fresh-written _ _ _ _ _ (c .before .before .before .before .before .before .before .before .before .before .before .before .before .before .before .before .before .before .before .before .before .before .before .before .before .pre .tables) _ (c .before .before .before .before .before .before .before .before .before .before .before .before .before .before .before .before .before .before .before .before .before .before .before .before .before .pre .room) (c .before .before .before .before .before .before .before .before .before .before .before .before .before .before .before .before .before .before .before .before .before .ranks .ensures .0) (c .before .before .before .before .before .before .before .before .before .before .before .before .before .before .before .before .before .before .before .before .trees .ensures) (c .before .before .before .before .before .before .before .before .before .before .before .before .before .before .before .before .before .before .before .tree-count .ensures .0) (c .before .before .before .before .before .before .before .before .before .before .before .before .before .before .before .before .before .before .new-place .ensures .0) (c .before .before .before .before .before .before .before .before .before .before .before .before .before .before .before .before .before .words-place .ensures .0) (c .before .before .before .before .before .before .before .before .before .before .before .before .before .before .before .before .area-size .ensures .0) (c .before .before .before .before .before .before .before .before .before .before .before .before .before .before .write-header .ensures) (c .before .before .before .before .before .before .before .before .before .before .copy-words .ensures) (c .before .before .before .before .before .before .copy-words2 .ensures) (c .before .before .clear .ensures)
+returns c =
+    let pre = c .before .before .before .before .before .before .before .before .before .before .before .before .before .before .before .before .before .before .before .before .before .before .before .before .before .pre in
+    let ranks = c .before .before .before .before .before .before .before .before .before .before .before .before .before .before .before .before .before .before .before .before .before .ranks in
+    let trees = c .before .before .before .before .before .before .before .before .before .before .before .before .before .before .before .before .before .before .before .before .trees in
+    let tree-count = c .before .before .before .before .before .before .before .before .before .before .before .before .before .before .before .before .before .before .before .tree-count in
+    let new-place = c .before .before .before .before .before .before .before .before .before .before .before .before .before .before .before .before .before .before .new-place in
+    let words-place = c .before .before .before .before .before .before .before .before .before .before .before .before .before .before .before .before .before .words-place in
+    let area-size = c .before .before .before .before .before .before .before .before .before .before .before .before .before .before .before .before .area-size in
+    let write-header = c .before .before .before .before .before .before .before .before .before .before .before .before .before .before .write-header in
+    let copy-words = c .before .before .before .before .before .before .before .before .before .before .copy-words in
+    let copy-words2 = c .before .before .before .before .before .before .copy-words2 in
+    let clear = c .before .before .clear in
+    fresh-written _ _ _ _ _ (pre .tables) _ (pre .room) (ranks .ensures .0) (trees .ensures) (tree-count .ensures .0) (new-place .ensures .0) (words-place .ensures .0) (area-size .ensures .0) (write-header .ensures) (copy-words .ensures) (copy-words2 .ensures) (clear .ensures)
 
 pub write-spec : {M : Type 1} → statement M
 write-spec =

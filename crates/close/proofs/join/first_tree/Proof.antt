@@ -29,10 +29,22 @@ first-tree-requires : tie.Need-first-tree-requires
 first-tree-requires c κs = search needs
 
 cast-first : tie.Need-cast-first
-cast-first c = omega (arith, first-read _ (c .before .before .before .before .before .before .before .pre) (c .before .before .before .before .before .ranks .ensures) (c .before .before .before .before .new-place .ensures .0) (c .before .before .before .words-place .ensures .0) (c .before .rank .ensures) (c .first-tree .ensures) .1)
+cast-first c =
+    let pre = c .before .before .before .before .before .before .before .pre in
+    let ranks = c .before .before .before .before .before .ranks in
+    let new-place = c .before .before .before .before .new-place in
+    let words-place = c .before .before .before .words-place in
+    let rank = c .before .rank in
+    omega (arith, first-read _ pre (ranks .ensures) (new-place .ensures .0) (words-place .ensures .0) (rank .ensures) (c .first-tree .ensures) .1)
 
 returns : tie.Need-returns
-returns c = first-read _ (c .before .before .before .before .before .before .before .pre) (c .before .before .before .before .before .ranks .ensures) (c .before .before .before .before .new-place .ensures .0) (c .before .before .before .words-place .ensures .0) (c .before .rank .ensures) (c .first-tree .ensures)
+returns c =
+    let pre = c .before .before .before .before .before .before .before .pre in
+    let ranks = c .before .before .before .before .before .ranks in
+    let new-place = c .before .before .before .before .new-place in
+    let words-place = c .before .before .before .words-place in
+    let rank = c .before .rank in
+    first-read _ pre (ranks .ensures) (new-place .ensures .0) (words-place .ensures .0) (rank .ensures) (c .first-tree .ensures)
 
 pub first-tree-spec : {M : Type 1} → statement M
 first-tree-spec =

@@ -28,7 +28,11 @@ sender-heard-requires : tie.Need-sender-heard-requires Inv-loop μ-loop
 sender-heard-requires c κs = search needs
 
 returns : tie.Need-returns Inv-loop μ-loop
-returns c = heard-fails _ (c .before .before .before .before .ranks .ensures) (c .before .before .loop-test .taken) (sym (c .before .sender-heard .ensures) ∙ not-true _ (c .if1 .taken))
+returns c =
+    let ranks = c .before .before .before .before .ranks in
+    let loop-test = c .before .before .loop-test in
+    let sender-heard = c .before .sender-heard in
+    heard-fails _ (ranks .ensures) (loop-test .taken) (sym (sender-heard .ensures) ∙ not-true _ (c .if1 .taken))
 
 add-s : tie.Need-add-s Inv-loop μ-loop
 add-s c = search needs

@@ -34,7 +34,12 @@ ghost-links-requires : tie.Need-ghost-links-requires
 ghost-links-requires c κs = search needs
 
 returns : tie.Need-returns
-returns c = ghost-read _ _ _ _ _ _ _ _ (c .before .before .before .before .shape-of .ensures) (c .before .before .before .face-count .ensures .0) (c .before .before .dimension-of .ensures) (c .before .beside .ensures) (c .ghost-links .ensures)
+returns c =
+    let shape-of = c .before .before .before .before .shape-of in
+    let face-count = c .before .before .before .face-count in
+    let dimension-of = c .before .before .dimension-of in
+    let beside = c .before .beside in
+    ghost-read _ _ _ _ _ _ _ _ (shape-of .ensures) (face-count .ensures .0) (dimension-of .ensures) (beside .ensures) (c .ghost-links .ensures)
 
 pub ghost-joins-spec : {M : Type 1} → statement M
 ghost-joins-spec =

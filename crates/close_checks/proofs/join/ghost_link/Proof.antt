@@ -25,16 +25,31 @@ orientation-ok-requires : tie.Need-orientation-ok-requires
 orientation-ok-requires c κs = search needs
 
 returns : tie.Need-returns
-returns c = ghost-none _ _ _ _ _ (c .before .before .before .before .before .pre .0) _ (c .before .before .before .before .before .pre .1) _ _ _ (c .before .before .before .neighbour-of .ensures) (c .before .before .place-of .ensures) (c .before .if1 .taken) (c .orientation-ok .ensures)
+returns c =
+    let pre = c .before .before .before .before .before .pre in
+    let neighbour-of = c .before .before .before .neighbour-of in
+    let place-of = c .before .before .place-of in
+    let if1 = c .before .if1 in
+    ghost-none _ _ _ _ _ (pre .0) _ (pre .1) _ _ _ (neighbour-of .ensures) (place-of .ensures) (if1 .taken) (c .orientation-ok .ensures)
 
 number-of-requires : tie.Need-number-of-requires
 number-of-requires c κs = search needs
 
 link-ok-requires : tie.Need-link-ok-requires
-link-ok-requires c κs = (search needs, search needs, to-fits _ _ _ _ _ (c .before .before .before .before .before .pre .0) _ (c .before .before .place-of .ensures) (c .before .if1 .left))
+link-ok-requires c κs =
+    let pre = c .before .before .before .before .before .pre in
+    let place-of = c .before .before .place-of in
+    let if1 = c .before .if1 in
+    (search needs, search needs, to-fits _ _ _ _ _ (pre .0) _ (place-of .ensures) (if1 .left))
 
 returns-2 : tie.Need-returns-2
-returns-2 c = ghost-some _ _ _ _ _ (c .before .before .before .before .before .before .pre .0) _ (c .before .before .before .before .before .before .pre .1) _ _ _ (c .before .before .before .before .neighbour-of .ensures) (c .before .before .before .place-of .ensures) (c .before .before .if1 .left) (c .before .number-of .ensures) (c .link-ok .ensures)
+returns-2 c =
+    let pre = c .before .before .before .before .before .before .pre in
+    let neighbour-of = c .before .before .before .before .neighbour-of in
+    let place-of = c .before .before .before .place-of in
+    let if1 = c .before .before .if1 in
+    let number-of = c .before .number-of in
+    ghost-some _ _ _ _ _ (pre .0) _ (pre .1) _ _ _ (neighbour-of .ensures) (place-of .ensures) (if1 .left) (number-of .ensures) (c .link-ok .ensures)
 
 pub ghost-link-spec : {M : Type 1} → statement M
 ghost-link-spec =

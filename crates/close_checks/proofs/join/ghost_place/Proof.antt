@@ -19,7 +19,10 @@ number-of-requires : tie.Need-number-of-requires
 number-of-requires c κs = search needs
 
 returns-2 : tie.Need-returns-2
-returns-2 c = place-below _ _ _ _ _ (c .before .before .before .before .pre .0) _ (c .before .before .before .before .pre .1) (c .before .number-of .ensures) (c .if2 .taken)
+returns-2 c =
+    let pre = c .before .before .before .before .pre in
+    let number-of = c .before .number-of in
+    place-below _ _ _ _ _ (pre .0) _ (pre .1) (number-of .ensures) (c .if2 .taken)
 
 cast-number-of : tie.Need-cast-number-of
 cast-number-of c = search needs
@@ -34,7 +37,10 @@ number-of-requires-2 : tie.Need-number-of-requires-2
 number-of-requires-2 c κs = search needs
 
 returns-3 : tie.Need-returns-3
-returns-3 c = place-above _ _ _ _ _ (c .before .before .before .before .before .before .pre .0) _ (c .before .before .before .before .before .before .pre .1) (c .before .number-of2 .ensures) (c .if3 .taken)
+returns-3 c =
+    let pre = c .before .before .before .before .before .before .pre in
+    let number-of2 = c .before .number-of2 in
+    place-above _ _ _ _ _ (pre .0) _ (pre .1) (number-of2 .ensures) (c .if3 .taken)
 
 place-near-requires : tie.Need-place-near-requires
 place-near-requires c κs = search needs

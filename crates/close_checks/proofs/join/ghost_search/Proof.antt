@@ -28,10 +28,19 @@ number-of-requires : tie.Need-number-of-requires
 number-of-requires c κs = search needs
 
 returns-2 : tie.Need-returns-2
-returns-2 c = place-other _ _ _ _ _ (c .before .before .before .before .before .pre .0) _ (c .before .before .before .before .before .pre .1) (c .before .before .before .find-ghost .ensures .0) (c .before .number-of .ensures) (c .if2 .taken)
+returns-2 c =
+    let pre = c .before .before .before .before .before .pre in
+    let find-ghost = c .before .before .before .find-ghost in
+    let number-of = c .before .number-of in
+    place-other _ _ _ _ _ (pre .0) _ (pre .1) (find-ghost .ensures .0) (number-of .ensures) (c .if2 .taken)
 
 returns-3 : tie.Need-returns-3
-returns-3 c = place-ghost _ _ _ _ _ (c .before .before .before .before .before .pre .0) _ (c .before .before .before .before .before .pre .1) (c .before .before .before .find-ghost .ensures .0) (c .before .number-of .ensures) (c .before .before .if1 .left) (c .if2 .left)
+returns-3 c =
+    let pre = c .before .before .before .before .before .pre in
+    let find-ghost = c .before .before .before .find-ghost in
+    let number-of = c .before .number-of in
+    let if1 = c .before .before .if1 in
+    place-ghost _ _ _ _ _ (pre .0) _ (pre .1) (find-ghost .ensures .0) (number-of .ensures) (if1 .left) (c .if2 .left)
 
 pub ghost-search-spec : {M : Type 1} → statement M
 ghost-search-spec = tie.close (tie.spec mul-ghosts-at add-ghosts-at find-ghost-requires returns cast-to mul-to add-to number-of-requires returns-2 returns-3)

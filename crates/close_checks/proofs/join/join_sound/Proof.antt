@@ -17,7 +17,12 @@ slots-place-requires : tie.Need-slots-place-requires
 slots-place-requires c κs = search needs
 
 cast-records-join : tie.Need-cast-records-join
-cast-records-join c = omega (arith, first-word _ _ (λ i. c .before .before .before .before .before .shared-slice-known .given i .fits) (c .before .before .before .before .before .before .pre) (c .before .before .before .rank .ensures) (c .before .before .first-tree .ensures))
+cast-records-join c =
+    let shared-slice-known = c .before .before .before .before .before .shared-slice-known in
+    let pre = c .before .before .before .before .before .before .pre in
+    let rank = c .before .before .before .rank in
+    let first-tree = c .before .before .first-tree in
+    omega (arith, first-word _ _ (λ i. shared-slice-known .given i .fits) pre (rank .ensures) (first-tree .ensures))
 
 count-requires : tie.Need-count-requires
 count-requires c κs = search needs
@@ -32,10 +37,30 @@ trees-requires : tie.Need-trees-requires
 trees-requires c κs = search needs
 
 records-join-requires : tie.Need-records-join-requires
-records-join-requires c κs = slots-read _ _ (λ i. c .before .before .before .before .before .before .before .before .before .shared-slice-known .given i .fits) (c .before .before .before .before .before .before .before .before .before .before .pre) (c .before .before .before .before .before .before .before .rank .ensures) (c .before .before .before .before .before .before .first-tree .ensures) (c .before .before .before .before .before .ranks .ensures) (c .before .before .before .before .slots-place .ensures .0) (c .before .before .before .count .ensures) (c .before .before .ghosts .ensures)
+records-join-requires c κs =
+    let shared-slice-known = c .before .before .before .before .before .before .before .before .before .shared-slice-known in
+    let pre = c .before .before .before .before .before .before .before .before .before .before .pre in
+    let rank = c .before .before .before .before .before .before .before .rank in
+    let first-tree = c .before .before .before .before .before .before .first-tree in
+    let ranks = c .before .before .before .before .before .ranks in
+    let slots-place = c .before .before .before .before .slots-place in
+    let count = c .before .before .before .count in
+    let ghosts = c .before .before .ghosts in
+    slots-read _ _ (λ i. shared-slice-known .given i .fits) pre (rank .ensures) (first-tree .ensures) (ranks .ensures) (slots-place .ensures .0) (count .ensures) (ghosts .ensures)
 
 returns : tie.Need-returns
-returns c = join-read _ _ (λ i. c .before .before .before .before .before .before .before .before .before .before .shared-slice-known .given i .fits) (c .before .before .before .before .before .before .before .before .before .before .before .pre) (c .before .before .before .before .before .before .before .before .rank .ensures) (c .before .before .before .before .before .before .before .first-tree .ensures) (c .before .before .before .before .before .before .ranks .ensures) (c .before .before .before .before .before .slots-place .ensures .0) (c .before .before .before .before .count .ensures) (c .before .before .before .ghosts .ensures) (c .before .before .dimension .ensures) (c .before .trees .ensures) (c .records-join .ensures)
+returns c =
+    let shared-slice-known = c .before .before .before .before .before .before .before .before .before .before .shared-slice-known in
+    let pre = c .before .before .before .before .before .before .before .before .before .before .before .pre in
+    let rank = c .before .before .before .before .before .before .before .before .rank in
+    let first-tree = c .before .before .before .before .before .before .before .first-tree in
+    let ranks = c .before .before .before .before .before .before .ranks in
+    let slots-place = c .before .before .before .before .before .slots-place in
+    let count = c .before .before .before .before .count in
+    let ghosts = c .before .before .before .ghosts in
+    let dimension = c .before .before .dimension in
+    let trees = c .before .trees in
+    join-read _ _ (λ i. shared-slice-known .given i .fits) pre (rank .ensures) (first-tree .ensures) (ranks .ensures) (slots-place .ensures .0) (count .ensures) (ghosts .ensures) (dimension .ensures) (trees .ensures) (c .records-join .ensures)
 
 pub join-sound-spec : {M : Type 1} → statement M
 join-sound-spec =

@@ -23,7 +23,11 @@ add-result : tie.Need-add-result
 add-result c = search needs
 
 returns : tie.Need-returns
-returns c = place-tree _ _ _ _ _ (c .before .before .before .before .pre) _ (c .before .before .in-range .ensures) (c .before .if1 .taken) _ (c .to-local .ensures)
+returns c =
+    let pre = c .before .before .before .before .pre in
+    let in-range = c .before .before .in-range in
+    let if1 = c .before .if1 in
+    place-tree _ _ _ _ _ pre _ (in-range .ensures) (if1 .taken) _ (c .to-local .ensures)
 
 ghost-place-requires : tie.Need-ghost-place-requires
 ghost-place-requires c κs = (c .before .before .before .pre, sym (c .before .in-range .ensures) ∙ c .if1 .left)

@@ -25,7 +25,11 @@ tree-links-requires : tie.Need-tree-links-requires
 tree-links-requires c κs = search needs
 
 returns : tie.Need-returns
-returns c = tree-read _ _ _ _ _ _ _ (c .before .before .before .shape-of .ensures) (c .before .before .face-count .ensures .0) (c .before .dimension-of .ensures) (c .tree-links .ensures)
+returns c =
+    let shape-of = c .before .before .before .shape-of in
+    let face-count = c .before .before .face-count in
+    let dimension-of = c .before .dimension-of in
+    tree-read _ _ _ _ _ _ _ (shape-of .ensures) (face-count .ensures .0) (dimension-of .ensures) (c .tree-links .ensures)
 
 pub tree-joins-spec : {M : Type 1} → statement M
 tree-joins-spec =

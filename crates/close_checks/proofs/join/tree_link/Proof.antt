@@ -22,13 +22,27 @@ number-of-requires : tie.Need-number-of-requires
 number-of-requires c κs = search needs
 
 link-ok-requires : tie.Need-link-ok-requires
-link-ok-requires c κs = (search needs, search needs, to-fits _ _ _ _ _ (c .before .before .before .before .before .pre .0) _ (c .before .before .place-of .ensures) (c .before .if1 .taken))
+link-ok-requires c κs =
+    let pre = c .before .before .before .before .before .pre in
+    let place-of = c .before .before .place-of in
+    let if1 = c .before .if1 in
+    (search needs, search needs, to-fits _ _ _ _ _ (pre .0) _ (place-of .ensures) (if1 .taken))
 
 returns : tie.Need-returns
-returns c = tree-some _ _ _ _ _ (c .before .before .before .before .before .before .pre .0) _ (c .before .before .before .before .before .before .pre .1) _ _ (c .before .before .before .before .neighbour-of .ensures) (c .before .before .before .place-of .ensures) (c .before .before .if1 .taken) (c .before .number-of .ensures) (c .link-ok .ensures)
+returns c =
+    let pre = c .before .before .before .before .before .before .pre in
+    let neighbour-of = c .before .before .before .before .neighbour-of in
+    let place-of = c .before .before .before .place-of in
+    let if1 = c .before .before .if1 in
+    let number-of = c .before .number-of in
+    tree-some _ _ _ _ _ (pre .0) _ (pre .1) _ _ (neighbour-of .ensures) (place-of .ensures) (if1 .taken) (number-of .ensures) (c .link-ok .ensures)
 
 returns-2 : tie.Need-returns-2
-returns-2 c = tree-none _ _ _ _ _ (c .before .before .before .before .pre .0) _ (c .before .before .before .before .pre .1) _ _ (c .before .before .neighbour-of .ensures) (c .before .place-of .ensures) (c .if1 .left)
+returns-2 c =
+    let pre = c .before .before .before .before .pre in
+    let neighbour-of = c .before .before .neighbour-of in
+    let place-of = c .before .place-of in
+    tree-none _ _ _ _ _ (pre .0) _ (pre .1) _ _ (neighbour-of .ensures) (place-of .ensures) (c .if1 .left)
 
 pub tree-link-spec : {M : Type 1} → statement M
 tree-link-spec =

@@ -42,7 +42,14 @@ loop-less : tie.Need-loop-less Inv-loop μ-loop
 loop-less c = omega (arith, held-some _ _ _ _ (c .before .before .before .before .before .held-last .ensures) (c .before .before .before .before .if1 .taken))
 
 loop-again : tie.Need-loop-again Inv-loop μ-loop
-loop-again c = held-turn _ _ _ _ _ _ (c .before .before .before .before .before .before .before .before .before .before .before .pre) (c .before .before .before .before .before .before .before .before .loop .inv) (c .before .before .before .before .before .before .before .loop-test .taken) (c .before .before .before .before .before .held-last .ensures) (c .before .before .before .before .if1 .taken) (c .before .before .move40 .ensures)
+loop-again c =
+    let pre = c .before .before .before .before .before .before .before .before .before .before .before .pre in
+    let loop = c .before .before .before .before .before .before .before .before .loop in
+    let loop-test = c .before .before .before .before .before .before .before .loop-test in
+    let held-last = c .before .before .before .before .before .held-last in
+    let if1 = c .before .before .before .before .if1 in
+    let move40 = c .before .before .move40 in
+    held-turn _ _ _ _ _ _ pre (loop .inv) (loop-test .taken) (held-last .ensures) (if1 .taken) (move40 .ensures)
 
 sub-j : tie.Need-sub-j Inv-loop μ-loop
 sub-j c = search needs
@@ -69,7 +76,14 @@ loop-less-2 : tie.Need-loop-less-2 Inv-loop μ-loop
 loop-less-2 c = search needs
 
 loop-again-2 : tie.Need-loop-again-2 Inv-loop μ-loop
-loop-again-2 c = came-turn _ _ _ _ _ _ (c .before .before .before .before .before .before .before .before .before .before .before .pre) (c .before .before .before .before .before .before .before .before .loop .inv) (c .before .before .before .before .before .before .before .loop-test .taken) (c .before .before .before .before .before .held-last .ensures) (c .before .before .before .before .if1 .left) (c .before .before .copy40 .ensures)
+loop-again-2 c =
+    let pre = c .before .before .before .before .before .before .before .before .before .before .before .pre in
+    let loop = c .before .before .before .before .before .before .before .before .loop in
+    let loop-test = c .before .before .before .before .before .before .before .loop-test in
+    let held-last = c .before .before .before .before .before .held-last in
+    let if1 = c .before .before .before .before .if1 in
+    let copy40 = c .before .before .copy40 in
+    came-turn _ _ _ _ _ _ pre (loop .inv) (loop-test .taken) (held-last .ensures) (if1 .left) (copy40 .ensures)
 
 same-length : tie.Need-same-length Inv-loop μ-loop
 same-length c = c .before .loop .inv .same-length

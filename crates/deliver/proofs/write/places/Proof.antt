@@ -37,7 +37,17 @@ ghost-count-requires : tie.Need-ghost-count-requires
 ghost-count-requires c κs = search needs
 
 returns : tie.Need-returns
-returns c = placed _ _ (c .before .before .before .before .before .before .before .before .before .before .before .pre) (c .before .before .before .before .before .before .before .before .ranks .ensures) (c .before .before .before .before .before .before .before .count .ensures) (c .before .before .before .before .before .before .words-place .ensures .0) (c .before .before .before .before .before .sender .ensures) (c .before .before .before .before .trees-place .ensures) (c .before .before .before .tree-count .ensures) (c .before .before .ghost-slots-place .ensures .0) (c .before .ghosts .ensures) (c .ghost-count .ensures)
+returns c =
+    let pre = c .before .before .before .before .before .before .before .before .before .before .before .pre in
+    let ranks = c .before .before .before .before .before .before .before .before .ranks in
+    let count = c .before .before .before .before .before .before .before .count in
+    let words-place = c .before .before .before .before .before .before .words-place in
+    let sender = c .before .before .before .before .before .sender in
+    let trees-place = c .before .before .before .before .trees-place in
+    let tree-count = c .before .before .before .tree-count in
+    let ghost-slots-place = c .before .before .ghost-slots-place in
+    let ghosts = c .before .ghosts in
+    placed _ _ pre (ranks .ensures) (count .ensures) (words-place .ensures .0) (sender .ensures) (trees-place .ensures) (tree-count .ensures) (ghost-slots-place .ensures .0) (ghosts .ensures) (c .ghost-count .ensures)
 
 pub places-spec : {M : Type 1} → statement M
 places-spec =

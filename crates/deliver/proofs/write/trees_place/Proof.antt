@@ -33,10 +33,24 @@ first-tree-requires : tie.Need-first-tree-requires
 first-tree-requires c κs = search needs
 
 cast-first : tie.Need-cast-first
-cast-first c = omega (arith, first-read (tabled _ (c .before .before .before .before .before .before .ranks .ensures) (c .before .before .before .before .before .new-place .ensures .0) (c .before .before .before .before .words-place .ensures .0) (c .before .before .before .before .before .before .before .before .before .pre .holds)) (c .before .rank .ensures) (c .first-tree .ensures), c .before .before .before .before .before .before .before .before .before .pre .low, c .before .before .before .before .before .before .before .before .before .pre .first-is, c .before .before .number-of .ensures)
+cast-first c =
+    let ranks = c .before .before .before .before .before .before .ranks in
+    let new-place = c .before .before .before .before .before .new-place in
+    let words-place = c .before .before .before .before .words-place in
+    let pre = c .before .before .before .before .before .before .before .before .before .pre in
+    let rank = c .before .rank in
+    let number-of = c .before .before .number-of in
+    omega (arith, first-read (tabled _ (ranks .ensures) (new-place .ensures .0) (words-place .ensures .0) (pre .holds)) (rank .ensures) (c .first-tree .ensures), pre .low, pre .first-is, number-of .ensures)
 
 to-local-requires : tie.Need-to-local-requires
-to-local-requires c κs = omega (arith, first-read (tabled _ (c .before .before .before .before .before .before .ranks .ensures) (c .before .before .before .before .before .new-place .ensures .0) (c .before .before .before .before .words-place .ensures .0) (c .before .before .before .before .before .before .before .before .before .pre .holds)) (c .before .rank .ensures) (c .first-tree .ensures), c .before .before .before .before .before .before .before .before .before .pre .low, c .before .before .before .before .before .before .before .before .before .pre .first-is, c .before .before .number-of .ensures)
+to-local-requires c κs =
+    let ranks = c .before .before .before .before .before .before .ranks in
+    let new-place = c .before .before .before .before .before .new-place in
+    let words-place = c .before .before .before .before .words-place in
+    let pre = c .before .before .before .before .before .before .before .before .before .pre in
+    let rank = c .before .rank in
+    let number-of = c .before .before .number-of in
+    omega (arith, first-read (tabled _ (ranks .ensures) (new-place .ensures .0) (words-place .ensures .0) (pre .holds)) (rank .ensures) (c .first-tree .ensures), pre .low, pre .first-is, number-of .ensures)
 
 slots-place-requires : tie.Need-slots-place-requires
 slots-place-requires c κs = search needs
@@ -51,7 +65,17 @@ add-result : tie.Need-add-result
 add-result c = search needs
 
 returns : tie.Need-returns
-returns c = trees-placed _ _ (c .before .before .before .before .before .before .before .before .before .before .before .before .pre) _ (c .before .before .before .before .before .before .before .before .before .ranks .ensures) (c .before .slots-place .ensures .0) (first-read (tabled _ (c .before .before .before .before .before .before .before .before .before .ranks .ensures) (c .before .before .before .before .before .before .before .before .new-place .ensures .0) (c .before .before .before .before .before .before .before .words-place .ensures .0) (c .before .before .before .before .before .before .before .before .before .before .before .before .pre .holds)) (c .before .before .before .before .rank .ensures) (c .before .before .before .first-tree .ensures)) (c .before .before .before .before .before .number-of .ensures) (c .before .before .to-local .ensures)
+returns c =
+    let pre = c .before .before .before .before .before .before .before .before .before .before .before .before .pre in
+    let ranks = c .before .before .before .before .before .before .before .before .before .ranks in
+    let slots-place = c .before .slots-place in
+    let new-place = c .before .before .before .before .before .before .before .before .new-place in
+    let words-place = c .before .before .before .before .before .before .before .words-place in
+    let rank = c .before .before .before .before .rank in
+    let first-tree = c .before .before .before .first-tree in
+    let number-of = c .before .before .before .before .before .number-of in
+    let to-local = c .before .before .to-local in
+    trees-placed _ _ pre _ (ranks .ensures) (slots-place .ensures .0) (first-read (tabled _ (ranks .ensures) (new-place .ensures .0) (words-place .ensures .0) (pre .holds)) (rank .ensures) (first-tree .ensures)) (number-of .ensures) (to-local .ensures)
 
 pub trees-place-spec : {M : Type 1} → statement M
 trees-place-spec =

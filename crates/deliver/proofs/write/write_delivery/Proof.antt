@@ -42,16 +42,28 @@ merge-requires : tie.Need-merge-requires
 merge-requires c κs = search needs
 
 add-write-u32 : tie.Need-add-write-u32
-add-write-u32 c = omega (arith, c .before .before .before .before .before .before .before .before .before .before .before .before .before .before .before .before .before .before .before .places .ensures .few)
+add-write-u32 c =
+    let places = c .before .before .before .before .before .before .before .before .before .before .before .before .before .before .before .before .before .before .before .places in
+    omega (arith, places .ensures .few)
 
 write-u32-requires : tie.Need-write-u32-requires
-write-u32-requires c κs = omega (arith, c .before .before .before .before .before .before .before .before .before .before .before .before .before .before .before .before .before .before .before .places .ensures .header-room)
+write-u32-requires c κs =
+    let places = c .before .before .before .before .before .before .before .before .before .before .before .before .before .before .before .before .before .before .before .places in
+    omega (arith, places .ensures .header-room)
 
 same-length : tie.Need-same-length
 same-length c = search needs
 
 returns : tie.Need-returns
-returns c = delivery-done _ _ (λ i. c .before .before .before .before .before .before .before .before .before .before .before .before .before .before .before .before .before .before .before .before .before .before .before .before .before .slice-known .given i .fits) (c .before .before .before .before .before .before .before .before .before .before .before .before .before .before .before .before .before .before .before .before .before .before .before .before .before .before .pre) (ready _ _ (λ i. c .before .before .before .before .before .before .before .before .before .before .before .before .before .before .before .before .before .before .before .before .before .before .before .before .before .slice-known .given i .fits) (c .before .before .before .before .before .before .before .before .before .before .before .before .before .before .before .before .before .before .before .before .before .before .before .before .before .before .pre)) (c .before .before .before .before .before .before .before .before .before .before .before .before .before .before .before .before .before .before .before .before .before .before .places .ensures) (c .before .before .before .before .before .before .before .before .before .before .before .before .before .before .before .before .before .before .before .set-heard .ensures) (c .before .before .before .before .before .before .before .before .before .before .before .before .before .copy-words .ensures) (c .before .before .before .before .before .before .before .merge .ensures) (c .before .before .write-u32 .ensures)
+returns c =
+    let slice-known = c .before .before .before .before .before .before .before .before .before .before .before .before .before .before .before .before .before .before .before .before .before .before .before .before .before .slice-known in
+    let pre = c .before .before .before .before .before .before .before .before .before .before .before .before .before .before .before .before .before .before .before .before .before .before .before .before .before .before .pre in
+    let places = c .before .before .before .before .before .before .before .before .before .before .before .before .before .before .before .before .before .before .before .before .before .before .places in
+    let set-heard = c .before .before .before .before .before .before .before .before .before .before .before .before .before .before .before .before .before .before .before .set-heard in
+    let copy-words = c .before .before .before .before .before .before .before .before .before .before .before .before .before .copy-words in
+    let merge = c .before .before .before .before .before .before .before .merge in
+    let write-u32 = c .before .before .write-u32 in
+    delivery-done _ _ (λ i. slice-known .given i .fits) pre (ready _ _ (λ i. slice-known .given i .fits) pre) (places .ensures) (set-heard .ensures) (copy-words .ensures) (merge .ensures) (write-u32 .ensures)
 
 pub write-delivery-spec : {M : Type 1} → statement M
 write-delivery-spec =

@@ -9,10 +9,16 @@ ghost-at-requires : tie.Need-ghost-at-requires
 ghost-at-requires c κs = search needs
 
 number-of-requires : tie.Need-number-of-requires
-number-of-requires c κs = omega (arith, ghost-fits _ (c .before .before .before .before .pre .0 .laid) _ (c .before .before .before .before .pre .3), c .ghost-at .ensures, c .before .before .before .before .pre .2)
+number-of-requires c κs =
+    let pre = c .before .before .before .before .pre in
+    omega (arith, ghost-fits _ (pre .0 .laid) _ (pre .3), c .ghost-at .ensures, pre .2)
 
 returns : tie.Need-returns
-returns c = beside-past (c .before .before .before .before .before .before .pre .0) _ (c .before .before .before .before .before .before .pre .2) (c .before .before .ghost-at .ensures) (c .before .number-of .ensures) (c .before .before .before .before .before .before .pre .1) (c .if1 .taken)
+returns c =
+    let pre = c .before .before .before .before .before .before .pre in
+    let ghost-at = c .before .before .ghost-at in
+    let number-of = c .before .number-of in
+    beside-past (pre .0) _ (pre .2) (ghost-at .ensures) (number-of .ensures) (pre .1) (c .if1 .taken)
 
 cast-holds : tie.Need-cast-holds
 cast-holds c = search needs
@@ -24,7 +30,12 @@ in-set-requires : tie.Need-in-set-requires
 in-set-requires c κs = search needs
 
 returns-2 : tie.Need-returns-2
-returns-2 c = beside-read (c .before .before .before .before .before .before .before .before .pre .0) _ (c .before .before .before .before .before .before .before .before .pre .2) (c .before .before .before .before .ghost-at .ensures) (c .before .before .before .number-of .ensures) (c .before .holds .ensures) (c .in-set .ensures)
+returns-2 c =
+    let pre = c .before .before .before .before .before .before .before .before .pre in
+    let ghost-at = c .before .before .before .before .ghost-at in
+    let number-of = c .before .before .before .number-of in
+    let holds = c .before .holds in
+    beside-read (pre .0) _ (pre .2) (ghost-at .ensures) (number-of .ensures) (holds .ensures) (c .in-set .ensures)
 
 pub ghost-beside-spec : {M : Type 1} → statement M
 ghost-beside-spec =

@@ -31,10 +31,19 @@ unfolding allBelow
 loop-holds c = search needs
 
 ghost-beside-requires : tie.Need-ghost-beside-requires Inv-loop μ-loop
-ghost-beside-requires c κs = (c .before .before .before .before .before .before .before .before .pre, c .before .before .before .before .trees-below .ensures, c .before .before .before .tree-count .ensures, omega (arith, c .before .before .ghost-count .ensures))
+ghost-beside-requires c κs =
+    let pre = c .before .before .before .before .before .before .before .before .pre in
+    let trees-below = c .before .before .before .before .trees-below in
+    let tree-count = c .before .before .before .tree-count in
+    let ghost-count = c .before .before .ghost-count in
+    (pre, trees-below .ensures, tree-count .ensures, omega (arith, ghost-count .ensures))
 
 returns : tie.Need-returns Inv-loop μ-loop
-returns c = sym (all-fails _ _ _ (omega (arith, c .before .before .loop-test .taken, c .before .before .before .before .ghost-count .ensures)) (sym (c .before .ghost-beside .ensures) ∙ not-true _ (c .if1 .taken)))
+returns c =
+    let loop-test = c .before .before .loop-test in
+    let ghost-count = c .before .before .before .before .ghost-count in
+    let ghost-beside = c .before .ghost-beside in
+    sym (all-fails _ _ _ (omega (arith, loop-test .taken, ghost-count .ensures)) (sym (ghost-beside .ensures) ∙ not-true _ (c .if1 .taken)))
 
 add-j : tie.Need-add-j Inv-loop μ-loop
 add-j c = search needs
@@ -46,7 +55,10 @@ loop-again : tie.Need-loop-again Inv-loop μ-loop
 loop-again c = (omega arith, all-more _ _ (c .before .before .before .loop .inv .1) (sym (c .before .ghost-beside .ensures) ∙ not-false _ (c .if1 .left)))
 
 returns-2 : tie.Need-returns-2 Inv-loop μ-loop
-returns-2 c = sym (all-to _ _ _ (omega (arith, c .before .loop .inv .0, c .before .before .ghost-count .ensures)) (omega (arith, c .before .before .ghost-count .ensures)) (c .before .loop .inv .1))
+returns-2 c =
+    let loop = c .before .loop in
+    let ghost-count = c .before .before .ghost-count in
+    sym (all-to _ _ _ (omega (arith, loop .inv .0, ghost-count .ensures)) (omega (arith, ghost-count .ensures)) (loop .inv .1))
 
 pub ghosts-beside-spec : {M : Type 1} → statement M
 ghosts-beside-spec =

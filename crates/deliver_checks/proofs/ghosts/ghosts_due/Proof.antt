@@ -17,10 +17,17 @@ slice-aggregate-ghosts-beside : tie.Need-slice-aggregate-ghosts-beside
 slice-aggregate-ghosts-beside c = search needs
 
 ghosts-beside-requires : tie.Need-ghosts-beside-requires
-ghosts-beside-requires c κs = beside (c .before .before .before .before .before .before .before .before .pre .0) (c .before .before .before .before .before .before .before .before .pre .1) (c .before .rank .ensures) 16384 (omega arith) (c .before .before .before .mark-trees .ensures)
+ghosts-beside-requires c κs =
+    let pre = c .before .before .before .before .before .before .before .before .pre in
+    let rank = c .before .rank in
+    let mark-trees = c .before .before .before .mark-trees in
+    beside (pre .0) (pre .1) (rank .ensures) 16384 (omega arith) (mark-trees .ensures)
 
 returns : tie.Need-returns
-returns c = due-is (c .before .before .before .before .before .before .before .before .before .pre .0) (c .before .before .before .before .before .before .before .before .before .pre .1) (c .before .before .rank .ensures) (c .ghosts-beside .ensures)
+returns c =
+    let pre = c .before .before .before .before .before .before .before .before .before .pre in
+    let rank = c .before .before .rank in
+    due-is (pre .0) (pre .1) (rank .ensures) (c .ghosts-beside .ensures)
 
 pub ghosts-due-spec : {M : Type 1} → statement M
 ghosts-due-spec =

@@ -43,13 +43,36 @@ ghost-at-requires : tie.Need-ghost-at-requires Inv-loop μ-loop
 ghost-at-requires c κs = search needs
 
 number-of-requires : tie.Need-number-of-requires Inv-loop μ-loop
-number-of-requires c κs = ghost-room _ (c .before .before .before .before .before .before .before .before .before .before .before .pre .laid) (c .before .before .before .before .tree-count .ensures) (c .before .before .before .ghost-count .ensures) (c .before .loop-test .taken) (c .ghost-at .ensures)
+number-of-requires c κs =
+    let pre = c .before .before .before .before .before .before .before .before .before .before .before .pre in
+    let tree-count = c .before .before .before .before .tree-count in
+    let ghost-count = c .before .before .before .ghost-count in
+    let loop-test = c .before .loop-test in
+    ghost-room _ (pre .laid) (tree-count .ensures) (ghost-count .ensures) (loop-test .taken) (c .ghost-at .ensures)
 
 is-held-requires : tie.Need-is-held-requires Inv-loop μ-loop
-is-held-requires c κs = held-ascending (c .before .before .before .before .before .before .before .before .before .before .before .before .pre) (c .before .before .before .before .before .before .before .before .ranks .ensures) (c .before .before .before .before .before .before .before .count .ensures) (c .before .before .before .before .before .before .ghost-slots-place .ensures .0) (c .before .before .before .before .before .before .before .before .before .ghosts .ensures)
+is-held-requires c κs =
+    let pre = c .before .before .before .before .before .before .before .before .before .before .before .before .pre in
+    let ranks = c .before .before .before .before .before .before .before .before .ranks in
+    let count = c .before .before .before .before .before .before .before .count in
+    let ghost-slots-place = c .before .before .before .before .before .before .ghost-slots-place in
+    let ghosts = c .before .before .before .before .before .before .before .before .before .ghosts in
+    held-ascending pre (ranks .ensures) (count .ensures) (ghost-slots-place .ensures .0) (ghosts .ensures)
 
 returns : tie.Need-returns Inv-loop μ-loop
-returns c = sym (all-fails _ _ _ (omega (arith, c .before .before .before .before .loop-test .taken, c .before .before .before .before .before .before .ghost-count .ensures)) (new-is (c .before .before .before .before .before .before .before .before .before .before .before .before .before .before .pre) (c .before .before .before .before .before .before .before .before .before .before .ranks .ensures) (c .before .before .before .before .before .before .before .before .before .count .ensures) (c .before .before .before .before .before .before .before .before .ghost-slots-place .ensures .0) (c .before .before .before .before .before .before .before .before .before .before .before .ghosts .ensures) _ (c .before .before .before .before .before .before .before .tree-count .ensures) (c .before .before .before .ghost-at .ensures) (c .before .before .number-of .ensures) (c .before .is-held .ensures) ∙ ap not (c .if1 .taken)))
+returns c =
+    let loop-test = c .before .before .before .before .loop-test in
+    let ghost-count = c .before .before .before .before .before .before .ghost-count in
+    let pre = c .before .before .before .before .before .before .before .before .before .before .before .before .before .before .pre in
+    let ranks = c .before .before .before .before .before .before .before .before .before .before .ranks in
+    let count = c .before .before .before .before .before .before .before .before .before .count in
+    let ghost-slots-place = c .before .before .before .before .before .before .before .before .ghost-slots-place in
+    let ghosts = c .before .before .before .before .before .before .before .before .before .before .before .ghosts in
+    let tree-count = c .before .before .before .before .before .before .before .tree-count in
+    let ghost-at = c .before .before .before .ghost-at in
+    let number-of = c .before .before .number-of in
+    let is-held = c .before .is-held in
+    sym (all-fails _ _ _ (omega (arith, loop-test .taken, ghost-count .ensures)) (new-is pre (ranks .ensures) (count .ensures) (ghost-slots-place .ensures .0) (ghosts .ensures) _ (tree-count .ensures) (ghost-at .ensures) (number-of .ensures) (is-held .ensures) ∙ ap not (c .if1 .taken)))
 
 add-j : tie.Need-add-j Inv-loop μ-loop
 add-j c = search needs
@@ -58,10 +81,24 @@ loop-less : tie.Need-loop-less Inv-loop μ-loop
 loop-less c = search needs
 
 loop-again : tie.Need-loop-again Inv-loop μ-loop
-loop-again c = (omega arith, all-more _ _ (c .before .before .before .before .before .loop .inv .1) (new-is (c .before .before .before .before .before .before .before .before .before .before .before .before .before .before .pre) (c .before .before .before .before .before .before .before .before .before .before .ranks .ensures) (c .before .before .before .before .before .before .before .before .before .count .ensures) (c .before .before .before .before .before .before .before .before .ghost-slots-place .ensures .0) (c .before .before .before .before .before .before .before .before .before .before .before .ghosts .ensures) _ (c .before .before .before .before .before .before .before .tree-count .ensures) (c .before .before .before .ghost-at .ensures) (c .before .before .number-of .ensures) (c .before .is-held .ensures) ∙ ap not (c .if1 .left)))
+loop-again c =
+    let loop = c .before .before .before .before .before .loop in
+    let pre = c .before .before .before .before .before .before .before .before .before .before .before .before .before .before .pre in
+    let ranks = c .before .before .before .before .before .before .before .before .before .before .ranks in
+    let count = c .before .before .before .before .before .before .before .before .before .count in
+    let ghost-slots-place = c .before .before .before .before .before .before .before .before .ghost-slots-place in
+    let ghosts = c .before .before .before .before .before .before .before .before .before .before .before .ghosts in
+    let tree-count = c .before .before .before .before .before .before .before .tree-count in
+    let ghost-at = c .before .before .before .ghost-at in
+    let number-of = c .before .before .number-of in
+    let is-held = c .before .is-held in
+    (omega arith, all-more _ _ (loop .inv .1) (new-is pre (ranks .ensures) (count .ensures) (ghost-slots-place .ensures .0) (ghosts .ensures) _ (tree-count .ensures) (ghost-at .ensures) (number-of .ensures) (is-held .ensures) ∙ ap not (c .if1 .left)))
 
 returns-2 : tie.Need-returns-2 Inv-loop μ-loop
-returns-2 c = sym (all-to _ _ _ (omega (arith, c .before .loop .inv .0, c .before .before .ghost-count .ensures)) (omega (arith, c .before .before .ghost-count .ensures)) (c .before .loop .inv .1))
+returns-2 c =
+    let loop = c .before .loop in
+    let ghost-count = c .before .before .ghost-count in
+    sym (all-to _ _ _ (omega (arith, loop .inv .0, ghost-count .ensures)) (omega (arith, ghost-count .ensures)) (loop .inv .1))
 
 pub ghosts-new-spec : {M : Type 1} → statement M
 ghosts-new-spec =

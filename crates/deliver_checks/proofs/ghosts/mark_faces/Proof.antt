@@ -21,7 +21,12 @@ neighbour-of-requires : tie.Need-neighbour-of-requires Inv-loop μ-loop
 neighbour-of-requires c κs = search needs
 
 add-member-requires : tie.Need-add-member-requires Inv-loop μ-loop
-add-member-requires c κs = omega (arith, c .before .before .before .before .before .before .pre .low _ (c .before .before .loop-test .taken), c .before .neighbour-of .ensures, c .before .before .before .loop .inv .1 .same-length)
+add-member-requires c κs =
+    let pre = c .before .before .before .before .before .before .pre in
+    let loop-test = c .before .before .loop-test in
+    let neighbour-of = c .before .neighbour-of in
+    let loop = c .before .before .before .loop in
+    omega (arith, pre .low _ (loop-test .taken), neighbour-of .ensures, loop .inv .1 .same-length)
 
 add-face : tie.Need-add-face Inv-loop μ-loop
 add-face c = search needs
@@ -30,7 +35,13 @@ loop-less : tie.Need-loop-less Inv-loop μ-loop
 loop-less c = search needs
 
 loop-again : tie.Need-loop-again Inv-loop μ-loop
-loop-again c = (omega arith, faces-more _ _ (c .before .before .before .before .before .before .loop .inv .1) (c .before .before .before .before .neighbour-of .ensures) (c .before .before .before .before .before .before .before .before .before .pre .low _ (c .before .before .before .before .before .loop-test .taken)) (c .before .before .add-member .ensures))
+loop-again c =
+    let loop = c .before .before .before .before .before .before .loop in
+    let neighbour-of = c .before .before .before .before .neighbour-of in
+    let pre = c .before .before .before .before .before .before .before .before .before .pre in
+    let loop-test = c .before .before .before .before .before .loop-test in
+    let add-member = c .before .before .add-member in
+    (omega arith, faces-more _ _ (loop .inv .1) (neighbour-of .ensures) (pre .low _ (loop-test .taken)) (add-member .ensures))
 
 same-length : tie.Need-same-length Inv-loop μ-loop
 same-length c = c .before .loop .inv .1 .same-length

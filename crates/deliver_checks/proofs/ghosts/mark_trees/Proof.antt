@@ -23,13 +23,25 @@ tree-at-requires : tie.Need-tree-at-requires Inv-loop μ-loop
 tree-at-requires c κs = search needs
 
 shape-of-requires : tie.Need-shape-of-requires Inv-loop μ-loop
-shape-of-requires c κs = tree-room _ (c .before .before .before .before .before .before .pre .laid) (c .before .before .before .tree-count .ensures) (c .before .loop-test .taken) (c .tree-at .ensures)
+shape-of-requires c κs =
+    let pre = c .before .before .before .before .before .before .pre in
+    let tree-count = c .before .before .before .tree-count in
+    let loop-test = c .before .loop-test in
+    tree-room _ (pre .laid) (tree-count .ensures) (loop-test .taken) (c .tree-at .ensures)
 
 face-count-requires : tie.Need-face-count-requires Inv-loop μ-loop
 face-count-requires c κs = search needs
 
 mark-faces-requires : tie.Need-mark-faces-requires Inv-loop μ-loop
-mark-faces-requires c κs = faces-fit _ _ (c .before .before .before .tree-at .ensures) (c .before .before .shape-of .ensures) (c .before .face-count .ensures .0) (c .before .before .before .before .before .before .before .before .before .pre) (c .before .before .before .before .before .loop .inv .1) (c .before .before .before .before .before .before .tree-count .ensures) (c .before .before .before .before .loop-test .taken) (c .before .face-count .ensures .1)
+mark-faces-requires c κs =
+    let tree-at = c .before .before .before .tree-at in
+    let shape-of = c .before .before .shape-of in
+    let face-count = c .before .face-count in
+    let pre = c .before .before .before .before .before .before .before .before .before .pre in
+    let loop = c .before .before .before .before .before .loop in
+    let tree-count = c .before .before .before .before .before .before .tree-count in
+    let loop-test = c .before .before .before .before .loop-test in
+    faces-fit _ _ (tree-at .ensures) (shape-of .ensures) (face-count .ensures .0) pre (loop .inv .1) (tree-count .ensures) (loop-test .taken) (face-count .ensures .1)
 
 add-i : tie.Need-add-i Inv-loop μ-loop
 add-i c = search needs
@@ -38,7 +50,13 @@ loop-less : tie.Need-loop-less Inv-loop μ-loop
 loop-less c = search needs
 
 loop-again : tie.Need-loop-again Inv-loop μ-loop
-loop-again c = (omega arith, trees-more _ _ (c .before .before .before .before .before .before .tree-at .ensures) (c .before .before .before .before .before .shape-of .ensures) (c .before .before .before .before .face-count .ensures .0) (c .before .before .before .before .before .before .before .before .loop .inv .1) (c .before .before .mark-faces .ensures))
+loop-again c =
+    let tree-at = c .before .before .before .before .before .before .tree-at in
+    let shape-of = c .before .before .before .before .before .shape-of in
+    let face-count = c .before .before .before .before .face-count in
+    let loop = c .before .before .before .before .before .before .before .before .loop in
+    let mark-faces = c .before .before .mark-faces in
+    (omega arith, trees-more _ _ (tree-at .ensures) (shape-of .ensures) (face-count .ensures .0) (loop .inv .1) (mark-faces .ensures))
 
 same-length : tie.Need-same-length Inv-loop μ-loop
 same-length c = c .before .loop .inv .1 .same-length

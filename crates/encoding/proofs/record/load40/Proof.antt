@@ -35,8 +35,15 @@ read-u64-requires-5 c κs = search needs
 
 returns : tie.Need-returns
 unfolding bytes40
-returns c = rw (← add-zero (c .before .before .before .before .before .before .args .at)) (words-read (λ i. c .before .before .before .before .before .shared-slice-known .given i .fits) (rw add-zero (c .before .before .before .before .before .before .pre))
-    (next (rw add-zero (c .before .before .before .before .read-u64 .ensures)) (next (c .before .before .before .read-u642 .ensures) (next (c .before .before .read-u643 .ensures) (next (c .before .read-u644 .ensures) (next (c .read-u645 .ensures) none))))))
+returns c =
+    let args = c .before .before .before .before .before .before .args in
+    let shared-slice-known = c .before .before .before .before .before .shared-slice-known in
+    let pre = c .before .before .before .before .before .before .pre in
+    let read-u64 = c .before .before .before .before .read-u64 in
+    let read-u642 = c .before .before .before .read-u642 in
+    let read-u643 = c .before .before .read-u643 in
+    let read-u644 = c .before .read-u644 in
+    rw (← add-zero (args .at)) (words-read (λ i. shared-slice-known .given i .fits) (rw add-zero pre) (next (rw add-zero (read-u64 .ensures)) (next (read-u642 .ensures) (next (read-u643 .ensures) (next (read-u644 .ensures) (next (c .read-u645 .ensures) none))))))
 
 pub load40-spec : {M : Type 1} → statement M
 load40-spec =

@@ -32,7 +32,12 @@ read-u64-requires-3 c κs = search needs
 
 returns : tie.Need-returns
 unfolding bytes64
-returns c = ap₂ _++_ (c .before .before .before .load40 .ensures) (words-read (λ i. c .before .before .before .before .shared-slice-known .given i .fits) (omega arith) (next (c .before .before .read-u64 .ensures) (next (c .before .read-u642 .ensures) (next (c .read-u643 .ensures) none)))) ∙ sym (piece-add _ _ 40 24)
+returns c =
+    let load40 = c .before .before .before .load40 in
+    let shared-slice-known = c .before .before .before .before .shared-slice-known in
+    let read-u64 = c .before .before .read-u64 in
+    let read-u642 = c .before .read-u642 in
+    ap₂ _++_ (load40 .ensures) (words-read (λ i. shared-slice-known .given i .fits) (omega arith) (next (read-u64 .ensures) (next (read-u642 .ensures) (next (c .read-u643 .ensures) none)))) ∙ sym (piece-add _ _ 40 24)
 
 pub load64-spec : {M : Type 1} → statement M
 load64-spec =

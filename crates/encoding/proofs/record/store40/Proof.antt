@@ -38,8 +38,15 @@ same-length c = search needs
 
 returns : tie.Need-returns
 unfolding bytes40
-returns c = rw (← add-zero (c .before .before .before .before .before .before .before .before .before .before .before .before .before .before .before .before .before .before .before .before .before .args .at)) (words-written (rw add-zero (c .before .before .before .before .before .before .before .before .before .before .before .before .before .before .before .before .before .before .before .before .before .pre))
-    (next (rw add-zero (c .before .before .before .before .before .before .before .before .before .before .before .before .before .before .before .before .before .before .write-u64 .ensures)) (next (c .before .before .before .before .before .before .before .before .before .before .before .before .before .before .write-u642 .ensures) (next (c .before .before .before .before .before .before .before .before .before .before .write-u643 .ensures) (next (c .before .before .before .before .before .before .write-u644 .ensures) (next (c .before .before .write-u645 .ensures) none))))))
+returns c =
+    let args = c .before .before .before .before .before .before .before .before .before .before .before .before .before .before .before .before .before .before .before .before .before .args in
+    let pre = c .before .before .before .before .before .before .before .before .before .before .before .before .before .before .before .before .before .before .before .before .before .pre in
+    let write-u64 = c .before .before .before .before .before .before .before .before .before .before .before .before .before .before .before .before .before .before .write-u64 in
+    let write-u642 = c .before .before .before .before .before .before .before .before .before .before .before .before .before .before .write-u642 in
+    let write-u643 = c .before .before .before .before .before .before .before .before .before .before .write-u643 in
+    let write-u644 = c .before .before .before .before .before .before .write-u644 in
+    let write-u645 = c .before .before .write-u645 in
+    rw (← add-zero (args .at)) (words-written (rw add-zero pre) (next (rw add-zero (write-u64 .ensures)) (next (write-u642 .ensures) (next (write-u643 .ensures) (next (write-u644 .ensures) (next (write-u645 .ensures) none))))))
 
 pub store40-spec : {M : Type 1} → statement M
 store40-spec =

@@ -33,8 +33,12 @@ same-length c = search needs
 
 returns : tie.Need-returns
 unfolding bytes64
-returns c = splice-then _ _ 40 _ _ (bytes40-length _) (omega arith) (c .before .before .before .before .before .before .before .before .before .before .before .before .before .before .store40 .ensures)
-    (words-written (omega arith) (next (c .before .before .before .before .before .before .before .before .before .before .write-u64 .ensures) (next (c .before .before .before .before .before .before .write-u642 .ensures) (next (c .before .before .write-u643 .ensures) none))))
+returns c =
+    let store40 = c .before .before .before .before .before .before .before .before .before .before .before .before .before .before .store40 in
+    let write-u64 = c .before .before .before .before .before .before .before .before .before .before .write-u64 in
+    let write-u642 = c .before .before .before .before .before .before .write-u642 in
+    let write-u643 = c .before .before .write-u643 in
+    splice-then _ _ 40 _ _ (bytes40-length _) (omega arith) (store40 .ensures) (words-written (omega arith) (next (write-u64 .ensures) (next (write-u642 .ensures) (next (write-u643 .ensures) none))))
 
 pub store64-spec : {M : Type 1} → statement M
 store64-spec =

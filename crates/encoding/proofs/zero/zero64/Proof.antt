@@ -55,10 +55,16 @@ read-u64-requires-8 : tie.Need-read-u64-requires-8
 read-u64-requires-8 c κs = search needs
 
 returns : tie.Need-returns
-returns c = let a = c .before .before .before .before .before .before .before .before .before .args in
-    let e : c .before .before .before .before .before .before .before .read-u64 .result ≡ u64At (a .bs .now) (a .at + 0) = rw add-zero (c .before .before .before .before .before .before .before .read-u64 .ensures) in
-    rw (e, c .before .before .before .before .before .before .read-u642 .ensures, c .before .before .before .before .before .read-u643 .ensures, c .before .before .before .before .read-u644 .ensures, c .before .before .before .read-u645 .ensures, c .before .before .read-u646 .ensures, c .before .read-u647 .ensures, c .read-u648 .ensures)
-    (eight (λ k. eqb (u64At (a .bs .now) (a .at + 8 * k)) 0) ∙ row-zero 8 8 (a .bs .now) (a .at))
+returns c =
+    let args = c .before .before .before .before .before .before .before .before .before .args in
+    let read-u64 = c .before .before .before .before .before .before .before .read-u64 in
+    let read-u642 = c .before .before .before .before .before .before .read-u642 in
+    let read-u643 = c .before .before .before .before .before .read-u643 in
+    let read-u644 = c .before .before .before .before .read-u644 in
+    let read-u645 = c .before .before .before .read-u645 in
+    let read-u646 = c .before .before .read-u646 in
+    let read-u647 = c .before .read-u647 in
+    let a = args in let e : read-u64 .result ≡ u64At (a .bs .now) (a .at + 0) = rw add-zero (read-u64 .ensures) in rw (e, read-u642 .ensures, read-u643 .ensures, read-u644 .ensures, read-u645 .ensures, read-u646 .ensures, read-u647 .ensures, c .read-u648 .ensures) (eight (λ k. eqb (u64At (a .bs .now) (a .at + 8 * k)) 0) ∙ row-zero 8 8 (a .bs .now) (a .at))
 
 pub zero64-spec : {M : Type 1} → statement M
 zero64-spec =

@@ -20,7 +20,12 @@ orientation-of-requires-2 c κs = search needs
 
 returns : tie.Need-returns
 unfolding answered
-returns c = rw (c .before .before .neighbour-of .ensures, c .before .face-of2 .ensures .0, c .orientation-of2 .ensures, c .before .before .before .orientation-of .ensures, c .before .before .before .before .face-of .ensures .0)
+returns c =
+    let neighbour-of = c .before .before .neighbour-of in
+    let face-of2 = c .before .face-of2 in
+    let orientation-of = c .before .before .before .orientation-of in
+    let face-of = c .before .before .before .before .face-of in
+    rw (neighbour-of .ensures, face-of2 .ensures .0, c .orientation-of2 .ensures, orientation-of .ensures, face-of .ensures .0)
 
 pub answered-spec : {M : Type 1} → statement M
 answered-spec =

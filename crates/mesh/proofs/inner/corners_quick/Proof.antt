@@ -26,7 +26,14 @@ orientation-in-requires c κs = search needs
 
 returns : tie.Need-returns
 unfolding cornersQuick
-returns c = rw (c .orientation-in .ensures, c .before .before .before .before .corners-in .ensures, c .before .corners-in2 .ensures, c .before .before .before .before .before .shape-of .ensures, c .before .before .before .shape-of2 .ensures, c .before .before .face-in .ensures .0, c .before .before .before .before .before .before .code-of .ensures)
+returns c =
+    let corners-in = c .before .before .before .before .corners-in in
+    let corners-in2 = c .before .corners-in2 in
+    let shape-of = c .before .before .before .before .before .shape-of in
+    let shape-of2 = c .before .before .before .shape-of2 in
+    let face-in = c .before .before .face-in in
+    let code-of = c .before .before .before .before .before .before .code-of in
+    rw (c .orientation-in .ensures, corners-in .ensures, corners-in2 .ensures, shape-of .ensures, shape-of2 .ensures, face-in .ensures .0, code-of .ensures)
 
 pub corners-quick-spec : {M : Type 1} → statement M
 corners-quick-spec =

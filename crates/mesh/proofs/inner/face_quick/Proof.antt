@@ -23,7 +23,13 @@ answered-quick-requires : tie.Need-answered-quick-requires
 answered-quick-requires c κs = search needs
 
 returns-2 : tie.Need-returns-2
-returns-2 c = face-read _ _ _ _ (c .before .before .before .before .before .tree-at .ensures) _ _ _ (c .before .before .before .before .neighbour-of .ensures) (c .before .before .before .if1 .left) (c .before .before .tree-at2 .ensures) (c .before .corners-quick .ensures) (c .answered-quick .ensures)
+returns-2 c =
+    let tree-at = c .before .before .before .before .before .tree-at in
+    let neighbour-of = c .before .before .before .before .neighbour-of in
+    let if1 = c .before .before .before .if1 in
+    let tree-at2 = c .before .before .tree-at2 in
+    let corners-quick = c .before .corners-quick in
+    face-read _ _ _ _ (tree-at .ensures) _ _ _ (neighbour-of .ensures) (if1 .left) (tree-at2 .ensures) (corners-quick .ensures) (c .answered-quick .ensures)
 
 pub face-quick-spec : {M : Type 1} → statement M
 face-quick-spec =

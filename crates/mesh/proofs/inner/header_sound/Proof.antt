@@ -26,7 +26,12 @@ tree-at-requires : tie.Need-tree-at-requires
 tree-at-requires c κs = search needs
 
 returns-2 : tie.Need-returns-2
-returns-2 c = header-read _ (c .before .before .before .dimension .ensures) (c .before .before .before .before .trees .ensures) (c .before .before .dimension-ok .ensures) (c .before .tree-count-ok .ensures) (c .tree-at .ensures)
+returns-2 c =
+    let dimension = c .before .before .before .dimension in
+    let trees = c .before .before .before .before .trees in
+    let dimension-ok = c .before .before .dimension-ok in
+    let tree-count-ok = c .before .tree-count-ok in
+    header-read _ (dimension .ensures) (trees .ensures) (dimension-ok .ensures) (tree-count-ok .ensures) (c .tree-at .ensures)
 
 pub header-sound-spec : {M : Type 1} → statement M
 header-sound-spec =

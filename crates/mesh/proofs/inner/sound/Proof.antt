@@ -25,7 +25,12 @@ trees-quick-requires : tie.Need-trees-quick-requires
 trees-quick-requires c κs = rw (c .trees .ensures) (header-parts _ (sym (c .before .before .before .header-sound .ensures) ∙ not-false _ (c .before .before .if1 .left)) .2)
 
 returns-2 : tie.Need-returns-2
-returns-2 c = sound-read _ (sym (c .before .before .before .before .header-sound .ensures) ∙ not-false _ (c .before .before .before .if1 .left)) (c .before .before .dimension .ensures) (c .before .trees .ensures) (c .trees-quick .ensures)
+returns-2 c =
+    let header-sound = c .before .before .before .before .header-sound in
+    let if1 = c .before .before .before .if1 in
+    let dimension = c .before .before .dimension in
+    let trees = c .before .trees in
+    sound-read _ (sym (header-sound .ensures) ∙ not-false _ (if1 .left)) (dimension .ensures) (trees .ensures) (c .trees-quick .ensures)
 
 pub sound-spec : {M : Type 1} → statement M
 sound-spec =

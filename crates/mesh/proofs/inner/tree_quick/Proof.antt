@@ -25,7 +25,14 @@ faces-quick-requires : tie.Need-faces-quick-requires
 faces-quick-requires c κs = search needs
 
 returns : tie.Need-returns
-returns c = tree-read _ _ _ _ (c .before .before .before .before .before .before .tree-at .ensures) (c .before .before .before .before .before .shape-of .ensures) (c .before .before .before .before .in-form .ensures) (c .before .before .before .number-of .ensures) (c .before .before .dimension-of .ensures) (c .before .face-count .ensures .0) (c .faces-quick .ensures)
+returns c =
+    let tree-at = c .before .before .before .before .before .before .tree-at in
+    let shape-of = c .before .before .before .before .before .shape-of in
+    let in-form = c .before .before .before .before .in-form in
+    let number-of = c .before .before .before .number-of in
+    let dimension-of = c .before .before .dimension-of in
+    let face-count = c .before .face-count in
+    tree-read _ _ _ _ (tree-at .ensures) (shape-of .ensures) (in-form .ensures) (number-of .ensures) (dimension-of .ensures) (face-count .ensures .0) (c .faces-quick .ensures)
 
 pub tree-quick-spec : {M : Type 1} → statement M
 tree-quick-spec =

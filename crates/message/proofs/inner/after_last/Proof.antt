@@ -22,7 +22,12 @@ number-of-requires-2 : tie.Need-number-of-requires-2
 number-of-requires-2 c κs = search needs
 
 returns-2 : tie.Need-returns-2
-returns-2 c = after-read _ _ _ _ (c .before .before .before .before .if1 .left) (c .before .before .before .core-at .ensures .0) (c .before .before .core-at2 .ensures .0) (c .before .number-of .ensures) (c .number-of2 .ensures)
+returns-2 c =
+    let if1 = c .before .before .before .before .if1 in
+    let core-at = c .before .before .before .core-at in
+    let core-at2 = c .before .before .core-at2 in
+    let number-of = c .before .number-of in
+    after-read _ _ _ _ (if1 .left) (core-at .ensures .0) (core-at2 .ensures .0) (number-of .ensures) (c .number-of2 .ensures)
 
 pub after-last-spec : {M : Type 1} → statement M
 after-last-spec =

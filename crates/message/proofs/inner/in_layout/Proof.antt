@@ -28,7 +28,13 @@ ghost-count-requires : tie.Need-ghost-count-requires
 ghost-count-requires c κs = omega (arith, size-length _ (sym (c .before .before .before .before .size-laid .ensures) ∙ not-false _ (c .before .before .before .if1 .left)))
 
 records-laid-requires : tie.Need-records-laid-requires
-records-laid-requires c κs = (trees-fit _ (sym (c .before .before .before .before .before .size-laid .ensures) ∙ not-false _ (c .before .before .before .before .if1 .left)) (c .before .tree-count .ensures), c .before .before .before .dimension .ensures, c .before .before .trees-below .ensures)
+records-laid-requires c κs =
+    let size-laid = c .before .before .before .before .before .size-laid in
+    let if1 = c .before .before .before .before .if1 in
+    let tree-count = c .before .tree-count in
+    let dimension = c .before .before .before .dimension in
+    let trees-below = c .before .before .trees-below in
+    (trees-fit _ (sym (size-laid .ensures) ∙ not-false _ (if1 .left)) (tree-count .ensures), dimension .ensures, trees-below .ensures)
 
 returns-2 : tie.Need-returns-2
 returns-2 c = trees-fail _ (c .before .before .before .tree-count .ensures) (c .before .records-laid .ensures) (not-true _ (c .if2 .taken))
@@ -37,10 +43,25 @@ ghost-at-requires : tie.Need-ghost-at-requires
 ghost-at-requires c κs = search needs
 
 records-laid-requires-2 : tie.Need-records-laid-requires-2
-records-laid-requires-2 c κs = (ghosts-fit _ (sym (c .before .before .before .before .before .before .before .before .size-laid .ensures) ∙ not-false _ (c .before .before .before .before .before .before .before .if1 .left)) (c .before .before .before .before .tree-count .ensures) (c .before .before .before .ghost-count .ensures) (c .ghost-at .ensures), c .before .before .before .before .before .before .dimension .ensures, c .before .before .before .before .before .trees-below .ensures)
+records-laid-requires-2 c κs =
+    let size-laid = c .before .before .before .before .before .before .before .before .size-laid in
+    let if1 = c .before .before .before .before .before .before .before .if1 in
+    let tree-count = c .before .before .before .before .tree-count in
+    let ghost-count = c .before .before .before .ghost-count in
+    let dimension = c .before .before .before .before .before .before .dimension in
+    let trees-below = c .before .before .before .before .before .trees-below in
+    (ghosts-fit _ (sym (size-laid .ensures) ∙ not-false _ (if1 .left)) (tree-count .ensures) (ghost-count .ensures) (c .ghost-at .ensures), dimension .ensures, trees-below .ensures)
 
 returns-3 : tie.Need-returns-3
-returns-3 c = layout-read _ (sym (c .before .before .before .before .before .before .before .before .before .size-laid .ensures) ∙ not-false _ (c .before .before .before .before .before .before .before .before .if1 .left)) (c .before .before .before .before .before .tree-count .ensures) (c .before .before .before .before .ghost-count .ensures) (c .before .ghost-at .ensures) (c .before .before .before .records-laid .ensures) (not-false _ (c .before .before .if2 .left)) (c .records-laid2 .ensures)
+returns-3 c =
+    let size-laid = c .before .before .before .before .before .before .before .before .before .size-laid in
+    let if1 = c .before .before .before .before .before .before .before .before .if1 in
+    let tree-count = c .before .before .before .before .before .tree-count in
+    let ghost-count = c .before .before .before .before .ghost-count in
+    let ghost-at = c .before .ghost-at in
+    let records-laid = c .before .before .before .records-laid in
+    let if2 = c .before .before .if2 in
+    layout-read _ (sym (size-laid .ensures) ∙ not-false _ (if1 .left)) (tree-count .ensures) (ghost-count .ensures) (ghost-at .ensures) (records-laid .ensures) (not-false _ (if2 .left)) (c .records-laid2 .ensures)
 
 pub in-layout-spec : {M : Type 1} → statement M
 in-layout-spec =

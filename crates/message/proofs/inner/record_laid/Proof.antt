@@ -22,7 +22,14 @@ neighbours-below-requires : tie.Need-neighbours-below-requires
 neighbours-below-requires c κs = search needs
 
 returns : tie.Need-returns
-returns c = record-read _ _ (c .before .before .before .before .before .before .before .pre .1) (c .before .before .before .before .before .before .before .pre .2) (c .before .before .before .before .before .shape-of .ensures) (c .before .before .before .before .number-of .ensures) (c .before .before .before .in-form .ensures) (c .before .before .dimension-of .ensures) (c .before .face-count .ensures .0) (c .neighbours-below .ensures)
+returns c =
+    let pre = c .before .before .before .before .before .before .before .pre in
+    let shape-of = c .before .before .before .before .before .shape-of in
+    let number-of = c .before .before .before .before .number-of in
+    let in-form = c .before .before .before .in-form in
+    let dimension-of = c .before .before .dimension-of in
+    let face-count = c .before .face-count in
+    record-read _ _ (pre .1) (pre .2) (shape-of .ensures) (number-of .ensures) (in-form .ensures) (dimension-of .ensures) (face-count .ensures .0) (c .neighbours-below .ensures)
 
 pub record-laid-spec : {M : Type 1} → statement M
 record-laid-spec =

@@ -23,7 +23,12 @@ ghost-at-requires : tie.Need-ghost-at-requires
 ghost-at-requires c κs = search needs
 
 returns-2 : tie.Need-returns-2
-returns-2 c = size-read _ (c .before .before .before .before .dimension .ensures) (c .before .before .tree-count .ensures) (c .before .ghost-count .ensures) (c .before .before .before .dimension-ok .ensures) (c .ghost-at .ensures)
+returns-2 c =
+    let dimension = c .before .before .before .before .dimension in
+    let tree-count = c .before .before .tree-count in
+    let ghost-count = c .before .ghost-count in
+    let dimension-ok = c .before .before .before .dimension-ok in
+    size-read _ (dimension .ensures) (tree-count .ensures) (ghost-count .ensures) (dimension-ok .ensures) (c .ghost-at .ensures)
 
 pub size-laid-spec : {M : Type 1} → statement M
 size-laid-spec =

@@ -13,7 +13,12 @@ number-of-requires : tie.Need-number-of-requires
 number-of-requires c κs = search needs
 
 returns-2 : tie.Need-returns-2
-returns-2 c = index-tree _ _ _ (c .before .before .before .before .before .pre) _ (c .before .before .before .if1 .left) (c .before .before .if2 .taken) (c .before .tree-at .ensures) (c .number-of .ensures)
+returns-2 c =
+    let pre = c .before .before .before .before .before .pre in
+    let if1 = c .before .before .before .if1 in
+    let if2 = c .before .before .if2 in
+    let tree-at = c .before .tree-at in
+    index-tree _ _ _ pre _ (if1 .left) (if2 .taken) (tree-at .ensures) (c .number-of .ensures)
 
 ghost-at-requires : tie.Need-ghost-at-requires
 ghost-at-requires c κs = search needs
@@ -22,7 +27,13 @@ number-of-requires-2 : tie.Need-number-of-requires-2
 number-of-requires-2 c κs = search needs
 
 returns-3 : tie.Need-returns-3
-returns-3 c = index-ghost _ _ _ (c .before .before .before .before .before .before .pre) _ (c .before .before .before .before .if1 .left) (c .before .before .before .if2 .left) (c .before .before .if3 .taken) (c .before .ghost-at .ensures) (c .number-of2 .ensures)
+returns-3 c =
+    let pre = c .before .before .before .before .before .before .pre in
+    let if1 = c .before .before .before .before .if1 in
+    let if2 = c .before .before .before .if2 in
+    let if3 = c .before .before .if3 in
+    let ghost-at = c .before .ghost-at in
+    index-ghost _ _ _ pre _ (if1 .left) (if2 .left) (if3 .taken) (ghost-at .ensures) (c .number-of2 .ensures)
 
 returns-4 : tie.Need-returns-4
 returns-4 c = index-none _ _ _ (c .before .before .before .before .pre) _ (c .before .before .if1 .left) (c .before .if2 .left) (c .if3 .left)

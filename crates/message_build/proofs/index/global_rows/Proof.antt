@@ -41,7 +41,13 @@ global-row-requires-6 c κs = search needs
 
 returns : tie.Need-returns
 unfolding rowsWith
-returns c = rw (c .before .before .before .before .before .before .before .before .before .before .global-row .ensures, c .before .before .before .before .before .before .before .before .global-row2 .ensures, c .before .before .before .before .before .before .global-row3 .ensures, c .before .before .before .before .global-row4 .ensures, c .before .before .global-row5 .ensures, c .global-row6 .ensures)
+returns c =
+    let global-row = c .before .before .before .before .before .before .before .before .before .before .global-row in
+    let global-row2 = c .before .before .before .before .before .before .before .before .global-row2 in
+    let global-row3 = c .before .before .before .before .before .before .global-row3 in
+    let global-row4 = c .before .before .before .before .global-row4 in
+    let global-row5 = c .before .before .global-row5 in
+    rw (global-row .ensures, global-row2 .ensures, global-row3 .ensures, global-row4 .ensures, global-row5 .ensures, c .global-row6 .ensures)
 
 pub global-rows-spec : {M : Type 1} → statement M
 global-rows-spec =

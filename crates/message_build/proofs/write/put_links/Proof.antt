@@ -10,13 +10,22 @@ global-rows-requires : tie.Need-global-rows-requires
 global-rows-requires c κs = search needs
 
 put-rows-requires : tie.Need-put-rows-requires
-put-rows-requires c κs = (search needs, global-hold _ _ _ (λ i. c .before .before .before .before .shared-slice-known .given i .fits) (c .before .before .before .before .before .pre .faced) (c .before .before .rows-of .ensures) (c .before .global-rows .ensures))
+put-rows-requires c κs =
+    let shared-slice-known = c .before .before .before .before .shared-slice-known in
+    let pre = c .before .before .before .before .before .pre in
+    let rows-of = c .before .before .rows-of in
+    let global-rows = c .before .global-rows in
+    (search needs, global-hold _ _ _ (λ i. shared-slice-known .given i .fits) (pre .faced) (rows-of .ensures) (global-rows .ensures))
 
 same-length : tie.Need-same-length
 same-length c = search needs
 
 returns : tie.Need-returns
-returns c = links-put _ _ _ _ _ (c .before .before .before .before .before .rows-of .ensures) (c .before .before .before .before .global-rows .ensures) (c .before .before .put-rows .ensures)
+returns c =
+    let rows-of = c .before .before .before .before .before .rows-of in
+    let global-rows = c .before .before .before .before .global-rows in
+    let put-rows = c .before .before .put-rows in
+    links-put _ _ _ _ _ (rows-of .ensures) (global-rows .ensures) (put-rows .ensures)
 
 pub put-links-spec : {M : Type 1} → statement M
 put-links-spec =

@@ -13,7 +13,11 @@ same-length : tie.Need-same-length
 same-length c = search needs
 
 returns : tie.Need-returns
-returns c = core-written _ _ _ _ _ (c .before .before .before .before .before .before .before .before .before .before .pre .source) (c .before .before .before .before .before .before .before .before .before .before .pre .target) (c .before .before .before .before .before .before .copy40 .ensures) (c .before .before .put-links .ensures)
+returns c =
+    let pre = c .before .before .before .before .before .before .before .before .before .before .pre in
+    let copy40 = c .before .before .before .before .before .before .copy40 in
+    let put-links = c .before .before .put-links in
+    core-written _ _ _ _ _ (pre .source) (pre .target) (copy40 .ensures) (put-links .ensures)
 
 pub write-core-spec : {M : Type 1} → statement M
 write-core-spec = tie.close (tie.spec copy40-requires put-links-requires same-length returns)

@@ -20,13 +20,26 @@ tree-at-requires : tie.Need-tree-at-requires
 tree-at-requires c κs = search needs
 
 write-core-requires : tie.Need-write-core-requires
-write-core-requires c κs = local-room _ _ _ _ _ _ _ _ (c .before .before .before .before .before .before .before .pre) (c .before .before .before .before .in-range .ensures) (c .before .before .before .if1 .taken) (place-is _ _ _ (c .before .before .to-local .ensures) (c .before .tree-at .ensures))
+write-core-requires c κs =
+    let pre = c .before .before .before .before .before .before .before .pre in
+    let in-range = c .before .before .before .before .in-range in
+    let if1 = c .before .before .before .if1 in
+    let to-local = c .before .before .to-local in
+    let tree-at = c .before .tree-at in
+    local-room _ _ _ _ _ _ _ _ pre (in-range .ensures) (if1 .taken) (place-is _ _ _ (to-local .ensures) (tree-at .ensures))
 
 same-length : tie.Need-same-length
 same-length c = search needs
 
 returns : tie.Need-returns
-returns c = splice-of _ _ (c .before .before .write-core .ensures) (rw (place-is _ _ _ (c .before .before .before .before .before .to-local .ensures) (c .before .before .before .before .tree-at .ensures)) (core-local _ _ _ _ _ _ (c .before .before .before .before .before .before .before .before .before .before .pre .known) (c .before .before .before .before .before .before .before .in-range .ensures) (c .before .before .before .before .before .before .if1 .taken)))
+returns c =
+    let write-core = c .before .before .write-core in
+    let to-local = c .before .before .before .before .before .to-local in
+    let tree-at = c .before .before .before .before .tree-at in
+    let pre = c .before .before .before .before .before .before .before .before .before .before .pre in
+    let in-range = c .before .before .before .before .before .before .before .in-range in
+    let if1 = c .before .before .before .before .before .before .if1 in
+    splice-of _ _ (write-core .ensures) (rw (place-is _ _ _ (to-local .ensures) (tree-at .ensures)) (core-local _ _ _ _ _ _ (pre .known) (in-range .ensures) (if1 .taken)))
 
 ghost-at-requires : tie.Need-ghost-at-requires
 ghost-at-requires c κs = search needs
@@ -38,13 +51,28 @@ ghost-at-requires-2 : tie.Need-ghost-at-requires-2
 ghost-at-requires-2 c κs = search needs
 
 copy40-requires : tie.Need-copy40-requires
-copy40-requires c κs = (ghost-source _ _ _ _ _ _ _ _ (c .before .before .before .before .before .before .before .before .pre) (c .before .before .before .before .before .in-range .ensures) (c .before .before .before .before .if1 .left) (c .before .before .before .ghost-at .ensures) (c .before .before .find-ghost .ensures .0) (c .before .ghost-at2 .ensures), search needs)
+copy40-requires c κs =
+    let pre = c .before .before .before .before .before .before .before .before .pre in
+    let in-range = c .before .before .before .before .before .in-range in
+    let if1 = c .before .before .before .before .if1 in
+    let ghost-at = c .before .before .before .ghost-at in
+    let find-ghost = c .before .before .find-ghost in
+    let ghost-at2 = c .before .ghost-at2 in
+    (ghost-source _ _ _ _ _ _ _ _ pre (in-range .ensures) (if1 .left) (ghost-at .ensures) (find-ghost .ensures .0) (ghost-at2 .ensures), search needs)
 
 same-length-2 : tie.Need-same-length-2
 same-length-2 c = search needs
 
 returns-2 : tie.Need-returns-2
-returns-2 c = ghost-copied _ _ _ _ _ _ _ _ (c .before .before .before .before .before .before .before .before .before .before .before .pre) (c .before .before .before .before .before .before .before .before .in-range .ensures) (c .before .before .before .before .before .before .before .if1 .left) (c .before .before .before .before .before .before .ghost-at .ensures) (c .before .before .before .before .before .find-ghost .ensures .0) (c .before .before .before .before .ghost-at2 .ensures) (c .before .before .copy40 .ensures)
+returns-2 c =
+    let pre = c .before .before .before .before .before .before .before .before .before .before .before .pre in
+    let in-range = c .before .before .before .before .before .before .before .before .in-range in
+    let if1 = c .before .before .before .before .before .before .before .if1 in
+    let ghost-at = c .before .before .before .before .before .before .ghost-at in
+    let find-ghost = c .before .before .before .before .before .find-ghost in
+    let ghost-at2 = c .before .before .before .before .ghost-at2 in
+    let copy40 = c .before .before .copy40 in
+    ghost-copied _ _ _ _ _ _ _ _ pre (in-range .ensures) (if1 .left) (ghost-at .ensures) (find-ghost .ensures .0) (ghost-at2 .ensures) (copy40 .ensures)
 
 pub write-ghost-spec : {M : Type 1} → statement M
 write-ghost-spec =

@@ -24,13 +24,23 @@ next-member-requires : tie.Need-next-member-requires Inv-loop μ-loop
 next-member-requires c κs = search needs
 
 loop-holds : tie.Need-loop-holds Inv-loop μ-loop
-loop-holds c = ghosts-start _ _ _ _ _ (c .before .before .before .before .pre .members .long) (c .before .before .before .before .pre .room) (c .next-member .ensures)
+loop-holds c =
+    let pre = c .before .before .before .before .pre in
+    ghosts-start _ _ _ _ _ (pre .members .long) (pre .room) (c .next-member .ensures)
 
 write-ghost-requires : tie.Need-write-ghost-requires Inv-loop μ-loop
-write-ghost-requires c κs = record { known = c .before .before .before .before .before .before .before .pre .known; has = c .before .before .before .before .before .before .before .pre .members .has _ (c .before .before .loop .inv .member (c .before .loop-test .taken)); target = ghosts-room _ _ _ _ _ (c .before .before .before .before .before .before .before .pre .members .long) (c .before .before .before .before .before .before .before .pre .room) (c .before .before .loop .inv) (c .before .loop-test .taken) }
+write-ghost-requires c κs =
+    let pre = c .before .before .before .before .before .before .before .pre in
+    let loop = c .before .before .loop in
+    let loop-test = c .before .loop-test in
+    record { known = pre .known; has = pre .members .has _ (loop .inv .member (loop-test .taken)); target = ghosts-room _ _ _ _ _ (pre .members .long) (pre .room) (loop .inv) (loop-test .taken) }
 
 add-to : tie.Need-add-to Inv-loop μ-loop
-add-to c = omega (arith, ghosts-room _ _ _ _ _ (c .before .before .before .before .before .before .before .before .before .before .pre .members .long) (c .before .before .before .before .before .before .before .before .before .before .pre .room) (c .before .before .before .before .before .loop .inv) (c .before .before .before .before .loop-test .taken))
+add-to c =
+    let pre = c .before .before .before .before .before .before .before .before .before .before .pre in
+    let loop = c .before .before .before .before .before .loop in
+    let loop-test = c .before .before .before .before .loop-test in
+    omega (arith, ghosts-room _ _ _ _ _ (pre .members .long) (pre .room) (loop .inv) (loop-test .taken))
 
 add-next-member : tie.Need-add-next-member Inv-loop μ-loop
 add-next-member c = search needs
@@ -42,13 +52,21 @@ loop-less : tie.Need-loop-less Inv-loop μ-loop
 loop-less c = omega (arith, member-behind _ _ _ (c .next-member2 .ensures))
 
 loop-again : tie.Need-loop-again Inv-loop μ-loop
-loop-again c = ghosts-next _ _ _ _ _ (c .before .before .before .before .before .before .before .before .before .before .before .pre .members .long) (c .before .before .before .before .before .before .before .before .before .before .before .pre .room) (c .before .before .before .before .before .before .loop .inv) (c .before .before .before .before .before .loop-test .taken) (c .before .before .before .write-ghost .ensures) (c .next-member2 .ensures)
+loop-again c =
+    let pre = c .before .before .before .before .before .before .before .before .before .before .before .pre in
+    let loop = c .before .before .before .before .before .before .loop in
+    let loop-test = c .before .before .before .before .before .loop-test in
+    let write-ghost = c .before .before .before .write-ghost in
+    ghosts-next _ _ _ _ _ (pre .members .long) (pre .room) (loop .inv) (loop-test .taken) (write-ghost .ensures) (c .next-member2 .ensures)
 
 same-length : tie.Need-same-length Inv-loop μ-loop
 same-length c = c .before .loop .inv .same-length
 
 returns : tie.Need-returns Inv-loop μ-loop
-returns c = ghosts-end _ _ _ _ _ (c .before .before .before .before .before .before .pre .members .long) (c .before .before .before .before .before .before .pre .room) (c .before .loop .inv) (c .loop-test .left)
+returns c =
+    let pre = c .before .before .before .before .before .before .pre in
+    let loop = c .before .loop in
+    ghosts-end _ _ _ _ _ (pre .members .long) (pre .room) (loop .inv) (c .loop-test .left)
 
 pub write-ghosts-spec : {M : Type 1} → statement M
 write-ghosts-spec =

@@ -25,13 +25,30 @@ write-header-requires : tie.Need-write-header-requires
 write-header-requires c κs = header-room _ _ _ _ _ _ _ _ (c .before .before .before .before .before .before .before .before .before .before .before .pre)
 
 write-records-requires : tie.Need-write-records-requires
-write-records-requires c κs = records-room _ _ _ _ _ _ _ _ (c .before .before .before .before .before .before .before .before .before .before .before .before .before .before .before .pre) (c .before .before .before .before .before .before .before .before .before .dimension .ensures) (c .before .before .before .before .before .before .before .before .trees .ensures) (c .before .before .before .before .before .before .before .ranks .ensures .0) (c .before .before .before .before .before .before .sent .ensures .0) (c .before .before .before .before .before .before .sent .ensures .1) (c .before .before .before .before .before .member-count .ensures) (c .before .before .before .write-header .ensures)
+write-records-requires c κs =
+    let pre = c .before .before .before .before .before .before .before .before .before .before .before .before .before .before .before .pre in
+    let dimension = c .before .before .before .before .before .before .before .before .before .dimension in
+    let trees = c .before .before .before .before .before .before .before .before .trees in
+    let ranks = c .before .before .before .before .before .before .before .ranks in
+    let sent = c .before .before .before .before .before .before .sent in
+    let member-count = c .before .before .before .before .before .member-count in
+    let write-header = c .before .before .before .write-header in
+    records-room _ _ _ _ _ _ _ _ pre (dimension .ensures) (trees .ensures) (ranks .ensures .0) (sent .ensures .0) (sent .ensures .1) (member-count .ensures) (write-header .ensures)
 
 same-length : tie.Need-same-length
 same-length c = search needs
 
 returns : tie.Need-returns
-returns c = message-written _ _ _ _ _ _ _ _ (c .before .before .before .before .before .before .before .before .before .before .before .before .before .before .before .before .before .before .pre) (c .before .before .before .before .before .before .before .before .before .before .before .before .dimension .ensures) (c .before .before .before .before .before .before .before .before .before .before .before .trees .ensures) (c .before .before .before .before .before .before .before .before .before .before .ranks .ensures .0) (c .before .before .before .before .before .before .before .before .before .sent .ensures .0) (c .before .before .before .before .before .before .before .before .before .sent .ensures .1) (c .before .before .before .before .before .before .before .before .member-count .ensures) (c .before .before .before .before .before .before .write-header .ensures) (c .before .before .write-records .ensures)
+returns c =
+    let pre = c .before .before .before .before .before .before .before .before .before .before .before .before .before .before .before .before .before .before .pre in
+    let dimension = c .before .before .before .before .before .before .before .before .before .before .before .before .dimension in
+    let trees = c .before .before .before .before .before .before .before .before .before .before .before .trees in
+    let ranks = c .before .before .before .before .before .before .before .before .before .before .ranks in
+    let sent = c .before .before .before .before .before .before .before .before .before .sent in
+    let member-count = c .before .before .before .before .before .before .before .before .member-count in
+    let write-header = c .before .before .before .before .before .before .write-header in
+    let write-records = c .before .before .write-records in
+    message-written _ _ _ _ _ _ _ _ pre (dimension .ensures) (trees .ensures) (ranks .ensures .0) (sent .ensures .0) (sent .ensures .1) (member-count .ensures) (write-header .ensures) (write-records .ensures)
 
 pub write-message-spec : {M : Type 1} → statement M
 write-message-spec =

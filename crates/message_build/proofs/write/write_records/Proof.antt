@@ -26,16 +26,40 @@ add-at : tie.Need-add-at
 add-at c = search needs
 
 write-trees-requires : tie.Need-write-trees-requires
-write-trees-requires c κs = trees-room _ _ _ _ _ (c .before .before .before .before .before .before .before .before .before .pre) (c .before .before .before .before .before .tree-count .ensures) (c .before .before .before .before .ghost-count .ensures) (c .before .before .before .first-tree .ensures) (c .before .before .dimension .ensures) (c .before .faces-in .ensures .0)
+write-trees-requires c κs =
+    let pre = c .before .before .before .before .before .before .before .before .before .pre in
+    let tree-count = c .before .before .before .before .before .tree-count in
+    let ghost-count = c .before .before .before .before .ghost-count in
+    let first-tree = c .before .before .before .first-tree in
+    let dimension = c .before .before .dimension in
+    let faces-in = c .before .faces-in in
+    trees-room _ _ _ _ _ pre (tree-count .ensures) (ghost-count .ensures) (first-tree .ensures) (dimension .ensures) (faces-in .ensures .0)
 
 write-ghosts-requires : tie.Need-write-ghosts-requires
-write-ghosts-requires c κs = ghosts-room _ _ _ _ _ (c .before .before .before .before .before .before .before .before .before .before .before .before .before .pre) (c .before .before .before .before .before .before .before .before .before .tree-count .ensures) (c .before .before .before .before .before .before .before .before .ghost-count .ensures) (c .before .before .before .before .before .before .before .first-tree .ensures) (c .before .before .before .before .before .before .dimension .ensures) (c .before .before .before .before .before .faces-in .ensures .0) refl (c .before .before .before .write-trees .ensures)
+write-ghosts-requires c κs =
+    let pre = c .before .before .before .before .before .before .before .before .before .before .before .before .before .pre in
+    let tree-count = c .before .before .before .before .before .before .before .before .before .tree-count in
+    let ghost-count = c .before .before .before .before .before .before .before .before .ghost-count in
+    let first-tree = c .before .before .before .before .before .before .before .first-tree in
+    let dimension = c .before .before .before .before .before .before .dimension in
+    let faces-in = c .before .before .before .before .before .faces-in in
+    let write-trees = c .before .before .before .write-trees in
+    ghosts-room _ _ _ _ _ pre (tree-count .ensures) (ghost-count .ensures) (first-tree .ensures) (dimension .ensures) (faces-in .ensures .0) refl (write-trees .ensures)
 
 same-length : tie.Need-same-length
 same-length c = search needs
 
 returns : tie.Need-returns
-returns c = records-written _ _ _ _ _ (c .before .before .before .before .before .before .before .before .before .before .before .before .before .before .before .before .pre) (c .before .before .before .before .before .before .before .before .before .before .before .before .tree-count .ensures) (c .before .before .before .before .before .before .before .before .before .before .before .ghost-count .ensures) (c .before .before .before .before .before .before .before .before .before .before .first-tree .ensures) (c .before .before .before .before .before .before .before .before .before .dimension .ensures) (c .before .before .before .before .before .before .before .before .faces-in .ensures .0) refl (c .before .before .before .before .before .before .write-trees .ensures) (c .before .before .write-ghosts .ensures)
+returns c =
+    let pre = c .before .before .before .before .before .before .before .before .before .before .before .before .before .before .before .before .pre in
+    let tree-count = c .before .before .before .before .before .before .before .before .before .before .before .before .tree-count in
+    let ghost-count = c .before .before .before .before .before .before .before .before .before .before .before .ghost-count in
+    let first-tree = c .before .before .before .before .before .before .before .before .before .before .first-tree in
+    let dimension = c .before .before .before .before .before .before .before .before .before .dimension in
+    let faces-in = c .before .before .before .before .before .before .before .before .faces-in in
+    let write-trees = c .before .before .before .before .before .before .write-trees in
+    let write-ghosts = c .before .before .write-ghosts in
+    records-written _ _ _ _ _ pre (tree-count .ensures) (ghost-count .ensures) (first-tree .ensures) (dimension .ensures) (faces-in .ensures .0) refl (write-trees .ensures) (write-ghosts .ensures)
 
 pub write-records-spec : {M : Type 1} → statement M
 write-records-spec =

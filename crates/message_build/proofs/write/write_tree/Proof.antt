@@ -13,7 +13,11 @@ same-length : tie.Need-same-length
 same-length c = search needs
 
 returns : tie.Need-returns
-returns c = tree-written _ _ _ _ _ (c .before .before .before .before .before .before .before .before .before .before .pre .source) (c .before .before .before .before .before .before .before .before .before .before .pre .target) (c .before .before .before .before .before .before .copy64 .ensures) (c .before .before .put-links .ensures)
+returns c =
+    let pre = c .before .before .before .before .before .before .before .before .before .before .pre in
+    let copy64 = c .before .before .before .before .before .before .copy64 in
+    let put-links = c .before .before .put-links in
+    tree-written _ _ _ _ _ (pre .source) (pre .target) (copy64 .ensures) (put-links .ensures)
 
 pub write-tree-spec : {M : Type 1} → statement M
 write-tree-spec = tie.close (tie.spec copy64-requires put-links-requires same-length returns)

@@ -22,14 +22,21 @@ unfolding besideBefore anyBelow
 loop-holds c = (omega arith, refl)
 
 across-requires : tie.Need-across-requires Inv-loop μ-loop
-across-requires c κs = face-here _ _ _ _ _ _ _ (c .before .before .before .before .before .pre .0) _ _ (c .before .before .before .before .before .pre .1) (c .loop-test .taken)
+across-requires c κs =
+    let pre = c .before .before .before .before .before .pre in
+    face-here _ _ _ _ _ _ _ (pre .0) _ _ (pre .1) (c .loop-test .taken)
 
 sent-before-requires : tie.Need-sent-before-requires Inv-loop μ-loop
 sent-before-requires c κs = c .before .before .before .before .before .before .pre .0 .known .sending .pair
 
 returns : tie.Need-returns Inv-loop μ-loop
 unfolding besideBefore
-returns c = sym (any-intro _ _ _ (c .before .before .before .loop-test .taken) (neighbour-before _ _ _ _ _ _ _ (c .before .before .before .before .before .before .before .before .pre .0) _ _ _ _ (c .before .before .before .before .before .before .before .before .pre .1) (c .before .before .before .loop-test .taken) (c .before .before .across .ensures) (c .before .sent-before .ensures) ∙ c .if1 .taken))
+returns c =
+    let loop-test = c .before .before .before .loop-test in
+    let pre = c .before .before .before .before .before .before .before .before .pre in
+    let across = c .before .before .across in
+    let sent-before = c .before .sent-before in
+    sym (any-intro _ _ _ (loop-test .taken) (neighbour-before _ _ _ _ _ _ _ (pre .0) _ _ _ _ (pre .1) (loop-test .taken) (across .ensures) (sent-before .ensures) ∙ c .if1 .taken))
 
 add-face : tie.Need-add-face Inv-loop μ-loop
 add-face c = search needs
@@ -39,7 +46,13 @@ loop-less c = search needs
 
 loop-again : tie.Need-loop-again Inv-loop μ-loop
 unfolding besideBefore
-loop-again c = (omega arith, none-next _ _ (c .before .before .before .before .loop .inv .1) (neighbour-before _ _ _ _ _ _ _ (c .before .before .before .before .before .before .before .before .pre .0) _ _ _ _ (c .before .before .before .before .before .before .before .before .pre .1) (c .before .before .before .loop-test .taken) (c .before .before .across .ensures) (c .before .sent-before .ensures) ∙ c .if1 .left))
+loop-again c =
+    let loop = c .before .before .before .before .loop in
+    let pre = c .before .before .before .before .before .before .before .before .pre in
+    let loop-test = c .before .before .before .loop-test in
+    let across = c .before .before .across in
+    let sent-before = c .before .sent-before in
+    (omega arith, none-next _ _ (loop .inv .1) (neighbour-before _ _ _ _ _ _ _ (pre .0) _ _ _ _ (pre .1) (loop-test .taken) (across .ensures) (sent-before .ensures) ∙ c .if1 .left))
 
 returns-2 : tie.Need-returns-2 Inv-loop μ-loop
 unfolding besideBefore

@@ -14,25 +14,46 @@ holds-requires : tie.Need-holds-requires
 holds-requires c κs = receiver-new-row (c .before .before .before .pre .0 .known .sending .pair)
 
 returns : tie.Need-returns
-returns c = goes-held _ _ _ _ _ _ _ (c .before .before .before .before .before .pre .0) _ (c .before .before .before .before .before .pre .1) (sym (c .before .holds .ensures) ∙ c .if1 .taken)
+returns c =
+    let pre = c .before .before .before .before .before .pre in
+    let holds = c .before .holds in
+    goes-held _ _ _ _ _ _ _ (pre .0) _ (pre .1) (sym (holds .ensures) ∙ c .if1 .taken)
 
 returns-2 : tie.Need-returns-2
-returns-2 c = goes-own _ _ _ _ _ _ _ (c .before .before .before .before .before .before .pre .0) _ (c .before .before .before .before .before .before .pre .1) (sym (c .before .before .holds .ensures) ∙ c .before .if1 .left) (c .if2 .taken)
+returns-2 c =
+    let pre = c .before .before .before .before .before .before .pre in
+    let holds = c .before .before .holds in
+    let if1 = c .before .if1 in
+    goes-own _ _ _ _ _ _ _ (pre .0) _ (pre .1) (sym (holds .ensures) ∙ if1 .left) (c .if2 .taken)
 
 record-at-requires : tie.Need-record-at-requires
 record-at-requires c κs = search needs
 
 shape-of-requires : tie.Need-shape-of-requires
-shape-of-requires c κs = omega (arith, c .record-at .ensures, place-fits _ _ _ _ _ _ (c .before .before .before .before .before .before .before .pre .0 .known) _ (c .before .before .before .before .before .before .before .pre .0 .within))
+shape-of-requires c κs =
+    let pre = c .before .before .before .before .before .before .before .pre in
+    omega (arith, c .record-at .ensures, place-fits _ _ _ _ _ _ (pre .0 .known) _ (pre .0 .within))
 
 face-count-requires : tie.Need-face-count-requires
 face-count-requires c κs = search needs
 
 beside-before-requires : tie.Need-beside-before-requires
-beside-before-requires c κs = (c .before .before .before .before .before .before .before .before .before .pre .0, faces-read _ _ _ _ _ _ _ (c .before .before .before .before .before .before .before .before .before .pre .0) _ _ _ (c .before .before .record-at .ensures) (c .before .shape-of .ensures) (c .face-count .ensures .0))
+beside-before-requires c κs =
+    let pre = c .before .before .before .before .before .before .before .before .before .pre in
+    let record-at = c .before .before .record-at in
+    let shape-of = c .before .shape-of in
+    (pre .0, faces-read _ _ _ _ _ _ _ (pre .0) _ _ _ (record-at .ensures) (shape-of .ensures) (c .face-count .ensures .0))
 
 returns-3 : tie.Need-returns-3
-returns-3 c = goes-read _ _ _ _ _ _ _ (c .before .before .before .before .before .before .before .before .before .before .pre .0) _ (c .before .before .before .before .before .before .before .before .before .before .pre .1) (sym (c .before .before .before .before .before .before .holds .ensures) ∙ c .before .before .before .before .before .if1 .left) (c .before .before .before .before .if2 .left) _ (faces-read _ _ _ _ _ _ _ (c .before .before .before .before .before .before .before .before .before .before .pre .0) _ _ _ (c .before .before .before .record-at .ensures) (c .before .before .shape-of .ensures) (c .before .face-count .ensures .0)) _ (c .beside-before .ensures)
+returns-3 c =
+    let pre = c .before .before .before .before .before .before .before .before .before .before .pre in
+    let holds = c .before .before .before .before .before .before .holds in
+    let if1 = c .before .before .before .before .before .if1 in
+    let if2 = c .before .before .before .before .if2 in
+    let record-at = c .before .before .before .record-at in
+    let shape-of = c .before .before .shape-of in
+    let face-count = c .before .face-count in
+    goes-read _ _ _ _ _ _ _ (pre .0) _ (pre .1) (sym (holds .ensures) ∙ if1 .left) (if2 .left) _ (faces-read _ _ _ _ _ _ _ (pre .0) _ _ _ (record-at .ensures) (shape-of .ensures) (face-count .ensures .0)) _ (c .beside-before .ensures)
 
 pub goes-spec : {M : Type 1} → statement M
 goes-spec =

@@ -22,7 +22,11 @@ sender-requires : tie.Need-sender-requires
 sender-requires c κs = tree-of _ _ _ _ (c .before .before .before .before .pre) _ (sym (c .before .holds .ensures) ∙ not-false _ (c .if1 .left))
 
 returns-2 : tie.Need-returns-2
-returns-2 c = before-read _ _ _ _ (c .before .before .before .before .before .pre) _ (sym (c .before .before .holds .ensures) ∙ not-false _ (c .before .if1 .left)) _ (c .sender .ensures .0)
+returns-2 c =
+    let pre = c .before .before .before .before .before .pre in
+    let holds = c .before .before .holds in
+    let if1 = c .before .if1 in
+    before-read _ _ _ _ pre _ (sym (holds .ensures) ∙ not-false _ (if1 .left)) _ (c .sender .ensures .0)
 
 pub sent-before-spec : {M : Type 1} → statement M
 sent-before-spec =

@@ -34,7 +34,12 @@ entry-ok-requires : tie.Need-entry-ok-requires Inv-loop μ-loop
 entry-ok-requires c κs = search needs
 
 returns : tie.Need-returns Inv-loop μ-loop
-returns c = sym (all-fails _ _ _ (c .before .before .before .before .loop-test .taken) (sym (entry-turn _ _ _ _ _ _ (c .before .before .before .entry .ensures) (c .before .before .entry2 .ensures) (c .before .entry-ok .ensures)) ∙ not-true _ (c .if1 .taken)))
+returns c =
+    let loop-test = c .before .before .before .before .loop-test in
+    let entry = c .before .before .before .entry in
+    let entry2 = c .before .before .entry2 in
+    let entry-ok = c .before .entry-ok in
+    sym (all-fails _ _ _ (loop-test .taken) (sym (entry-turn _ _ _ _ _ _ (entry .ensures) (entry2 .ensures) (entry-ok .ensures)) ∙ not-true _ (c .if1 .taken)))
 
 add-p : tie.Need-add-p Inv-loop μ-loop
 add-p c = search needs
@@ -43,7 +48,12 @@ loop-less : tie.Need-loop-less Inv-loop μ-loop
 loop-less c = search needs
 
 loop-again : tie.Need-loop-again Inv-loop μ-loop
-loop-again c = (omega arith, all-more _ _ (c .before .before .before .before .before .loop .inv .1) (sym (entry-turn _ _ _ _ _ _ (c .before .before .before .entry .ensures) (c .before .before .entry2 .ensures) (c .before .entry-ok .ensures)) ∙ not-false _ (c .if1 .left)))
+loop-again c =
+    let loop = c .before .before .before .before .before .loop in
+    let entry = c .before .before .before .entry in
+    let entry2 = c .before .before .entry2 in
+    let entry-ok = c .before .entry-ok in
+    (omega arith, all-more _ _ (loop .inv .1) (sym (entry-turn _ _ _ _ _ _ (entry .ensures) (entry2 .ensures) (entry-ok .ensures)) ∙ not-false _ (c .if1 .left)))
 
 returns-2 : tie.Need-returns-2 Inv-loop μ-loop
 returns-2 c = sym (all-to _ _ _ (c .before .loop .inv .0) (omega arith) (c .before .loop .inv .1))

@@ -24,7 +24,13 @@ magnitude-requires-2 c κs = search needs
 
 returns-2 : tie.Need-returns-2
 unfolding entryOk
-returns-2 c = simp (← c .before .before .before .before .before .magnitude .ensures, ← c .before .before .before .negative .ensures, ← c .before .first-of .ensures, ← c .magnitude2 .ensures, le-leb _ _ (c .before .before .before .before .if1 .left), c .before .before .if2 .taken)
+returns-2 c =
+    let magnitude = c .before .before .before .before .before .magnitude in
+    let negative = c .before .before .before .negative in
+    let first-of = c .before .first-of in
+    let if1 = c .before .before .before .before .if1 in
+    let if2 = c .before .before .if2 in
+    simp (← magnitude .ensures, ← negative .ensures, ← first-of .ensures, ← c .magnitude2 .ensures, le-leb _ _ (if1 .left), if2 .taken)
 
 first-of-requires-2 : tie.Need-first-of-requires-2
 first-of-requires-2 c κs = search needs
@@ -34,7 +40,13 @@ magnitude-requires-3 c κs = search needs
 
 returns-3 : tie.Need-returns-3
 unfolding entryOk
-returns-3 c = simp (← c .before .before .before .before .before .magnitude .ensures, ← c .before .before .before .negative .ensures, ← c .before .first-of2 .ensures, ← c .magnitude3 .ensures, le-leb _ _ (c .before .before .before .before .if1 .left), c .before .before .if2 .left)
+returns-3 c =
+    let magnitude = c .before .before .before .before .before .magnitude in
+    let negative = c .before .before .before .negative in
+    let first-of2 = c .before .first-of2 in
+    let if1 = c .before .before .before .before .if1 in
+    let if2 = c .before .before .if2 in
+    simp (← magnitude .ensures, ← negative .ensures, ← first-of2 .ensures, ← c .magnitude3 .ensures, le-leb _ _ (if1 .left), if2 .left)
 
 pub entry-ok-spec : {M : Type 1} → statement M
 entry-ok-spec =

@@ -24,13 +24,24 @@ tree-count-ok-requires : tie.Need-tree-count-ok-requires
 tree-count-ok-requires c κs = search needs
 
 returns-2 : tie.Need-returns-2
-returns-2 c = let k = trees-read _ _ _ (c .before .before .before .before .before .ranks .ensures .0) (c .before .before .before .before .entry .ensures) in sym (not-in-limits _ (ap treeCountOk (sym k) ∙ (sym (c .before .tree-count-ok .ensures) ∙ not-true _ (c .if2 .taken))))
+returns-2 c =
+    let ranks = c .before .before .before .before .before .ranks in
+    let entry = c .before .before .before .before .entry in
+    let tree-count-ok = c .before .tree-count-ok in
+    let k = trees-read _ _ _ (ranks .ensures .0) (entry .ensures) in sym (not-in-limits _ (ap treeCountOk (sym k) ∙ (sym (tree-count-ok .ensures) ∙ not-true _ (c .if2 .taken))))
 
 entries-ok-requires : tie.Need-entries-ok-requires
 entries-ok-requires c κs = search needs
 
 returns-3 : tie.Need-returns-3
-returns-3 c = let k = trees-read _ _ _ (c .before .before .before .before .before .before .ranks .ensures .0) (c .before .before .before .before .before .entry .ensures) in entries-decide _ _ _ _ (c .before .before .before .before .before .before .ranks .ensures .0) k (sym (c .before .before .before .before .entry2 .ensures) ∙ c .before .before .before .if1 .left) (sym (c .before .before .tree-count-ok .ensures) ∙ not-false _ (c .before .if2 .left)) (c .entries-ok .ensures)
+returns-3 c =
+    let ranks = c .before .before .before .before .before .before .ranks in
+    let entry = c .before .before .before .before .before .entry in
+    let entry2 = c .before .before .before .before .entry2 in
+    let if1 = c .before .before .before .if1 in
+    let tree-count-ok = c .before .before .tree-count-ok in
+    let if2 = c .before .if2 in
+    let k = trees-read _ _ _ (ranks .ensures .0) (entry .ensures) in entries-decide _ _ _ _ (ranks .ensures .0) k (sym (entry2 .ensures) ∙ if1 .left) (sym (tree-count-ok .ensures) ∙ not-false _ (if2 .left)) (c .entries-ok .ensures)
 
 pub valid-spec : {M : Type 1} → statement M
 valid-spec =

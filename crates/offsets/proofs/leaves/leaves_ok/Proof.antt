@@ -40,7 +40,11 @@ count-ok-requires c κs = search needs
 
 returns-2 : tie.Need-returns-2 Inv-loop μ-loop
 unfolding leavesOk
-returns-2 c = rw (all-fails _ _ (c .before .before .before .before .loop .i) (c .before .before .before .loop-test .taken) (sym (c .before .count-ok .ensures) ∙ not-true _ (c .if2 .taken)), and-false)
+returns-2 c =
+    let loop = c .before .before .before .before .loop in
+    let loop-test = c .before .before .before .loop-test in
+    let count-ok = c .before .count-ok in
+    rw (all-fails _ _ (loop .i) (loop-test .taken) (sym (count-ok .ensures) ∙ not-true _ (c .if2 .taken)), and-false)
 
 add-i : tie.Need-add-i Inv-loop μ-loop
 add-i c = search needs
@@ -53,7 +57,11 @@ loop-again c = (omega arith, all-more _ _ (c .before .before .before .before .lo
 
 returns-3 : tie.Need-returns-3 Inv-loop μ-loop
 unfolding leavesOk
-returns-3 c = rw (sym (c .before .before .before .tree-count-ok .ensures) ∙ not-false _ (c .before .before .if1 .left), all-to _ _ (c .before .loop .i) (c .before .loop .inv .0) (c .loop-test .left) (c .before .loop .inv .1))
+returns-3 c =
+    let tree-count-ok = c .before .before .before .tree-count-ok in
+    let if1 = c .before .before .if1 in
+    let loop = c .before .loop in
+    rw (sym (tree-count-ok .ensures) ∙ not-false _ (if1 .left), all-to _ _ (loop .i) (loop .inv .0) (c .loop-test .left) (loop .inv .1))
 
 pub leaves-ok-spec : {M : Type 1} → statement M
 leaves-ok-spec =

@@ -27,7 +27,11 @@ wide-requires : tie.Need-wide-requires Inv-loop μ-loop
 wide-requires c κs = search needs
 
 add-n : tie.Need-add-n Inv-loop μ-loop
-add-n c = omega (arith, start-more (c .before .before .before .before .before .args .leaves .now) (c .before .before .before .loop .i), start-bound (c .before .before .before .before .before .args .leaves .now) (c .before .before .before .before .before .pre) (c .before .before .before .loop .i + 1) (omega arith))
+add-n c =
+    let args = c .before .before .before .before .before .args in
+    let loop = c .before .before .before .loop in
+    let pre = c .before .before .before .before .before .pre in
+    omega (arith, start-more (args .leaves .now) (loop .i), start-bound (args .leaves .now) pre (loop .i + 1) (omega arith))
 
 add-i : tie.Need-add-i Inv-loop μ-loop
 add-i c = search needs
@@ -39,8 +43,11 @@ loop-again : tie.Need-loop-again Inv-loop μ-loop
 loop-again c = omega (arith, start-more (c .before .before .before .before .before .args .leaves .now) (c .before .before .before .loop .i))
 
 returns : tie.Need-returns Inv-loop μ-loop
-returns c = let e : c .before .loop .i ≡ length (c .before .before .before .args .leaves .now) = omega arith in
-    (c .before .loop .inv .1 ∙ rw e (start-total _), omega (arith, start-bound (c .before .before .before .args .leaves .now) (c .before .before .before .pre) (c .before .loop .i) (c .before .loop .inv .0)))
+returns c =
+    let loop = c .before .loop in
+    let args = c .before .before .before .args in
+    let pre = c .before .before .before .pre in
+    let e : loop .i ≡ length (args .leaves .now) = omega arith in (loop .inv .1 ∙ rw e (start-total _), omega (arith, start-bound (args .leaves .now) pre (loop .i) (loop .inv .0)))
 
 pub total-spec : {M : Type 1} → statement M
 total-spec =

@@ -30,7 +30,12 @@ cut-requires-2 : tie.Need-cut-requires-2 Inv-loop μ-loop
 cut-requires-2 c κs = omega (arith, ranks-within _ (c .before .before .before .before .before .before .pre .0))
 
 advance-requires : tie.Need-advance-requires Inv-loop μ-loop
-advance-requires c κs = writing-walk (shares-cuts _ _ (c .before .before .before .before .before .before .before .pre .0) (c .before .before .before .before .before .before .before .pre .1 .0)) (c .before .before .before .before .before .before .before .pre .1 .1) (c .before .before .before .loop .inv) (share-is _ _ _ (c .before .before .before .before .total .ensures .0) (c .before .cut .ensures .0))
+advance-requires c κs =
+    let pre = c .before .before .before .before .before .before .before .pre in
+    let loop = c .before .before .before .loop in
+    let total = c .before .before .before .before .total in
+    let cut = c .before .cut in
+    writing-walk (shares-cuts _ _ (pre .0) (pre .1 .0)) (pre .1 .1) (loop .inv) (share-is _ _ _ (total .ensures .0) (cut .ensures .0))
 
 entry-of-requires : tie.Need-entry-of-requires Inv-loop μ-loop
 entry-of-requires c κs = begins-later _ _ (c .advance .ensures .1)
@@ -48,7 +53,17 @@ loop-less : tie.Need-loop-less Inv-loop μ-loop
 loop-less c = search needs
 
 loop-again : tie.Need-loop-again Inv-loop μ-loop
-loop-again c = writing-more (shares-cuts _ _ (c .before .before .before .before .before .before .before .before .before .before .before .before .before .pre .0) (c .before .before .before .before .before .before .before .before .before .before .before .before .before .pre .1 .0)) (c .before .before .before .before .before .before .before .before .before .before .before .before .before .pre .1 .1) (c .before .before .before .before .before .before .before .before .before .loop .inv) (c .before .before .before .before .before .before .before .before .loop-test .taken) (share-is _ _ _ (c .before .before .before .before .before .before .before .before .before .before .total .ensures .0) (c .before .before .before .before .before .before .before .cut .ensures .0)) (share-is _ _ _ (c .before .before .before .before .before .before .before .before .before .before .total .ensures .0) (c .before .before .before .before .before .before .cut2 .ensures .0)) (c .before .before .before .before .before .advance .ensures .0) (c .before .before .before .before .before .advance .ensures .1) (c .before .before .before .before .entry-of .ensures) (c .before .before .write-u64 .ensures)
+loop-again c =
+    let pre = c .before .before .before .before .before .before .before .before .before .before .before .before .before .pre in
+    let loop = c .before .before .before .before .before .before .before .before .before .loop in
+    let loop-test = c .before .before .before .before .before .before .before .before .loop-test in
+    let total = c .before .before .before .before .before .before .before .before .before .before .total in
+    let cut = c .before .before .before .before .before .before .before .cut in
+    let cut2 = c .before .before .before .before .before .before .cut2 in
+    let advance = c .before .before .before .before .before .advance in
+    let entry-of = c .before .before .before .before .entry-of in
+    let write-u64 = c .before .before .write-u64 in
+    writing-more (shares-cuts _ _ (pre .0) (pre .1 .0)) (pre .1 .1) (loop .inv) (loop-test .taken) (share-is _ _ _ (total .ensures .0) (cut .ensures .0)) (share-is _ _ _ (total .ensures .0) (cut2 .ensures .0)) (advance .ensures .0) (advance .ensures .1) (entry-of .ensures) (write-u64 .ensures)
 
 mul-write-u64-2 : tie.Need-mul-write-u64-2 Inv-loop μ-loop
 mul-write-u64-2 c = search needs
@@ -61,7 +76,12 @@ same-length c = search needs
 
 returns : tie.Need-returns Inv-loop μ-loop
 unfolding leafTable
-returns c = writing-done (shares-cuts _ _ (c .before .before .before .before .before .before .before .before .before .pre .0) (c .before .before .before .before .before .before .before .before .before .pre .1 .0)) (c .before .before .before .before .before .before .before .before .before .pre .1 .1) (c .before .before .before .before .before .loop .inv) (c .before .before .before .before .loop-test .left) refl (c .before .before .write-u642 .ensures)
+returns c =
+    let pre = c .before .before .before .before .before .before .before .before .before .pre in
+    let loop = c .before .before .before .before .before .loop in
+    let loop-test = c .before .before .before .before .loop-test in
+    let write-u642 = c .before .before .write-u642 in
+    writing-done (shares-cuts _ _ (pre .0) (pre .1 .0)) (pre .1 .1) (loop .inv) (loop-test .left) refl (write-u642 .ensures)
 
 pub write-spec : {M : Type 1} → statement M
 write-spec =

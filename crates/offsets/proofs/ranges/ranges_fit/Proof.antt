@@ -38,7 +38,10 @@ range-fits-requires : tie.Need-range-fits-requires Inv-loop μ-loop
 range-fits-requires c κs = search needs
 
 returns : tie.Need-returns Inv-loop μ-loop
-returns c = follow-stop _ _ _ _ _ _ (omega arith) (c .before .before .before .before .before .loop .inv .1 .0) (c .before .range-fits .ensures) (not-true _ (c .if1 .taken))
+returns c =
+    let loop = c .before .before .before .before .before .loop in
+    let range-fits = c .before .range-fits in
+    follow-stop _ _ _ _ _ _ (omega arith) (loop .inv .1 .0) (range-fits .ensures) (not-true _ (c .if1 .taken))
 
 next-end-requires : tie.Need-next-end-requires Inv-loop μ-loop
 next-end-requires c κs = search needs
@@ -51,8 +54,10 @@ loop-less c = search needs
 
 loop-again : tie.Need-loop-again Inv-loop μ-loop
 loop-again c =
-    let i = c .before .before .before .before .before .before .loop .inv in
-    (omega arith, (end-turn _ _ _ _ _ (i .1 .0) (c .next-end .ensures), follow-turn _ _ _ _ _ (i .1 .0) (c .before .before .range-fits .ensures) (not-false _ (c .before .if1 .left)) (i .1 .1)))
+    let loop = c .before .before .before .before .before .before .loop in
+    let range-fits = c .before .before .range-fits in
+    let if1 = c .before .if1 in
+    let i = loop .inv in (omega arith, (end-turn _ _ _ _ _ (i .1 .0) (c .next-end .ensures), follow-turn _ _ _ _ _ (i .1 .0) (range-fits .ensures) (not-false _ (if1 .left)) (i .1 .1)))
 
 tree-count-ok-requires : tie.Need-tree-count-ok-requires Inv-loop μ-loop
 tree-count-ok-requires c κs = search needs

@@ -53,8 +53,10 @@ loop-less c = search needs
 
 loop-again : tie.Need-loop-again Inv-loop μ-loop
 loop-again c =
-    let i = c .before .before .before .before .before .before .before .before .before .loop .inv in
-    (omega arith, (end-turn _ _ _ _ _ (i .1 .0) (c .next-end .ensures), (write-turn _ _ _ _ _ _ _ _ (i .1 .0) (c .before .before .before .before .entry-of .ensures) (i .1 .1 .0) (c .before .before .before .write-u64 .ensures) (omega arith), search needs)))
+    let loop = c .before .before .before .before .before .before .before .before .before .loop in
+    let entry-of = c .before .before .before .before .entry-of in
+    let write-u64 = c .before .before .before .write-u64 in
+    let i = loop .inv in (omega arith, (end-turn _ _ _ _ _ (i .1 .0) (c .next-end .ensures), (write-turn _ _ _ _ _ _ _ _ (i .1 .0) (entry-of .ensures) (i .1 .1 .0) (write-u64 .ensures) (omega arith), search needs)))
 
 mul-write-u64-2 : tie.Need-mul-write-u64-2 Inv-loop μ-loop
 mul-write-u64-2 c = search needs
@@ -67,8 +69,9 @@ same-length c = search needs
 
 returns : tie.Need-returns Inv-loop μ-loop
 returns c =
-    let i = c .before .before .before .before .before .loop .inv in
-    write-done _ _ _ _ _ _ _ _ (i .0) (omega arith) (i .1 .0) (i .1 .1 .0) (c .before .before .write-u642 .ensures) (omega arith)
+    let loop = c .before .before .before .before .before .loop in
+    let write-u642 = c .before .before .write-u642 in
+    let i = loop .inv in write-done _ _ _ _ _ _ _ _ (i .0) (omega arith) (i .1 .0) (i .1 .1 .0) (write-u642 .ensures) (omega arith)
 
 pub write-spec : {M : Type 1} → statement M
 write-spec =

@@ -39,13 +39,21 @@ loop-less : tie.Need-loop-less Inv-loop μ-loop
 loop-less c = search needs
 
 loop-again : tie.Need-loop-again Inv-loop μ-loop
-loop-again c = between-above _ _ _ _ (c .before .before .before .before .before .pre) (c .before .before .before .loop .inv) (omega arith) (omega arith) (c .before .read-u32 .ensures) (c .if1 .taken)
+loop-again c =
+    let pre = c .before .before .before .before .before .pre in
+    let loop = c .before .before .before .loop in
+    let read-u32 = c .before .read-u32 in
+    between-above _ _ _ _ pre (loop .inv) (omega arith) (omega arith) (read-u32 .ensures) (c .if1 .taken)
 
 loop-less-2 : tie.Need-loop-less-2 Inv-loop μ-loop
 loop-less-2 c = search needs
 
 loop-again-2 : tie.Need-loop-again-2 Inv-loop μ-loop
-loop-again-2 c = between-below _ _ _ _ (c .before .before .before .before .before .pre) (c .before .before .before .loop .inv) (omega arith) (omega arith) (c .before .read-u32 .ensures) (c .if1 .left)
+loop-again-2 c =
+    let pre = c .before .before .before .before .before .pre in
+    let loop = c .before .before .before .loop in
+    let read-u32 = c .before .read-u32 in
+    between-below _ _ _ _ pre (loop .inv) (omega arith) (omega arith) (read-u32 .ensures) (c .if1 .left)
 
 returns : tie.Need-returns Inv-loop μ-loop
 returns c = between-end _ _ _ _ (c .before .before .before .pre) (c .before .loop .inv) (c .loop-test .left)

@@ -25,7 +25,12 @@ ghost-index-requires : tie.Need-ghost-index-requires
 ghost-index-requires c κs = search needs
 
 returns-3 : tie.Need-returns-3
-returns-3 c = read-ghost _ _ _ _ _ _ (c .before .before .before .before .if1 .left) (c .before .before .before .in-range .ensures) (c .before .before .if2 .left) (c .before .find-ghost .ensures .0) (c .ghost-index .ensures)
+returns-3 c =
+    let if1 = c .before .before .before .before .if1 in
+    let in-range = c .before .before .before .in-range in
+    let if2 = c .before .before .if2 in
+    let find-ghost = c .before .find-ghost in
+    read-ghost _ _ _ _ _ _ (if1 .left) (in-range .ensures) (if2 .left) (find-ghost .ensures .0) (c .ghost-index .ensures)
 
 pub local-index-spec : {M : Type 1} → statement M
 local-index-spec =

@@ -41,7 +41,13 @@ rename-row-requires-6 c κs = search needs
 
 returns : tie.Need-returns
 unfolding rowsWith
-returns c = rw (c .before .before .before .before .before .before .before .before .before .before .rename-row .ensures, c .before .before .before .before .before .before .before .before .rename-row2 .ensures, c .before .before .before .before .before .before .rename-row3 .ensures, c .before .before .before .before .rename-row4 .ensures, c .before .before .rename-row5 .ensures, c .rename-row6 .ensures)
+returns c =
+    let rename-row = c .before .before .before .before .before .before .before .before .before .before .rename-row in
+    let rename-row2 = c .before .before .before .before .before .before .before .before .rename-row2 in
+    let rename-row3 = c .before .before .before .before .before .before .rename-row3 in
+    let rename-row4 = c .before .before .before .before .rename-row4 in
+    let rename-row5 = c .before .before .rename-row5 in
+    rw (rename-row .ensures, rename-row2 .ensures, rename-row3 .ensures, rename-row4 .ensures, rename-row5 .ensures, c .rename-row6 .ensures)
 
 pub rename-rows-spec : {M : Type 1} → statement M
 rename-rows-spec =

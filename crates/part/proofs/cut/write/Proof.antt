@@ -13,7 +13,11 @@ write-ghosts-requires : tie.Need-write-ghosts-requires
 write-ghosts-requires c κs = search needs
 
 write-trees-requires : tie.Need-write-trees-requires
-write-trees-requires c κs = trees-room _ _ _ _ _ _ _ (c .before .before .before .before .before .before .before .before .before .pre) (c .before .before .before .before .before .faces-in .ensures .1 .0) (c .before .before .before .write-ghosts .ensures)
+write-trees-requires c κs =
+    let pre = c .before .before .before .before .before .before .before .before .before .pre in
+    let faces-in = c .before .before .before .before .before .faces-in in
+    let write-ghosts = c .before .before .before .write-ghosts in
+    trees-room _ _ _ _ _ _ _ pre (faces-in .ensures .1 .0) (write-ghosts .ensures)
 
 sub-write-header : tie.Need-sub-write-header
 sub-write-header c = search needs
@@ -25,7 +29,14 @@ same-length : tie.Need-same-length
 same-length c = search needs
 
 returns : tie.Need-returns
-returns c = part-written _ _ _ _ _ _ _ (c .before .before .before .before .before .before .before .before .before .before .before .before .before .before .before .before .pre) _ _ (c .before .before .before .before .before .before .before .before .before .before .before .before .before .dimension .ensures) (c .before .before .before .before .before .before .before .before .before .before .before .before .faces-in .ensures .0) (c .before .before .before .before .before .before .before .before .before .before .write-ghosts .ensures) (c .before .before .before .before .before .before .write-trees .ensures) (c .before .before .write-header .ensures)
+returns c =
+    let pre = c .before .before .before .before .before .before .before .before .before .before .before .before .before .before .before .before .pre in
+    let dimension = c .before .before .before .before .before .before .before .before .before .before .before .before .before .dimension in
+    let faces-in = c .before .before .before .before .before .before .before .before .before .before .before .before .faces-in in
+    let write-ghosts = c .before .before .before .before .before .before .before .before .before .before .write-ghosts in
+    let write-trees = c .before .before .before .before .before .before .write-trees in
+    let write-header = c .before .before .write-header in
+    part-written _ _ _ _ _ _ _ pre _ _ (dimension .ensures) (faces-in .ensures .0) (write-ghosts .ensures) (write-trees .ensures) (write-header .ensures)
 
 pub write-spec : {M : Type 1} → statement M
 write-spec =

@@ -24,28 +24,57 @@ add-k : tie.Need-add-k Inv-loop μ-loop
 add-k c = search needs
 
 copy40-requires : tie.Need-copy40-requires Inv-loop μ-loop
-copy40-requires c κs = (omega (arith, c .before .before .tree-at .ensures), ghosts-room _ _ _ _ (c .before .before .before .before .before .before .before .before .pre .0) _ _ (c .before .before .before .before .before .before .before .before .pre .1) (c .before .before .before .before .before .loop .inv) (c .before .before .before .before .loop-test .taken) (c .before .before .before .is-ghost .ensures) (c .before .if1 .taken))
+copy40-requires c κs =
+    let tree-at = c .before .before .tree-at in
+    let pre = c .before .before .before .before .before .before .before .before .pre in
+    let loop = c .before .before .before .before .before .loop in
+    let loop-test = c .before .before .before .before .loop-test in
+    let is-ghost = c .before .before .before .is-ghost in
+    let if1 = c .before .if1 in
+    (omega (arith, tree-at .ensures), ghosts-room _ _ _ _ (pre .0) _ _ (pre .1) (loop .inv) (loop-test .taken) (is-ghost .ensures) (if1 .taken))
 
 add-to : tie.Need-add-to Inv-loop μ-loop
-add-to c = omega (arith, ghosts-room _ _ _ _ (c .before .before .before .before .before .before .before .before .before .before .before .pre .0) _ _ (c .before .before .before .before .before .before .before .before .before .before .before .pre .1) (c .before .before .before .before .before .before .before .before .loop .inv) (c .before .before .before .before .before .before .before .loop-test .taken) (c .before .before .before .before .before .before .is-ghost .ensures) (c .before .before .before .before .if1 .taken))
+add-to c =
+    let pre = c .before .before .before .before .before .before .before .before .before .before .before .pre in
+    let loop = c .before .before .before .before .before .before .before .before .loop in
+    let loop-test = c .before .before .before .before .before .before .before .loop-test in
+    let is-ghost = c .before .before .before .before .before .before .is-ghost in
+    let if1 = c .before .before .before .before .if1 in
+    omega (arith, ghosts-room _ _ _ _ (pre .0) _ _ (pre .1) (loop .inv) (loop-test .taken) (is-ghost .ensures) (if1 .taken))
 
 loop-less : tie.Need-loop-less Inv-loop μ-loop
 loop-less c = search needs
 
 loop-again : tie.Need-loop-again Inv-loop μ-loop
-loop-again c = ghosts-write _ _ _ _ (c .before .before .before .before .before .before .before .before .before .before .before .pre .0) _ _ (c .before .before .before .before .before .before .before .before .before .before .before .pre .1) (c .before .before .before .before .before .before .before .before .loop .inv) (c .before .before .before .before .before .before .before .loop-test .taken) (c .before .before .before .before .before .before .is-ghost .ensures) (c .before .before .before .before .if1 .taken) (c .before .before .before .before .before .tree-at .ensures) (c .before .before .copy40 .ensures)
+loop-again c =
+    let pre = c .before .before .before .before .before .before .before .before .before .before .before .pre in
+    let loop = c .before .before .before .before .before .before .before .before .loop in
+    let loop-test = c .before .before .before .before .before .before .before .loop-test in
+    let is-ghost = c .before .before .before .before .before .before .is-ghost in
+    let if1 = c .before .before .before .before .if1 in
+    let tree-at = c .before .before .before .before .before .tree-at in
+    let copy40 = c .before .before .copy40 in
+    ghosts-write _ _ _ _ (pre .0) _ _ (pre .1) (loop .inv) (loop-test .taken) (is-ghost .ensures) (if1 .taken) (tree-at .ensures) (copy40 .ensures)
 
 loop-less-2 : tie.Need-loop-less-2 Inv-loop μ-loop
 loop-less-2 c = search needs
 
 loop-again-2 : tie.Need-loop-again-2 Inv-loop μ-loop
-loop-again-2 c = ghosts-skip _ _ _ _ (c .before .before .before .before .before .before .before .pre .0) _ _ (c .before .before .before .before .before .before .before .pre .1) (c .before .before .before .before .loop .inv) (c .before .before .before .loop-test .taken) (c .before .before .is-ghost .ensures) (c .if1 .left)
+loop-again-2 c =
+    let pre = c .before .before .before .before .before .before .before .pre in
+    let loop = c .before .before .before .before .loop in
+    let loop-test = c .before .before .before .loop-test in
+    let is-ghost = c .before .before .is-ghost in
+    ghosts-skip _ _ _ _ (pre .0) _ _ (pre .1) (loop .inv) (loop-test .taken) (is-ghost .ensures) (c .if1 .left)
 
 same-length : tie.Need-same-length Inv-loop μ-loop
 same-length c = c .before .loop .inv .same-length
 
 returns : tie.Need-returns Inv-loop μ-loop
-returns c = ghosts-end _ _ _ _ (c .before .before .before .before .pre .0) _ _ (c .before .before .before .before .pre .1) (c .before .loop .inv) (c .loop-test .left)
+returns c =
+    let pre = c .before .before .before .before .pre in
+    let loop = c .before .loop in
+    ghosts-end _ _ _ _ (pre .0) _ _ (pre .1) (loop .inv) (c .loop-test .left)
 
 pub write-ghosts-spec : {M : Type 1} → statement M
 write-ghosts-spec =

@@ -31,7 +31,17 @@ same-length : tie.Need-same-length
 same-length c = search needs
 
 returns : tie.Need-returns
-returns c = header-written _ _ _ _ _ _ _ _ (c .before .before .before .before .before .before .before .before .before .before .before .before .before .before .before .before .before .before .before .before .before .before .before .before .before .before .before .before .before .before .before .before .before .pre) (c .before .before .before .before .before .before .before .before .before .before .before .before .before .before .before .before .before .before .before .before .before .before .before .before .before .before .before .before .before .before .write-u32 .ensures) (c .before .before .before .before .before .before .before .before .before .before .before .before .before .before .before .before .before .before .before .before .before .before .before .before .before .before .write-u322 .ensures) (c .before .before .before .before .before .before .before .before .before .before .before .before .before .before .before .before .before .before .before .before .before .before .write-u323 .ensures) (c .before .before .before .before .before .before .before .before .before .before .before .before .before .before .before .before .before .before .write-u324 .ensures) (c .before .before .before .before .before .before .before .before .before .before .before .before .before .before .write-u325 .ensures) (c .before .before .before .before .before .before .before .before .before .before .write-u326 .ensures) (c .before .before .before .before .before .before .write-u327 .ensures) (c .before .before .write-u328 .ensures)
+returns c =
+    let pre = c .before .before .before .before .before .before .before .before .before .before .before .before .before .before .before .before .before .before .before .before .before .before .before .before .before .before .before .before .before .before .before .before .before .pre in
+    let write-u32 = c .before .before .before .before .before .before .before .before .before .before .before .before .before .before .before .before .before .before .before .before .before .before .before .before .before .before .before .before .before .before .write-u32 in
+    let write-u322 = c .before .before .before .before .before .before .before .before .before .before .before .before .before .before .before .before .before .before .before .before .before .before .before .before .before .before .write-u322 in
+    let write-u323 = c .before .before .before .before .before .before .before .before .before .before .before .before .before .before .before .before .before .before .before .before .before .before .write-u323 in
+    let write-u324 = c .before .before .before .before .before .before .before .before .before .before .before .before .before .before .before .before .before .before .write-u324 in
+    let write-u325 = c .before .before .before .before .before .before .before .before .before .before .before .before .before .before .write-u325 in
+    let write-u326 = c .before .before .before .before .before .before .before .before .before .before .write-u326 in
+    let write-u327 = c .before .before .before .before .before .before .write-u327 in
+    let write-u328 = c .before .before .write-u328 in
+    header-written _ _ _ _ _ _ _ _ pre (write-u32 .ensures) (write-u322 .ensures) (write-u323 .ensures) (write-u324 .ensures) (write-u325 .ensures) (write-u326 .ensures) (write-u327 .ensures) (write-u328 .ensures)
 
 pub write-header-spec : {M : Type 1} → statement M
 write-header-spec =

@@ -18,10 +18,20 @@ tree-at-requires : tie.Need-tree-at-requires Inv-loop μ-loop
 tree-at-requires c κs = search needs
 
 write-tree-requires : tie.Need-write-tree-requires Inv-loop μ-loop
-write-tree-requires c κs = tree-room _ _ _ _ _ _ _ (c .before .before .before .before .before .before .pre) (c .before .before .before .loop .inv) (c .before .before .loop-test .taken) (c .before .tree-at .ensures)
+write-tree-requires c κs =
+    let pre = c .before .before .before .before .before .before .pre in
+    let loop = c .before .before .before .loop in
+    let loop-test = c .before .before .loop-test in
+    let tree-at = c .before .tree-at in
+    tree-room _ _ _ _ _ _ _ pre (loop .inv) (loop-test .taken) (tree-at .ensures)
 
 add-to : tie.Need-add-to Inv-loop μ-loop
-add-to c = omega (arith, tree-room _ _ _ _ _ _ _ (c .before .before .before .before .before .before .before .before .before .pre) (c .before .before .before .before .before .before .loop .inv) (c .before .before .before .before .before .loop-test .taken) (c .before .before .before .before .tree-at .ensures) .target)
+add-to c =
+    let pre = c .before .before .before .before .before .before .before .before .before .pre in
+    let loop = c .before .before .before .before .before .before .loop in
+    let loop-test = c .before .before .before .before .before .loop-test in
+    let tree-at = c .before .before .before .before .tree-at in
+    omega (arith, tree-room _ _ _ _ _ _ _ pre (loop .inv) (loop-test .taken) (tree-at .ensures) .target)
 
 add-k : tie.Need-add-k Inv-loop μ-loop
 add-k c = search needs
@@ -30,7 +40,13 @@ loop-less : tie.Need-loop-less Inv-loop μ-loop
 loop-less c = search needs
 
 loop-again : tie.Need-loop-again Inv-loop μ-loop
-loop-again c = trees-next _ _ _ _ _ _ _ (c .before .before .before .before .before .before .before .before .before .pre) (c .before .before .before .before .before .before .loop .inv) (c .before .before .before .before .before .loop-test .taken) (c .before .before .before .before .tree-at .ensures) (c .before .before .write-tree .ensures)
+loop-again c =
+    let pre = c .before .before .before .before .before .before .before .before .before .pre in
+    let loop = c .before .before .before .before .before .before .loop in
+    let loop-test = c .before .before .before .before .before .loop-test in
+    let tree-at = c .before .before .before .before .tree-at in
+    let write-tree = c .before .before .write-tree in
+    trees-next _ _ _ _ _ _ _ pre (loop .inv) (loop-test .taken) (tree-at .ensures) (write-tree .ensures)
 
 same-length : tie.Need-same-length Inv-loop μ-loop
 same-length c = c .before .loop .inv .same-length

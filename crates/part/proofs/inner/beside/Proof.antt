@@ -30,7 +30,11 @@ in-range-requires : tie.Need-in-range-requires Inv-loop μ-loop
 in-range-requires c κs = search needs
 
 returns : tie.Need-returns Inv-loop μ-loop
-returns c = sym (any-intro _ _ _ (c .before .before .before .loop-test .taken) (neighbour-read _ _ _ _ (c .before .before .neighbour-of .ensures) (c .before .in-range .ensures) ∙ c .if1 .taken))
+returns c =
+    let loop-test = c .before .before .before .loop-test in
+    let neighbour-of = c .before .before .neighbour-of in
+    let in-range = c .before .in-range in
+    sym (any-intro _ _ _ (loop-test .taken) (neighbour-read _ _ _ _ (neighbour-of .ensures) (in-range .ensures) ∙ c .if1 .taken))
 
 add-face : tie.Need-add-face Inv-loop μ-loop
 add-face c = search needs
@@ -39,7 +43,11 @@ loop-less : tie.Need-loop-less Inv-loop μ-loop
 loop-less c = search needs
 
 loop-again : tie.Need-loop-again Inv-loop μ-loop
-loop-again c = (omega arith, none-next _ _ (c .before .before .before .before .loop .inv .1) (neighbour-read _ _ _ _ (c .before .before .neighbour-of .ensures) (c .before .in-range .ensures) ∙ c .if1 .left))
+loop-again c =
+    let loop = c .before .before .before .before .loop in
+    let neighbour-of = c .before .before .neighbour-of in
+    let in-range = c .before .in-range in
+    (omega arith, none-next _ _ (loop .inv .1) (neighbour-read _ _ _ _ (neighbour-of .ensures) (in-range .ensures) ∙ c .if1 .left))
 
 returns-2 : tie.Need-returns-2 Inv-loop μ-loop
 returns-2 c = none-to _ _ _ (c .before .loop .inv .0) (omega arith) (c .before .loop .inv .1)

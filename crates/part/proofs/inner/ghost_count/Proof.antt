@@ -27,7 +27,10 @@ add-k : tie.Need-add-k Inv-loop μ-loop
 add-k c = search needs
 
 add-count : tie.Need-add-count Inv-loop μ-loop
-add-count c = omega (arith, count-le (c .before .before .before .loop .k) (ghostIn (meshCore (c .before .before .before .before .before .args .mesh .now)) (c .before .before .before .before .before .args .first) (c .before .before .before .before .before .args .end)))
+add-count c =
+    let loop = c .before .before .before .loop in
+    let args = c .before .before .before .before .before .args in
+    omega (arith, count-le (loop .k) (ghostIn (meshCore (args .mesh .now)) (args .first) (args .end)))
 
 loop-less : tie.Need-loop-less Inv-loop μ-loop
 loop-less c = search needs

@@ -22,7 +22,13 @@ beside-requires : tie.Need-beside-requires
 beside-requires c κs = search needs
 
 returns-2 : tie.Need-returns-2
-returns-2 c = ghost-outside _ _ _ _ (c .before .before .before .before .before .in-range .ensures) (c .before .before .before .before .if1 .left) (c .before .before .before .tree-at .ensures) (c .before .before .shape-of .ensures) (c .before .face-count .ensures .0) (c .beside .ensures)
+returns-2 c =
+    let in-range = c .before .before .before .before .before .in-range in
+    let if1 = c .before .before .before .before .if1 in
+    let tree-at = c .before .before .before .tree-at in
+    let shape-of = c .before .before .shape-of in
+    let face-count = c .before .face-count in
+    ghost-outside _ _ _ _ (in-range .ensures) (if1 .left) (tree-at .ensures) (shape-of .ensures) (face-count .ensures .0) (c .beside .ensures)
 
 pub is-ghost-spec : {M : Type 1} → statement M
 is-ghost-spec =

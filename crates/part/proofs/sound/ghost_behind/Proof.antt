@@ -22,7 +22,12 @@ number-of-requires-2 : tie.Need-number-of-requires-2
 number-of-requires-2 c κs = search needs
 
 returns-2 : tie.Need-returns-2
-returns-2 c = behind-read _ _ _ (c .before .ghost-at2 .ensures) (c .number-of2 .ensures) (c .before .before .before .before .if1 .left) (c .before .before .before .ghost-at .ensures) (c .before .before .number-of .ensures)
+returns-2 c =
+    let ghost-at2 = c .before .ghost-at2 in
+    let if1 = c .before .before .before .before .if1 in
+    let ghost-at = c .before .before .before .ghost-at in
+    let number-of = c .before .before .number-of in
+    behind-read _ _ _ (ghost-at2 .ensures) (c .number-of2 .ensures) (if1 .left) (ghost-at .ensures) (number-of .ensures)
 
 pub ghost-behind-spec : {M : Type 1} → statement M
 ghost-behind-spec =

@@ -27,10 +27,23 @@ tree-at-requires : tie.Need-tree-at-requires
 tree-at-requires c κs = search needs
 
 link-ok-requires : tie.Need-link-ok-requires
-link-ok-requires c κs = (omega arith, c .before .before .before .before .before .before .before .before .pre .2, omega (arith, range-last _ _ _ (c .before .before .before .before .in-range .ensures) (c .before .before .before .if1 .taken), c .before .before .to-local .ensures, c .tree-at .ensures))
+link-ok-requires c κs =
+    let pre = c .before .before .before .before .before .before .before .before .pre in
+    let in-range = c .before .before .before .before .in-range in
+    let if1 = c .before .before .before .if1 in
+    let to-local = c .before .before .to-local in
+    (omega arith, pre .2, omega (arith, range-last _ _ _ (in-range .ensures) (if1 .taken), to-local .ensures, c .tree-at .ensures))
 
 returns : tie.Need-returns
-returns c = link-local _ _ _ _ _ _ _ _ (c .before .before .before .before .before .before .before .ghost-at .ensures) (c .before .before .before .before .before .before .neighbour-of .ensures) (c .before .before .before .before .before .in-range .ensures) _ (c .before .before .before .before .if1 .taken) (c .before .before .before .to-local .ensures) (c .before .before .ghost-index .ensures) (c .before .tree-at .ensures) (c .link-ok .ensures)
+returns c =
+    let ghost-at = c .before .before .before .before .before .before .before .ghost-at in
+    let neighbour-of = c .before .before .before .before .before .before .neighbour-of in
+    let in-range = c .before .before .before .before .before .in-range in
+    let if1 = c .before .before .before .before .if1 in
+    let to-local = c .before .before .before .to-local in
+    let ghost-index = c .before .before .ghost-index in
+    let tree-at = c .before .tree-at in
+    link-local _ _ _ _ _ _ _ _ (ghost-at .ensures) (neighbour-of .ensures) (in-range .ensures) _ (if1 .taken) (to-local .ensures) (ghost-index .ensures) (tree-at .ensures) (c .link-ok .ensures)
 
 number-of-requires : tie.Need-number-of-requires
 number-of-requires c κs = search needs
@@ -45,13 +58,29 @@ link-ok-requires-2 : tie.Need-link-ok-requires-2
 link-ok-requires-2 c κs = search needs
 
 returns-2 : tie.Need-returns-2
-returns-2 c = link-held _ _ _ _ _ _ _ _ (c .before .before .before .before .before .before .before .before .ghost-at .ensures) (c .before .before .before .before .before .before .before .neighbour-of .ensures) (c .before .before .before .before .before .before .in-range .ensures) (c .before .before .before .before .before .if1 .left) (c .before .before .before .ghost-near .ensures) (c .before .before .if2 .taken) (c .before .before .before .before .number-of .ensures) (c .before .ghost-at2 .ensures) (c .link-ok2 .ensures)
+returns-2 c =
+    let ghost-at = c .before .before .before .before .before .before .before .before .ghost-at in
+    let neighbour-of = c .before .before .before .before .before .before .before .neighbour-of in
+    let in-range = c .before .before .before .before .before .before .in-range in
+    let if1 = c .before .before .before .before .before .if1 in
+    let ghost-near = c .before .before .before .ghost-near in
+    let if2 = c .before .before .if2 in
+    let number-of = c .before .before .before .before .number-of in
+    let ghost-at2 = c .before .ghost-at2 in
+    link-held _ _ _ _ _ _ _ _ (ghost-at .ensures) (neighbour-of .ensures) (in-range .ensures) (if1 .left) (ghost-near .ensures) (if2 .taken) (number-of .ensures) (ghost-at2 .ensures) (c .link-ok2 .ensures)
 
 orientation-ok-requires : tie.Need-orientation-ok-requires
 orientation-ok-requires c κs = search needs
 
 returns-3 : tie.Need-returns-3
-returns-3 c = link-free _ _ _ _ _ _ _ _ (c .before .before .before .before .before .before .before .ghost-at .ensures) (c .before .before .before .before .before .before .neighbour-of .ensures) (c .before .before .before .before .before .in-range .ensures) (c .before .before .before .before .if1 .left) (c .before .before .ghost-near .ensures) (c .before .if2 .left) (c .orientation-ok .ensures)
+returns-3 c =
+    let ghost-at = c .before .before .before .before .before .before .before .ghost-at in
+    let neighbour-of = c .before .before .before .before .before .before .neighbour-of in
+    let in-range = c .before .before .before .before .before .in-range in
+    let if1 = c .before .before .before .before .if1 in
+    let ghost-near = c .before .before .ghost-near in
+    let if2 = c .before .if2 in
+    link-free _ _ _ _ _ _ _ _ (ghost-at .ensures) (neighbour-of .ensures) (in-range .ensures) (if1 .left) (ghost-near .ensures) (if2 .left) (c .orientation-ok .ensures)
 
 pub ghost-face-spec : {M : Type 1} → statement M
 ghost-face-spec =

@@ -19,7 +19,11 @@ ghost-behind-requires : tie.Need-ghost-behind-requires
 ghost-behind-requires c κs = search needs
 
 returns : tie.Need-returns
-returns c = ghost-numbered-is _ _ _ (c .before .before .before .ghost-at .ensures) (c .before .before .number-of .ensures) _ _ (c .before .in-range .ensures) (c .ghost-behind .ensures)
+returns c =
+    let ghost-at = c .before .before .before .ghost-at in
+    let number-of = c .before .before .number-of in
+    let in-range = c .before .in-range in
+    ghost-numbered-is _ _ _ (ghost-at .ensures) (number-of .ensures) _ _ (in-range .ensures) (c .ghost-behind .ensures)
 
 pub ghost-numbered-spec : {M : Type 1} → statement M
 ghost-numbered-spec =

@@ -31,7 +31,15 @@ ghost-faces-requires : tie.Need-ghost-faces-requires
 ghost-faces-requires c κs = search needs
 
 returns : tie.Need-returns
-returns c = ghost-read _ _ _ (c .before .before .before .before .before .before .before .ghost-at .ensures) (c .before .before .before .before .number-of .ensures) _ _ _ _ (c .before .before .before .before .before .before .shape-of .ensures) (c .before .before .before .before .before .face-count .ensures .0) (c .before .before .before .in-form .ensures) (c .before .before .dimension-of .ensures) (c .before .beside .ensures) (c .ghost-faces .ensures)
+returns c =
+    let ghost-at = c .before .before .before .before .before .before .before .ghost-at in
+    let number-of = c .before .before .before .before .number-of in
+    let shape-of = c .before .before .before .before .before .before .shape-of in
+    let face-count = c .before .before .before .before .before .face-count in
+    let in-form = c .before .before .before .in-form in
+    let dimension-of = c .before .before .dimension-of in
+    let beside = c .before .beside in
+    ghost-read _ _ _ (ghost-at .ensures) (number-of .ensures) _ _ _ _ (shape-of .ensures) (face-count .ensures .0) (in-form .ensures) (dimension-of .ensures) (beside .ensures) (c .ghost-faces .ensures)
 
 pub ghost-sound-spec : {M : Type 1} → statement M
 ghost-sound-spec =

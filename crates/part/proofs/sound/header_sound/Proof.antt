@@ -54,7 +54,12 @@ cast-result-4 : tie.Need-cast-result-4
 cast-result-4 c = search needs
 
 sub-result : tie.Need-sub-result
-sub-result c = omega (arith, first-le-end _ (λ i. c .before .before .before .before .before .before .before .before .before .before .before .before .before .shared-slice-known2 .given i .fits) (c .before .before .before .before .before .before .before .before .before .before .before .before .before .before .before .pre .counted) (c .before .before .before .before .before .before .before .before .before .before .before .before .before .before .before .pre .checked) _ (c .before .before .before .before .before .before .before .before .before .before .before .before .before .before .before .pre .below), c .before .before .before .before .before .before .before .before .before .before .first-tree .ensures, c .before .before .before .before .before .before .before .before .before .end-tree .ensures)
+sub-result c =
+    let shared-slice-known2 = c .before .before .before .before .before .before .before .before .before .before .before .before .before .shared-slice-known2 in
+    let pre = c .before .before .before .before .before .before .before .before .before .before .before .before .before .before .before .pre in
+    let first-tree = c .before .before .before .before .before .before .before .before .before .before .first-tree in
+    let end-tree = c .before .before .before .before .before .before .before .before .before .end-tree in
+    omega (arith, first-le-end _ (λ i. shared-slice-known2 .given i .fits) (pre .counted) (pre .checked) _ (pre .below), first-tree .ensures, end-tree .ensures)
 
 read-u32-requires-3 : tie.Need-read-u32-requires-3
 read-u32-requires-3 c κs = search needs
@@ -66,7 +71,21 @@ ghost-at-requires : tie.Need-ghost-at-requires
 ghost-at-requires c κs = search needs
 
 returns-2 : tie.Need-returns-2
-returns-2 c = head-read _ _ _ (c .before .before .before .before .before .before .before .before .before .before .before .before .before .before .ranks .ensures .0) (c .before .before .before .before .before .before .before .before .before .before .before .before .before .first-tree .ensures) (c .before .before .before .before .before .before .before .before .before .before .before .before .end-tree .ensures) (c .before .before .before .before .before .before .before .before .before .before .before .tree-count .ensures) (c .before .before .before .before .before .before .before .before .before .before .dimension .ensures) (c .before .before .before .before .before .before .before .before .before .dimension-ok .ensures) (c .before .before .before .before .before .before .before .before .trees .ensures) (c .before .before .before .before .before .before .before .entry .ensures) (c .before .before .before .before .before .before .read-u32 .ensures) (c .before .before .before .before .before .read-u322 .ensures) (c .before .before .before .before .first-tree2 .ensures) (c .before .before .read-u323 .ensures) (c .before .ghost-count .ensures) (c .ghost-at .ensures)
+returns-2 c =
+    let ranks = c .before .before .before .before .before .before .before .before .before .before .before .before .before .before .ranks in
+    let first-tree = c .before .before .before .before .before .before .before .before .before .before .before .before .before .first-tree in
+    let end-tree = c .before .before .before .before .before .before .before .before .before .before .before .before .end-tree in
+    let tree-count = c .before .before .before .before .before .before .before .before .before .before .before .tree-count in
+    let dimension = c .before .before .before .before .before .before .before .before .before .before .dimension in
+    let dimension-ok = c .before .before .before .before .before .before .before .before .before .dimension-ok in
+    let trees = c .before .before .before .before .before .before .before .before .trees in
+    let entry = c .before .before .before .before .before .before .before .entry in
+    let read-u32 = c .before .before .before .before .before .before .read-u32 in
+    let read-u322 = c .before .before .before .before .before .read-u322 in
+    let first-tree2 = c .before .before .before .before .first-tree2 in
+    let read-u323 = c .before .before .read-u323 in
+    let ghost-count = c .before .ghost-count in
+    head-read _ _ _ (ranks .ensures .0) (first-tree .ensures) (end-tree .ensures) (tree-count .ensures) (dimension .ensures) (dimension-ok .ensures) (trees .ensures) (entry .ensures) (read-u32 .ensures) (read-u322 .ensures) (first-tree2 .ensures) (read-u323 .ensures) (ghost-count .ensures) (c .ghost-at .ensures)
 
 pub header-sound-spec : {M : Type 1} → statement M
 header-sound-spec =

@@ -12,25 +12,68 @@ returns : tie.Need-returns
 returns c = sound-none _ _ _ (c .before .header-sound .ensures) (not-true _ (c .if1 .taken))
 
 first-tree-requires : tie.Need-first-tree-requires
-first-tree-requires c κs = omega (arith, head-laid _ _ _ (λ i. c .before .before .shared-slice-known2 .given i .fits) (c .before .before .before .before .pre) (c .before .header-sound .ensures) (not-false _ (c .if1 .left)))
+first-tree-requires c κs =
+    let shared-slice-known2 = c .before .before .shared-slice-known2 in
+    let pre = c .before .before .before .before .pre in
+    let header-sound = c .before .header-sound in
+    omega (arith, head-laid _ _ _ (λ i. shared-slice-known2 .given i .fits) pre (header-sound .ensures) (not-false _ (c .if1 .left)))
 
 tree-count-requires : tie.Need-tree-count-requires
-tree-count-requires c κs = omega (arith, head-laid _ _ _ (λ i. c .before .before .before .shared-slice-known2 .given i .fits) (c .before .before .before .before .before .pre) (c .before .before .header-sound .ensures) (not-false _ (c .before .if1 .left)))
+tree-count-requires c κs =
+    let shared-slice-known2 = c .before .before .before .shared-slice-known2 in
+    let pre = c .before .before .before .before .before .pre in
+    let header-sound = c .before .before .header-sound in
+    let if1 = c .before .if1 in
+    omega (arith, head-laid _ _ _ (λ i. shared-slice-known2 .given i .fits) pre (header-sound .ensures) (not-false _ (if1 .left)))
 
 ghost-count-requires : tie.Need-ghost-count-requires
-ghost-count-requires c κs = omega (arith, head-laid _ _ _ (λ i. c .before .before .before .before .shared-slice-known2 .given i .fits) (c .before .before .before .before .before .before .pre) (c .before .before .before .header-sound .ensures) (not-false _ (c .before .before .if1 .left)))
+ghost-count-requires c κs =
+    let shared-slice-known2 = c .before .before .before .before .shared-slice-known2 in
+    let pre = c .before .before .before .before .before .before .pre in
+    let header-sound = c .before .before .before .header-sound in
+    let if1 = c .before .before .if1 in
+    omega (arith, head-laid _ _ _ (λ i. shared-slice-known2 .given i .fits) pre (header-sound .ensures) (not-false _ (if1 .left)))
 
 dimension-requires : tie.Need-dimension-requires
-dimension-requires c κs = omega (arith, head-laid _ _ _ (λ i. c .before .before .before .before .before .shared-slice-known2 .given i .fits) (c .before .before .before .before .before .before .before .pre) (c .before .before .before .before .header-sound .ensures) (not-false _ (c .before .before .before .if1 .left)))
+dimension-requires c κs =
+    let shared-slice-known2 = c .before .before .before .before .before .shared-slice-known2 in
+    let pre = c .before .before .before .before .before .before .before .pre in
+    let header-sound = c .before .before .before .before .header-sound in
+    let if1 = c .before .before .before .if1 in
+    omega (arith, head-laid _ _ _ (λ i. shared-slice-known2 .given i .fits) pre (header-sound .ensures) (not-false _ (if1 .left)))
 
 trees-requires : tie.Need-trees-requires
-trees-requires c κs = omega (arith, head-laid _ _ _ (λ i. c .before .before .before .before .before .before .shared-slice-known2 .given i .fits) (c .before .before .before .before .before .before .before .before .pre) (c .before .before .before .before .before .header-sound .ensures) (not-false _ (c .before .before .before .before .if1 .left)))
+trees-requires c κs =
+    let shared-slice-known2 = c .before .before .before .before .before .before .shared-slice-known2 in
+    let pre = c .before .before .before .before .before .before .before .before .pre in
+    let header-sound = c .before .before .before .before .before .header-sound in
+    let if1 = c .before .before .before .before .if1 in
+    omega (arith, head-laid _ _ _ (λ i. shared-slice-known2 .given i .fits) pre (header-sound .ensures) (not-false _ (if1 .left)))
 
 records-sound-requires : tie.Need-records-sound-requires
-records-sound-requires c κs = laid-read _ _ _ (λ i. c .before .before .before .before .before .before .before .shared-slice-known2 .given i .fits) (c .before .before .before .before .before .before .before .before .before .pre) (c .before .before .before .before .before .before .header-sound .ensures) (not-false _ (c .before .before .before .before .before .if1 .left)) (c .before .before .before .before .first-tree .ensures) (c .before .before .before .tree-count .ensures) (c .before .before .ghost-count .ensures) (c .trees .ensures)
+records-sound-requires c κs =
+    let shared-slice-known2 = c .before .before .before .before .before .before .before .shared-slice-known2 in
+    let pre = c .before .before .before .before .before .before .before .before .before .pre in
+    let header-sound = c .before .before .before .before .before .before .header-sound in
+    let if1 = c .before .before .before .before .before .if1 in
+    let first-tree = c .before .before .before .before .first-tree in
+    let tree-count = c .before .before .before .tree-count in
+    let ghost-count = c .before .before .ghost-count in
+    laid-read _ _ _ (λ i. shared-slice-known2 .given i .fits) pre (header-sound .ensures) (not-false _ (if1 .left)) (first-tree .ensures) (tree-count .ensures) (ghost-count .ensures) (c .trees .ensures)
 
 returns-2 : tie.Need-returns-2
-returns-2 c = sound-read _ _ _ (λ i. c .before .before .before .before .before .before .before .before .shared-slice-known2 .given i .fits) (c .before .before .before .before .before .before .before .before .before .before .pre) (c .before .before .before .before .before .before .before .header-sound .ensures) (not-false _ (c .before .before .before .before .before .before .if1 .left)) (λ i. c .before .before .before .before .before .before .before .before .before .shared-slice-known .given i .fits) (c .before .before .before .before .before .first-tree .ensures) (c .before .before .before .before .tree-count .ensures) (c .before .before .before .ghost-count .ensures) (c .before .before .dimension .ensures) (c .before .trees .ensures) (c .records-sound .ensures)
+returns-2 c =
+    let shared-slice-known2 = c .before .before .before .before .before .before .before .before .shared-slice-known2 in
+    let pre = c .before .before .before .before .before .before .before .before .before .before .pre in
+    let header-sound = c .before .before .before .before .before .before .before .header-sound in
+    let if1 = c .before .before .before .before .before .before .if1 in
+    let shared-slice-known = c .before .before .before .before .before .before .before .before .before .shared-slice-known in
+    let first-tree = c .before .before .before .before .before .first-tree in
+    let tree-count = c .before .before .before .before .tree-count in
+    let ghost-count = c .before .before .before .ghost-count in
+    let dimension = c .before .before .dimension in
+    let trees = c .before .trees in
+    sound-read _ _ _ (λ i. shared-slice-known2 .given i .fits) pre (header-sound .ensures) (not-false _ (if1 .left)) (λ i. shared-slice-known .given i .fits) (first-tree .ensures) (tree-count .ensures) (ghost-count .ensures) (dimension .ensures) (trees .ensures) (c .records-sound .ensures)
 
 pub part-sound-spec : {M : Type 1} → statement M
 part-sound-spec =

@@ -16,11 +16,19 @@ trees-sound-requires : tie.Need-trees-sound-requires
 trees-sound-requires c κs = search needs
 
 ghosts-sound-requires : tie.Need-ghosts-sound-requires
-ghosts-sound-requires c κs = record { laid = c .before .before .before .before .pre; numbers = sym (c .before .before .numbers-sound .ensures) ∙ not-false _ (c .before .if1 .left) }
+ghosts-sound-requires c κs =
+    let pre = c .before .before .before .before .pre in
+    let numbers-sound = c .before .before .numbers-sound in
+    let if1 = c .before .if1 in
+    record { laid = pre; numbers = sym (numbers-sound .ensures) ∙ not-false _ (if1 .left) }
 
 returns-2 : tie.Need-returns-2
 unfolding recordsSound
-returns-2 c = rw (← c .before .before .before .numbers-sound .ensures, not-false (c .before .before .before .numbers-sound .result) (c .before .before .if1 .left), c .before .trees-sound .ensures, c .ghosts-sound .ensures)
+returns-2 c =
+    let numbers-sound = c .before .before .before .numbers-sound in
+    let if1 = c .before .before .if1 in
+    let trees-sound = c .before .trees-sound in
+    rw (← numbers-sound .ensures, not-false (numbers-sound .result) (if1 .left), trees-sound .ensures, c .ghosts-sound .ensures)
 
 pub records-sound-spec : {M : Type 1} → statement M
 records-sound-spec =

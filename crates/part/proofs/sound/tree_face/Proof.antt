@@ -16,7 +16,12 @@ link-ok-requires : tie.Need-link-ok-requires
 link-ok-requires c κs = search needs
 
 returns : tie.Need-returns
-returns c = face-tree _ _ (c .before .before .before .before .tree-at .ensures) _ _ _ _ (c .before .before .before .neighbour-of .ensures) (c .before .before .if1 .taken) (c .before .tree-at2 .ensures) (c .link-ok .ensures)
+returns c =
+    let tree-at = c .before .before .before .before .tree-at in
+    let neighbour-of = c .before .before .before .neighbour-of in
+    let if1 = c .before .before .if1 in
+    let tree-at2 = c .before .tree-at2 in
+    face-tree _ _ (tree-at .ensures) _ _ _ _ (neighbour-of .ensures) (if1 .taken) (tree-at2 .ensures) (c .link-ok .ensures)
 
 number-of-requires : tie.Need-number-of-requires
 number-of-requires c κs = search needs
@@ -28,7 +33,14 @@ link-ok-requires-2 : tie.Need-link-ok-requires-2
 link-ok-requires-2 c κs = search needs
 
 returns-2 : tie.Need-returns-2
-returns-2 c = face-ghost _ _ (c .before .before .before .before .before .before .tree-at .ensures) _ _ _ _ (c .before .before .before .before .before .neighbour-of .ensures) (c .before .before .before .before .if1 .left) (c .before .before .before .if2 .taken) (c .before .before .number-of .ensures) (c .before .ghost-at .ensures) (c .link-ok2 .ensures)
+returns-2 c =
+    let tree-at = c .before .before .before .before .before .before .tree-at in
+    let neighbour-of = c .before .before .before .before .before .neighbour-of in
+    let if1 = c .before .before .before .before .if1 in
+    let if2 = c .before .before .before .if2 in
+    let number-of = c .before .before .number-of in
+    let ghost-at = c .before .ghost-at in
+    face-ghost _ _ (tree-at .ensures) _ _ _ _ (neighbour-of .ensures) (if1 .left) (if2 .taken) (number-of .ensures) (ghost-at .ensures) (c .link-ok2 .ensures)
 
 returns-3 : tie.Need-returns-3
 returns-3 c = face-none _ _ (c .before .before .before .tree-at .ensures) _ _ _ _ (c .before .before .neighbour-of .ensures) (c .before .if1 .left) (c .if2 .left)

@@ -32,7 +32,11 @@ add-if1 : tie.Need-add-if1 Inv-loop μ-loop
 add-if1 c = search needs
 
 returns : tie.Need-returns Inv-loop μ-loop
-returns c = sym (all-fails _ _ _ (c .before .before .before .loop-test .taken) (numbered-is _ _ (c .before .before .tree-at .ensures) _ (c .before .number-of .ensures) ∙ ne-eqb _ _ (c .if1 .taken)))
+returns c =
+    let loop-test = c .before .before .before .loop-test in
+    let tree-at = c .before .before .tree-at in
+    let number-of = c .before .number-of in
+    sym (all-fails _ _ _ (loop-test .taken) (numbered-is _ _ (tree-at .ensures) _ (number-of .ensures) ∙ ne-eqb _ _ (c .if1 .taken)))
 
 add-i : tie.Need-add-i Inv-loop μ-loop
 add-i c = search needs
@@ -41,7 +45,11 @@ loop-less : tie.Need-loop-less Inv-loop μ-loop
 loop-less c = search needs
 
 loop-again : tie.Need-loop-again Inv-loop μ-loop
-loop-again c = (omega arith, all-more _ _ (c .before .before .before .before .loop .inv .1) (numbered-is _ _ (c .before .before .tree-at .ensures) _ (c .before .number-of .ensures) ∙ eq-eqb _ _ (c .if1 .left)))
+loop-again c =
+    let loop = c .before .before .before .before .loop in
+    let tree-at = c .before .before .tree-at in
+    let number-of = c .before .number-of in
+    (omega arith, all-more _ _ (loop .inv .1) (numbered-is _ _ (tree-at .ensures) _ (number-of .ensures) ∙ eq-eqb _ _ (c .if1 .left)))
 
 returns-2 : tie.Need-returns-2 Inv-loop μ-loop
 returns-2 c = sym (all-to _ _ _ (c .before .loop .inv .0) (omega arith) (c .before .loop .inv .1))

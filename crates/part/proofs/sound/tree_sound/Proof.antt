@@ -22,7 +22,13 @@ tree-faces-requires : tie.Need-tree-faces-requires
 tree-faces-requires c κs = search needs
 
 returns : tie.Need-returns
-returns c = tree-read _ _ (c .before .before .before .before .before .tree-at .ensures) _ _ _ (c .before .before .before .before .shape-of .ensures) (c .before .before .before .in-form .ensures) (c .before .before .dimension-of .ensures) (c .before .face-count .ensures .0) (c .tree-faces .ensures)
+returns c =
+    let tree-at = c .before .before .before .before .before .tree-at in
+    let shape-of = c .before .before .before .before .shape-of in
+    let in-form = c .before .before .before .in-form in
+    let dimension-of = c .before .before .dimension-of in
+    let face-count = c .before .face-count in
+    tree-read _ _ (tree-at .ensures) _ _ _ (shape-of .ensures) (in-form .ensures) (dimension-of .ensures) (face-count .ensures .0) (c .tree-faces .ensures)
 
 pub tree-sound-spec : {M : Type 1} → statement M
 tree-sound-spec =

@@ -17,7 +17,10 @@ sends-some-requires-2 c κs = search needs
 
 returns-2 : tie.Need-returns-2
 unfolding inSet
-returns-2 c = rw (c .before .if1 .left) (c .sends-some2 .ensures ∙ sym (gets-sends _ _ (c .before .before .before .before .pre .tables) _ _ (c .before .before .before .before .pre .receiverBelow) (c .before .before .before .before .pre .senderBelow)))
+returns-2 c =
+    let if1 = c .before .if1 in
+    let pre = c .before .before .before .before .pre in
+    rw (if1 .left) (c .sends-some2 .ensures ∙ sym (gets-sends _ _ (pre .tables) _ _ (pre .receiverBelow) (pre .senderBelow)))
 
 pub in-set-spec : {M : Type 1} → statement M
 in-set-spec = tie.close (tie.spec sends-some-requires returns sends-some-requires-2 returns-2)

@@ -33,7 +33,12 @@ loop-less : tie.Need-loop-less Inv-loop μ-loop
 loop-less c = search needs
 
 loop-again : tie.Need-loop-again Inv-loop μ-loop
-loop-again c = search-down _ _ (λ i. c .before .before .before .before .before .shared-slice-known .given i .fits) (c .before .before .before .before .before .before .pre) _ _ _ _ (c .before .before .before .loop .inv) (omega arith) (omega arith) (c .before .end-tree .ensures) (c .if1 .taken)
+loop-again c =
+    let shared-slice-known = c .before .before .before .before .before .shared-slice-known in
+    let pre = c .before .before .before .before .before .before .pre in
+    let loop = c .before .before .before .loop in
+    let end-tree = c .before .end-tree in
+    search-down _ _ (λ i. shared-slice-known .given i .fits) pre _ _ _ _ (loop .inv) (omega arith) (omega arith) (end-tree .ensures) (c .if1 .taken)
 
 add-low : tie.Need-add-low Inv-loop μ-loop
 add-low c = search needs
@@ -42,10 +47,19 @@ loop-less-2 : tie.Need-loop-less-2 Inv-loop μ-loop
 loop-less-2 c = search needs
 
 loop-again-2 : tie.Need-loop-again-2 Inv-loop μ-loop
-loop-again-2 c = search-up _ _ (λ i. c .before .before .before .before .before .shared-slice-known .given i .fits) (c .before .before .before .before .before .before .pre) _ _ _ _ (c .before .before .before .loop .inv) (omega arith) (c .before .end-tree .ensures) (c .if1 .left)
+loop-again-2 c =
+    let shared-slice-known = c .before .before .before .before .before .shared-slice-known in
+    let pre = c .before .before .before .before .before .before .pre in
+    let loop = c .before .before .before .loop in
+    let end-tree = c .before .end-tree in
+    search-up _ _ (λ i. shared-slice-known .given i .fits) pre _ _ _ _ (loop .inv) (omega arith) (end-tree .ensures) (c .if1 .left)
 
 returns : tie.Need-returns Inv-loop μ-loop
-returns c = (search-done _ _ (λ i. c .before .before .before .shared-slice-known .given i .fits) (c .before .before .before .before .pre) _ _ (c .before .loop .inv) (c .loop-test .left), omega arith)
+returns c =
+    let shared-slice-known = c .before .before .before .shared-slice-known in
+    let pre = c .before .before .before .before .pre in
+    let loop = c .before .loop in
+    (search-done _ _ (λ i. shared-slice-known .given i .fits) pre _ _ (loop .inv) (c .loop-test .left), omega arith)
 
 pub least-holder-spec : {M : Type 1} → statement M
 least-holder-spec =

@@ -22,14 +22,24 @@ smaller-requires c κs = search needs
 
 returns : tie.Need-returns
 unfolding sentHigh
-returns c = simp (c .smaller .ensures, ← c .before .before .shares .ensures, c .before .if1 .taken, c .before .before .before .before .end-tree .ensures, c .before .before .before .end-tree2 .ensures)
+returns c =
+    let shares = c .before .before .shares in
+    let if1 = c .before .if1 in
+    let end-tree = c .before .before .before .before .end-tree in
+    let end-tree2 = c .before .before .before .end-tree2 in
+    simp (c .smaller .ensures, ← shares .ensures, if1 .taken, end-tree .ensures, end-tree2 .ensures)
 
 smaller-requires-2 : tie.Need-smaller-requires-2
 smaller-requires-2 c κs = search needs
 
 returns-2 : tie.Need-returns-2
 unfolding sentHigh
-returns-2 c = simp (c .smaller2 .ensures, ← c .before .before .shares .ensures, c .before .if1 .left, c .before .before .before .before .end-tree .ensures, c .before .before .before .end-tree2 .ensures)
+returns-2 c =
+    let shares = c .before .before .shares in
+    let if1 = c .before .if1 in
+    let end-tree = c .before .before .before .before .end-tree in
+    let end-tree2 = c .before .before .before .end-tree2 in
+    simp (c .smaller2 .ensures, ← shares .ensures, if1 .left, end-tree .ensures, end-tree2 .ensures)
 
 pub sent-high-spec : {M : Type 1} → statement M
 sent-high-spec =

@@ -30,7 +30,12 @@ larger-requires-2 c κs = search needs
 
 returns-2 : tie.Need-returns-2
 unfolding sentLow
-returns-2 c = simp (c .larger2 .ensures, c .before .magnitude .ensures, c .before .before .entry .ensures, c .before .before .before .before .first-tree .ensures, ne-eqb _ _ (c .before .before .before .if1 .left))
+returns-2 c =
+    let magnitude = c .before .magnitude in
+    let entry = c .before .before .entry in
+    let first-tree = c .before .before .before .before .first-tree in
+    let if1 = c .before .before .before .if1 in
+    simp (c .larger2 .ensures, magnitude .ensures, entry .ensures, first-tree .ensures, ne-eqb _ _ (if1 .left))
 
 pub sent-low-spec : {M : Type 1} → statement M
 sent-low-spec =

@@ -29,7 +29,10 @@ add-other : tie.Need-add-other Inv-loop μ-loop
 add-other c = search needs
 
 add-count : tie.Need-add-count Inv-loop μ-loop
-add-count c = omega (arith, count-le (c .before .before .before .loop .other) (inSet (c .before .before .before .before .before .before .before .args .old .now) (c .before .before .before .before .before .before .before .args .new .now) (c .before .before .before .before .before .before .before .args .rank) (c .before .before .before .before .before .before .before .args .sending)))
+add-count c =
+    let loop = c .before .before .before .loop in
+    let args = c .before .before .before .before .before .before .before .args in
+    omega (arith, count-le (loop .other) (inSet (args .old .now) (args .new .now) (args .rank) (args .sending)))
 
 loop-less : tie.Need-loop-less Inv-loop μ-loop
 loop-less c = search needs
@@ -44,7 +47,10 @@ loop-again-2 : tie.Need-loop-again-2 Inv-loop μ-loop
 loop-again-2 c = (omega arith, count-skip _ _ _ (c .before .before .before .loop .inv .1) (sym (c .before .in-set .ensures) ∙ c .if1 .left))
 
 returns : tie.Need-returns Inv-loop μ-loop
-returns c = set-length _ _ _ _ _ _ (c .before .before .ranks .ensures .0) (c .before .before .ranks .ensures .1 .1) (c .before .loop .inv .0) (c .loop-test .left) (c .before .loop .inv .1)
+returns c =
+    let ranks = c .before .before .ranks in
+    let loop = c .before .loop in
+    set-length _ _ _ _ _ _ (ranks .ensures .0) (ranks .ensures .1 .1) (loop .inv .0) (c .loop-test .left) (loop .inv .1)
 
 pub set-count-spec : {M : Type 1} → statement M
 set-count-spec =

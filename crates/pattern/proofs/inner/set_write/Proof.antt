@@ -29,31 +29,65 @@ add-other : tie.Need-add-other Inv-loop μ-loop
 add-other c = search needs
 
 mul-out : tie.Need-mul-out Inv-loop μ-loop
-mul-out c = omega (arith, write-count _ _ _ (set-room (c .before .before .before .before .before .before .before .before .pre) (c .before .before .before .before .ranks .ensures .0)) _ _ _ (c .before .before .before .loop .inv))
+mul-out c =
+    let pre = c .before .before .before .before .before .before .before .before .pre in
+    let ranks = c .before .before .before .before .ranks in
+    let loop = c .before .before .before .loop in
+    omega (arith, write-count _ _ _ (set-room pre (ranks .ensures .0)) _ _ _ (loop .inv))
 
 slice-write-out : tie.Need-slice-write-out Inv-loop μ-loop
-slice-write-out c = write-index _ _ _ (set-room (c .before .before .before .before .before .before .before .before .pre) (c .before .before .before .before .ranks .ensures .0)) _ _ _ (c .before .before .before .loop .inv) (c .before .before .loop-test .taken) (sym (c .before .in-set .ensures) ∙ c .if1 .taken)
+slice-write-out c =
+    let pre = c .before .before .before .before .before .before .before .before .pre in
+    let ranks = c .before .before .before .before .ranks in
+    let loop = c .before .before .before .loop in
+    let loop-test = c .before .before .loop-test in
+    let in-set = c .before .in-set in
+    write-index _ _ _ (set-room pre (ranks .ensures .0)) _ _ _ (loop .inv) (loop-test .taken) (sym (in-set .ensures) ∙ c .if1 .taken)
 
 add-count : tie.Need-add-count Inv-loop μ-loop
-add-count c = omega (arith, write-count _ _ _ (set-room (c .before .before .before .before .before .before .before .before .pre) (c .before .before .before .before .ranks .ensures .0)) _ _ _ (c .before .before .before .loop .inv))
+add-count c =
+    let pre = c .before .before .before .before .before .before .before .before .pre in
+    let ranks = c .before .before .before .before .ranks in
+    let loop = c .before .before .before .loop in
+    omega (arith, write-count _ _ _ (set-room pre (ranks .ensures .0)) _ _ _ (loop .inv))
 
 loop-less : tie.Need-loop-less Inv-loop μ-loop
 loop-less c = search needs
 
 loop-again : tie.Need-loop-again Inv-loop μ-loop
-loop-again c = write-more _ _ _ (set-room (c .before .before .before .before .before .before .before .before .pre) (c .before .before .before .before .ranks .ensures .0)) _ _ _ (c .before .before .before .loop .inv) (c .before .before .loop-test .taken) (sym (c .before .in-set .ensures) ∙ c .if1 .taken)
+loop-again c =
+    let pre = c .before .before .before .before .before .before .before .before .pre in
+    let ranks = c .before .before .before .before .ranks in
+    let loop = c .before .before .before .loop in
+    let loop-test = c .before .before .loop-test in
+    let in-set = c .before .in-set in
+    write-more _ _ _ (set-room pre (ranks .ensures .0)) _ _ _ (loop .inv) (loop-test .taken) (sym (in-set .ensures) ∙ c .if1 .taken)
 
 loop-less-2 : tie.Need-loop-less-2 Inv-loop μ-loop
 loop-less-2 c = search needs
 
 loop-again-2 : tie.Need-loop-again-2 Inv-loop μ-loop
-loop-again-2 c = write-skip _ _ _ (set-room (c .before .before .before .before .before .before .before .before .pre) (c .before .before .before .before .ranks .ensures .0)) _ _ _ (c .before .before .before .loop .inv) (c .before .before .loop-test .taken) (sym (c .before .in-set .ensures) ∙ c .if1 .left)
+loop-again-2 c =
+    let pre = c .before .before .before .before .before .before .before .before .pre in
+    let ranks = c .before .before .before .before .ranks in
+    let loop = c .before .before .before .loop in
+    let loop-test = c .before .before .loop-test in
+    let in-set = c .before .in-set in
+    write-skip _ _ _ (set-room pre (ranks .ensures .0)) _ _ _ (loop .inv) (loop-test .taken) (sym (in-set .ensures) ∙ c .if1 .left)
 
 same-length : tie.Need-same-length Inv-loop μ-loop
-same-length c = write-length _ _ _ (set-room (c .before .before .before .before .before .before .pre) (c .before .before .ranks .ensures .0)) _ _ _ (c .before .loop .inv)
+same-length c =
+    let pre = c .before .before .before .before .before .before .pre in
+    let ranks = c .before .before .ranks in
+    let loop = c .before .loop in
+    write-length _ _ _ (set-room pre (ranks .ensures .0)) _ _ _ (loop .inv)
 
 returns : tie.Need-returns Inv-loop μ-loop
-returns c = set-written _ _ _ _ _ _ _ (c .before .before .ranks .ensures .0) (write-done _ _ _ (set-room (c .before .before .before .before .before .before .pre) (c .before .before .ranks .ensures .0)) _ _ _ (c .before .loop .inv) (c .loop-test .left))
+returns c =
+    let ranks = c .before .before .ranks in
+    let pre = c .before .before .before .before .before .before .pre in
+    let loop = c .before .loop in
+    set-written _ _ _ _ _ _ _ (ranks .ensures .0) (write-done _ _ _ (set-room pre (ranks .ensures .0)) _ _ _ (loop .inv) (c .loop-test .left))
 
 pub set-write-spec : {M : Type 1} → statement M
 set-write-spec =

@@ -18,18 +18,34 @@ both-valid-requires c κs = sym (c .before .both-ranks-ok .ensures) ∙ not-fals
 
 returns-2 : tie.Need-returns-2
 unfolding tableChecks firstFailed
-returns-2 c = simp (← c .before .before .before .both-ranks-ok .ensures, not-false (c .before .before .before .both-ranks-ok .result) (c .before .before .if1 .left), ← c .before .both-valid .ensures, not-true (c .before .both-valid .result) (c .if2 .taken))
+returns-2 c =
+    let both-ranks-ok = c .before .before .before .both-ranks-ok in
+    let if1 = c .before .before .if1 in
+    let both-valid = c .before .both-valid in
+    simp (← both-ranks-ok .ensures, not-false (both-ranks-ok .result) (if1 .left), ← both-valid .ensures, not-true (both-valid .result) (c .if2 .taken))
 
 agree-requires : tie.Need-agree-requires
 agree-requires c κs = sym (c .before .before .before .both-ranks-ok .ensures) ∙ not-false _ (c .before .before .if1 .left)
 
 returns-3 : tie.Need-returns-3
 unfolding tableChecks firstFailed
-returns-3 c = simp (← c .before .before .before .before .before .both-ranks-ok .ensures, not-false (c .before .before .before .before .before .both-ranks-ok .result) (c .before .before .before .before .if1 .left), ← c .before .before .before .both-valid .ensures, not-false (c .before .before .before .both-valid .result) (c .before .before .if2 .left), ← c .before .agree .ensures, not-true (c .before .agree .result) (c .if3 .taken))
+returns-3 c =
+    let both-ranks-ok = c .before .before .before .before .before .both-ranks-ok in
+    let if1 = c .before .before .before .before .if1 in
+    let both-valid = c .before .before .before .both-valid in
+    let if2 = c .before .before .if2 in
+    let agree = c .before .agree in
+    simp (← both-ranks-ok .ensures, not-false (both-ranks-ok .result) (if1 .left), ← both-valid .ensures, not-false (both-valid .result) (if2 .left), ← agree .ensures, not-true (agree .result) (c .if3 .taken))
 
 returns-4 : tie.Need-returns-4
 unfolding tableChecks firstFailed
-returns-4 c = simp (← c .before .before .before .before .before .both-ranks-ok .ensures, not-false (c .before .before .before .before .before .both-ranks-ok .result) (c .before .before .before .before .if1 .left), ← c .before .before .before .both-valid .ensures, not-false (c .before .before .before .both-valid .result) (c .before .before .if2 .left), ← c .before .agree .ensures, not-false (c .before .agree .result) (c .if3 .left))
+returns-4 c =
+    let both-ranks-ok = c .before .before .before .before .before .both-ranks-ok in
+    let if1 = c .before .before .before .before .if1 in
+    let both-valid = c .before .before .before .both-valid in
+    let if2 = c .before .before .if2 in
+    let agree = c .before .agree in
+    simp (← both-ranks-ok .ensures, not-false (both-ranks-ok .result) (if1 .left), ← both-valid .ensures, not-false (both-valid .result) (if2 .left), ← agree .ensures, not-false (agree .result) (c .if3 .left))
 
 pub tables-refusal-spec : {M : Type 1} → statement M
 tables-refusal-spec =

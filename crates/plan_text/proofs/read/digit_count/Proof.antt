@@ -50,7 +50,11 @@ is-digit-requires : tie.Need-is-digit-requires Inv-loop μ-loop
 is-digit-requires c κs = search needs
 
 returns : tie.Need-returns Inv-loop μ-loop
-returns c = (stops _ _ _ (c .before .before .before .before .loop .inv .1) (c .before .before .before .loop-test .taken) (sym (c .before .is-digit .ensures) ∙ not-true _ (c .if1 .taken)), omega arith)
+returns c =
+    let loop = c .before .before .before .before .loop in
+    let loop-test = c .before .before .before .loop-test in
+    let is-digit = c .before .is-digit in
+    (stops _ _ _ (loop .inv .1) (loop-test .taken) (sym (is-digit .ensures) ∙ not-true _ (c .if1 .taken)), omega arith)
 
 add-n : tie.Need-add-n Inv-loop μ-loop
 add-n c = search needs
@@ -59,7 +63,11 @@ loop-less : tie.Need-loop-less Inv-loop μ-loop
 loop-less c = search needs
 
 loop-again : tie.Need-loop-again Inv-loop μ-loop
-loop-again c = (omega arith, all-more _ (λ i. isDigit (byteAt (c .before .before .before .before .before .before .args .text .now) (c .before .before .before .before .before .before .args .at + i))) (c .before .before .before .before .loop .inv .1) (sym (c .before .is-digit .ensures) ∙ not-false _ (c .if1 .left)))
+loop-again c =
+    let args = c .before .before .before .before .before .before .args in
+    let loop = c .before .before .before .before .loop in
+    let is-digit = c .before .is-digit in
+    (omega arith, all-more _ (λ i. isDigit (byteAt (args .text .now) (args .at + i))) (loop .inv .1) (sym (is-digit .ensures) ∙ not-false _ (c .if1 .left)))
 
 returns-2 : tie.Need-returns-2 Inv-loop μ-loop
 returns-2 c = (ends _ _ _ (c .before .loop .inv .0) (c .before .loop .inv .1) (c .loop-test .left), omega arith)

@@ -72,7 +72,11 @@ loop-less : tie.Need-loop-less Inv-loop μ-loop
 loop-less c = search needs
 
 loop-again : tie.Need-loop-again Inv-loop μ-loop
-loop-again c = turn _ _ _ (c .before .before .before .before .before .pre) _ _ _ (c .before .before .loop-test .taken) (c .before .before .before .loop .inv .1) (c .wide .ensures .0)
+loop-again c =
+    let pre = c .before .before .before .before .before .pre in
+    let loop-test = c .before .before .loop-test in
+    let loop = c .before .before .before .loop in
+    turn _ _ _ pre _ _ _ (loop-test .taken) (loop .inv .1) (c .wide .ensures .0)
 
 returns : tie.Need-returns Inv-loop μ-loop
 returns c = done _ _ _ (c .before .before .before .pre) _ _ (c .before .loop .inv .0) (c .loop-test .left) (c .before .loop .inv .1)

@@ -49,7 +49,13 @@ word-at-requires-3 : tie.Need-word-at-requires-3
 word-at-requires-3 c κs = search needs
 
 returns : tie.Need-returns
-returns c = tests (c .before .before .before .before .before .before .before .before .before .before .before .before .before .before .before .before .args .text .now) (c .before .before .before .before .before .before .before .before .before .before .before .before .before .before .before .before .args .ranks) (c .before .before .before .before .before .before .before .before .before .before .before .before .before .before .before .before .args .old) (c .before .before .before .before .before .before .before .before .before .before .before .before .before .before .before .before .args .new) (c .before .before .before .before .before .before .before .before .before .before .before .before .word-at .ensures) (c .before .before .before .before .before .before .before .before .before .before .byte-at .ensures) (c .before .before .before .before .before .before .before .word-at2 .ensures) (c .before .before .before .before .word-at3 .ensures)
+returns c =
+    let args = c .before .before .before .before .before .before .before .before .before .before .before .before .before .before .before .before .args in
+    let word-at = c .before .before .before .before .before .before .before .before .before .before .before .before .word-at in
+    let byte-at = c .before .before .before .before .before .before .before .before .before .before .byte-at in
+    let word-at2 = c .before .before .before .before .before .before .before .word-at2 in
+    let word-at3 = c .before .before .before .before .word-at3 in
+    tests (args .text .now) (args .ranks) (args .old) (args .new) (word-at .ensures) (byte-at .ensures) (word-at2 .ensures) (word-at3 .ensures)
 
 pub form-ok-spec : {M : Type 1} → statement M
 form-ok-spec =

@@ -12,12 +12,17 @@ sub-t4 : tie.Need-sub-t4
 sub-t4 c = search needs
 
 add-t5 : tie.Need-add-t5
-add-t5 c = omega (arith, ltb-true 0 (c .before .before .before .before .args .n .value) (and-snd (c .before .before .before .before .args .n .ok) _ (c .before .if1 .taken)))
+add-t5 c =
+    let args = c .before .before .before .before .args in
+    let if1 = c .before .if1 in
+    omega (arith, ltb-true 0 (args .n .value) (and-snd (args .n .ok) _ (if1 .taken)))
 
 returns : tie.Need-returns
 unfolding negated
-returns c = let e : 18446744073709551615 - c .before .before .before .before .args .n .value + 1 ≡ 2 ^ 64 - c .before .before .before .before .args .n .value = omega (arith, ltb-true 0 (c .before .before .before .before .args .n .value) (and-snd (c .before .before .before .before .args .n .ok) _ (c .before .if1 .taken))) in
-    rw (c .before .if1 .taken, e)
+returns c =
+    let args = c .before .before .before .before .args in
+    let if1 = c .before .if1 in
+    let e : 18446744073709551615 - args .n .value + 1 ≡ 2 ^ 64 - args .n .value = omega (arith, ltb-true 0 (args .n .value) (and-snd (args .n .ok) _ (if1 .taken))) in rw (if1 .taken, e)
 
 returns-2 : tie.Need-returns-2
 unfolding negated

@@ -27,7 +27,10 @@ byte-at-requires : tie.Need-byte-at-requires
 byte-at-requires c κs = search needs
 
 add-read-number : tie.Need-add-read-number
-add-read-number c = omega (arith, within (c .before .before .before .args .text .now) (c .before .before .before .args .at) _ (c .before .byte-at .ensures) (c .if1 .taken))
+add-read-number c =
+    let args = c .before .before .before .args in
+    let byte-at = c .before .byte-at in
+    omega (arith, within (args .text .now) (args .at) _ (byte-at .ensures) (c .if1 .taken))
 
 read-number-requires : tie.Need-read-number-requires
 read-number-requires c κs = search needs

@@ -82,7 +82,10 @@ read-number-requires : tie.Need-read-number-requires
 read-number-requires c κs = search needs
 
 add-read-list : tie.Need-add-read-list
-add-read-list c = omega (arith, ranks-within (c .before .before .before .before .before .before .args .text .now) (c .before .read-number .result) (c .before .read-number .ensures))
+add-read-list c =
+    let args = c .before .before .before .before .before .before .args in
+    let read-number = c .before .read-number in
+    omega (arith, ranks-within (args .text .now) (read-number .result) (read-number .ensures))
 
 read-list-requires : tie.Need-read-list-requires
 read-list-requires c κs = search needs
@@ -94,7 +97,11 @@ read-list-requires-2 : tie.Need-read-list-requires-2
 read-list-requires-2 c κs = search needs
 
 form-ok-requires : tie.Need-form-ok-requires
-form-ok-requires c κs = omega (arith, ranks-within (c .before .before .before .before .before .before .before .before .before .before .before .before .before .before .before .args .text .now) (c .before .before .before .before .before .before .before .before .before .before .read-number .result) (c .before .before .before .before .before .before .before .before .before .before .read-number .ensures), c .before .before .before .before .before .before .before .read-list .ensures .within)
+form-ok-requires c κs =
+    let args = c .before .before .before .before .before .before .before .before .before .before .before .before .before .before .before .args in
+    let read-number = c .before .before .before .before .before .before .before .before .before .before .read-number in
+    let read-list = c .before .before .before .before .before .before .before .read-list in
+    omega (arith, ranks-within (args .text .now) (read-number .result) (read-number .ensures), read-list .ensures .within)
 
 same-length : tie.Need-same-length
 same-length c = search needs
@@ -103,7 +110,13 @@ same-length-2 : tie.Need-same-length-2
 same-length-2 c = search needs
 
 returns-2 : tie.Need-returns-2
-returns-2 c = input-read (c .before .before .before .before .before .before .before .before .before .before .before .before .before .before .before .before .args .text .now) (c .before .before .before .before .before .before .before .before .before .before .before .read-number .result) (c .before .before .before .before .before .before .before .before .before .before .before .read-number .ensures) (c .before .before .before .before .before .before .before .before .read-list .ensures) (c .before .before .before .read-list2 .ensures) (c .before .before .before .before .before .before .before .before .before .before .before .before .if1 .left) (c .form-ok .ensures)
+returns-2 c =
+    let args = c .before .before .before .before .before .before .before .before .before .before .before .before .before .before .before .before .args in
+    let read-number = c .before .before .before .before .before .before .before .before .before .before .before .read-number in
+    let read-list = c .before .before .before .before .before .before .before .before .read-list in
+    let read-list2 = c .before .before .before .read-list2 in
+    let if1 = c .before .before .before .before .before .before .before .before .before .before .before .before .if1 in
+    input-read (args .text .now) (read-number .result) (read-number .ensures) (read-list .ensures) (read-list2 .ensures) (if1 .left) (c .form-ok .ensures)
 
 pub read-input-spec : {M : Type 1} → statement M
 read-input-spec =

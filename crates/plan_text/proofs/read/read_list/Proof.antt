@@ -29,34 +29,87 @@ store-requires : tie.Need-store-requires Inv-loop μ-loop
 store-requires c κs = search needs
 
 add-count : tie.Need-add-count Inv-loop μ-loop
-add-count c = omega (arith, c .before .before .before .before .before .before .before .loop .inv .ahead, reading-moves (c .before .before .before .before .before .before .before .loop .inv) (c .before .before .before .before .before .before .read-entry .ensures) (c .before .before .before .before .if1 .left))
+add-count c =
+    let loop = c .before .before .before .before .before .before .before .loop in
+    let read-entry = c .before .before .before .before .before .before .read-entry in
+    let if1 = c .before .before .before .before .if1 in
+    omega (arith, loop .inv .ahead, reading-moves (loop .inv) (read-entry .ensures) (if1 .left))
 
 byte-at-requires : tie.Need-byte-at-requires Inv-loop μ-loop
 byte-at-requires c κs = search needs
 
 add-t12 : tie.Need-add-t12 Inv-loop μ-loop
-add-t12 c = omega (arith, reading-within (c .before .before .before .before .before .before .before .before .before .before .loop .inv) (c .before .before .before .before .before .before .before .before .before .read-entry .ensures) (c .before .before .before .before .before .before .before .if1 .left) (c .before .before .before .before .before .store .ensures) (c .before .before .byte-at .ensures) (omega arith))
+add-t12 c =
+    let loop = c .before .before .before .before .before .before .before .before .before .before .loop in
+    let read-entry = c .before .before .before .before .before .before .before .before .before .read-entry in
+    let if1 = c .before .before .before .before .before .before .before .if1 in
+    let store = c .before .before .before .before .before .store in
+    let byte-at = c .before .before .byte-at in
+    omega (arith, reading-within (loop .inv) (read-entry .ensures) (if1 .left) (store .ensures) (byte-at .ensures) (omega arith))
 
 same-length-2 : tie.Need-same-length-2 Inv-loop μ-loop
-same-length-2 c = exit-size (c .before .before .before .before .before .before .before .before .before .before .loop .inv) (c .before .before .before .before .before .before .before .before .before .read-entry .ensures) (c .before .before .before .before .before .before .before .if1 .left) (c .before .before .before .before .before .store .ensures) (c .before .before .byte-at .ensures)
+same-length-2 c =
+    let loop = c .before .before .before .before .before .before .before .before .before .before .loop in
+    let read-entry = c .before .before .before .before .before .before .before .before .before .read-entry in
+    let if1 = c .before .before .before .before .before .before .before .if1 in
+    let store = c .before .before .before .before .before .store in
+    let byte-at = c .before .before .byte-at in
+    exit-size (loop .inv) (read-entry .ensures) (if1 .left) (store .ensures) (byte-at .ensures)
 
 returns-2 : tie.Need-returns-2 Inv-loop μ-loop
-returns-2 c = reading-last (c .before .before .before .before .before .before .before .before .before .before .loop .inv) (c .before .before .before .before .before .before .before .before .before .read-entry .ensures) (c .before .before .before .before .before .before .before .if1 .left) (c .before .before .before .before .before .store .ensures) (c .before .before .byte-at .ensures) (c .before .if2 .taken)
+returns-2 c =
+    let loop = c .before .before .before .before .before .before .before .before .before .before .loop in
+    let read-entry = c .before .before .before .before .before .before .before .before .before .read-entry in
+    let if1 = c .before .before .before .before .before .before .before .if1 in
+    let store = c .before .before .before .before .before .store in
+    let byte-at = c .before .before .byte-at in
+    let if2 = c .before .if2 in
+    reading-last (loop .inv) (read-entry .ensures) (if1 .left) (store .ensures) (byte-at .ensures) (if2 .taken)
 
 same-length-3 : tie.Need-same-length-3 Inv-loop μ-loop
-same-length-3 c = exit-size (c .before .before .before .before .before .before .before .before .before .before .loop .inv) (c .before .before .before .before .before .before .before .before .before .read-entry .ensures) (c .before .before .before .before .before .before .before .if1 .left) (c .before .before .before .before .before .store .ensures) (c .before .before .byte-at .ensures)
+same-length-3 c =
+    let loop = c .before .before .before .before .before .before .before .before .before .before .loop in
+    let read-entry = c .before .before .before .before .before .before .before .before .before .read-entry in
+    let if1 = c .before .before .before .before .before .before .before .if1 in
+    let store = c .before .before .before .before .before .store in
+    let byte-at = c .before .before .byte-at in
+    exit-size (loop .inv) (read-entry .ensures) (if1 .left) (store .ensures) (byte-at .ensures)
 
 returns-3 : tie.Need-returns-3 Inv-loop μ-loop
-returns-3 c = reading-broken (c .before .before .before .before .before .before .before .before .before .before .loop .inv) (c .before .before .before .before .before .before .before .before .before .read-entry .ensures) (c .before .before .before .before .before .before .before .if1 .left) (c .before .before .before .before .before .store .ensures) (c .before .before .byte-at .ensures) (c .before .if2 .left) (c .if3 .taken)
+returns-3 c =
+    let loop = c .before .before .before .before .before .before .before .before .before .before .loop in
+    let read-entry = c .before .before .before .before .before .before .before .before .before .read-entry in
+    let if1 = c .before .before .before .before .before .before .before .if1 in
+    let store = c .before .before .before .before .before .store in
+    let byte-at = c .before .before .byte-at in
+    let if2 = c .before .if2 in
+    reading-broken (loop .inv) (read-entry .ensures) (if1 .left) (store .ensures) (byte-at .ensures) (if2 .left) (c .if3 .taken)
 
 add-place : tie.Need-add-place Inv-loop μ-loop
-add-place c = omega (arith, reading-within (c .before .before .before .before .before .before .before .before .before .before .before .loop .inv) (c .before .before .before .before .before .before .before .before .before .before .read-entry .ensures) (c .before .before .before .before .before .before .before .before .if1 .left) (c .before .before .before .before .before .before .store .ensures) (c .before .before .before .byte-at .ensures) (omega arith))
+add-place c =
+    let loop = c .before .before .before .before .before .before .before .before .before .before .before .loop in
+    let read-entry = c .before .before .before .before .before .before .before .before .before .before .read-entry in
+    let if1 = c .before .before .before .before .before .before .before .before .if1 in
+    let store = c .before .before .before .before .before .before .store in
+    let byte-at = c .before .before .before .byte-at in
+    omega (arith, reading-within (loop .inv) (read-entry .ensures) (if1 .left) (store .ensures) (byte-at .ensures) (omega arith))
 
 loop-less : tie.Need-loop-less Inv-loop μ-loop
-loop-less c = omega (arith, reading-moves (c .before .before .before .before .before .before .before .before .before .before .before .loop .inv) (c .before .before .before .before .before .before .before .before .before .before .read-entry .ensures) (c .before .before .before .before .before .before .before .before .if1 .left))
+loop-less c =
+    let loop = c .before .before .before .before .before .before .before .before .before .before .before .loop in
+    let read-entry = c .before .before .before .before .before .before .before .before .before .before .read-entry in
+    let if1 = c .before .before .before .before .before .before .before .before .if1 in
+    omega (arith, reading-moves (loop .inv) (read-entry .ensures) (if1 .left))
 
 loop-again : tie.Need-loop-again Inv-loop μ-loop
-loop-again c = reading-more (c .before .before .before .before .before .before .before .before .before .before .before .loop .inv) (c .before .before .before .before .before .before .before .before .before .before .read-entry .ensures) (c .before .before .before .before .before .before .before .before .if1 .left) (c .before .before .before .before .before .before .store .ensures) (c .before .before .before .byte-at .ensures) (c .before .if3 .left)
+loop-again c =
+    let loop = c .before .before .before .before .before .before .before .before .before .before .before .loop in
+    let read-entry = c .before .before .before .before .before .before .before .before .before .before .read-entry in
+    let if1 = c .before .before .before .before .before .before .before .before .if1 in
+    let store = c .before .before .before .before .before .before .store in
+    let byte-at = c .before .before .before .byte-at in
+    let if3 = c .before .if3 in
+    reading-more (loop .inv) (read-entry .ensures) (if1 .left) (store .ensures) (byte-at .ensures) (if3 .left)
 
 pub read-list-spec : {M : Type 1} → statement M
 read-list-spec =

@@ -45,16 +45,29 @@ add-t7 : tie.Need-add-t7
 add-t7 c = search needs
 
 returns : tie.Need-returns
-returns c = bad _ _ _ _ _ (c .before .before .before .digit-count .ensures .0) (c .before .before .byte-at .ensures) (c .before .count-ok .ensures) (c .if1 .taken)
+returns c =
+    let digit-count = c .before .before .before .digit-count in
+    let byte-at = c .before .before .byte-at in
+    let count-ok = c .before .count-ok in
+    bad _ _ _ _ _ (digit-count .ensures .0) (byte-at .ensures) (count-ok .ensures) (c .if1 .taken)
 
 digits-value-requires : tie.Need-digits-value-requires
-digits-value-requires c κs = few _ _ _ _ _ (c .before .before .before .digit-count .ensures .0) (c .before .before .byte-at .ensures) (c .before .count-ok .ensures) (c .before .before .before .digit-count .ensures .1) (c .if1 .left)
+digits-value-requires c κs =
+    let digit-count = c .before .before .before .digit-count in
+    let byte-at = c .before .before .byte-at in
+    let count-ok = c .before .count-ok in
+    few _ _ _ _ _ (digit-count .ensures .0) (byte-at .ensures) (count-ok .ensures) (digit-count .ensures .1) (c .if1 .left)
 
 add-t9 : tie.Need-add-t9
 add-t9 c = search needs
 
 returns-2 : tie.Need-returns-2
-returns-2 c = good _ _ _ _ _ (c .before .before .before .before .digit-count .ensures .0) (c .before .before .before .byte-at .ensures) (c .before .before .count-ok .ensures) _ (c .before .if1 .left) (c .digits-value .ensures)
+returns-2 c =
+    let digit-count = c .before .before .before .before .digit-count in
+    let byte-at = c .before .before .before .byte-at in
+    let count-ok = c .before .before .count-ok in
+    let if1 = c .before .if1 in
+    good _ _ _ _ _ (digit-count .ensures .0) (byte-at .ensures) (count-ok .ensures) _ (if1 .left) (c .digits-value .ensures)
 
 pub read-number-spec : {M : Type 1} → statement M
 read-number-spec =

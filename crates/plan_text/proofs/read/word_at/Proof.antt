@@ -53,7 +53,11 @@ loop-less : tie.Need-loop-less Inv-loop μ-loop
 loop-less c = search needs
 
 loop-again : tie.Need-loop-again Inv-loop μ-loop
-loop-again c = (omega arith, agrees (c .before .before .before .before .before .before .before .args .text .now) (c .before .before .before .before .before .before .before .args .at) (c .before .before .before .before .before .before .before .args .word .now) _ _ (c .before .before .byte-at .ensures) (c .before .before .before .before .loop .inv .1) (c .if1 .left))
+loop-again c =
+    let args = c .before .before .before .before .before .before .before .args in
+    let byte-at = c .before .before .byte-at in
+    let loop = c .before .before .before .before .loop in
+    (omega arith, agrees (args .text .now) (args .at) (args .word .now) _ _ (byte-at .ensures) (loop .inv .1) (c .if1 .left))
 
 returns-2 : tie.Need-returns-2 Inv-loop μ-loop
 unfolding wordAt

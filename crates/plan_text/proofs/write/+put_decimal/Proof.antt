@@ -45,9 +45,9 @@ module _ (t : ℕ) where
 
   put-decimal-requires : put-decimal-lts.Need-put-decimal-requires calls (put-decimal-at t) put-decimal.Post
   put-decimal-requires c κs =
-      let r = c .before .before .before .pre in
-      let h = c .before .if1 .left in
-      (omega (arith, r .0), record { small = omega (arith, r .1 .small); fits = fits-first _ _ (fits-tenth h (r .1)) })
+      let pre = c .before .before .before .pre in
+      let if1 = c .before .if1 in
+      let r = pre in let h = if1 .left in (omega (arith, r .0), record { small = omega (arith, r .1 .small); fits = fits-first _ _ (fits-tenth h (r .1)) })
 
   add-put-byte-2 : put-decimal-lts.Need-add-put-byte-2 calls (put-decimal-at t) put-decimal.Post
   add-put-byte-2 c = search needs
@@ -57,18 +57,19 @@ module _ (t : ℕ) where
 
   put-byte-requires-2 : put-decimal-lts.Need-put-byte-requires-2 calls (put-decimal-at t) put-decimal.Post
   put-byte-requires-2 c κs =
-      let s = c .before .before .before .before .before .before .before in
-      fits-next (c .before .before .before .put-decimal .ensures) _ (fits-tenth (c .before .before .before .before .before .if1 .left) (s .pre .1))
+      let before = c .before .before .before .before .before .before .before in
+      let put-decimal = c .before .before .before .put-decimal in
+      let if1 = c .before .before .before .before .before .if1 in
+      let s = before in fits-next (put-decimal .ensures) _ (fits-tenth (if1 .left) (s .pre .1))
 
   same-length-2 : put-decimal-lts.Need-same-length-2 calls (put-decimal-at t) put-decimal.Post
   same-length-2 c = search needs
 
   returns-2 : put-decimal-lts.Need-returns-2 calls (put-decimal-at t) put-decimal.Post
   returns-2 c =
-      let d = c .before .before .before .before .before .before in
-      let r = d .before .before .before .before .pre .1 in
-      let h = d .before .before .if1 .left in
-      put-as (sym (decimal-more _ h (r .small))) (put-then (d .put-decimal .ensures) _ (fits-tenth h r) (c .before .before .put-byte2 .ensures))
+      let before = c .before .before .before .before .before .before in
+      let put-byte2 = c .before .before .put-byte2 in
+      let d = before in let r = d .before .before .before .before .pre .1 in let h = d .before .before .if1 .left in put-as (sym (decimal-more _ h (r .small))) (put-then (d .put-decimal .ensures) _ (fits-tenth h r) (put-byte2 .ensures))
 
 pub +put-decimal-spec : {M : Type 1} → statement M
 +put-decimal-spec =

@@ -26,13 +26,21 @@ unfolding movesFrom countBelow
 loop-holds c = (omega arith, (refl, refl))
 
 pair-size-requires : tie.Need-pair-size-requires Inv-loop μ-loop
-pair-size-requires c κs = record { tables = c .before .before .before .before .before .pre .tables; senderBelow = c .before .before .before .before .before .pre .rankBelow; receiverBelow = omega arith }
+pair-size-requires c κs =
+    let pre = c .before .before .before .before .before .pre in
+    record { tables = pre .tables; senderBelow = pre .rankBelow; receiverBelow = omega arith }
 
 add-bytes : tie.Need-add-bytes Inv-loop μ-loop
-add-bytes c = let old = c .before .before .before .before .before .before .before .args .old .now in let new = c .before .before .before .before .before .before .before .args .new .now in let p = c .before .before .before .before .before .before .before .args .p in let q = c .before .before .before .loop .q in omega (arith, from-length old new p q, from-most old new p (q + 1), count-le (q + 1) (sendsTo old new p))
+add-bytes c =
+    let args = c .before .before .before .before .before .before .before .args in
+    let loop = c .before .before .before .loop in
+    let old = args .old .now in let new = args .new .now in let p = args .p in let q = loop .q in omega (arith, from-length old new p q, from-most old new p (q + 1), count-le (q + 1) (sendsTo old new p))
 
 add-moves : tie.Need-add-moves Inv-loop μ-loop
-add-moves c = let f = sendsTo (c .before .before .before .before .before .before .before .before .args .old .now) (c .before .before .before .before .before .before .before .before .args .new .now) (c .before .before .before .before .before .before .before .before .args .p) in let q = c .before .before .before .before .loop .q in omega (arith, count-more q f, count-le (q + 1) f)
+add-moves c =
+    let args = c .before .before .before .before .before .before .before .before .args in
+    let loop = c .before .before .before .before .loop in
+    let f = sendsTo (args .old .now) (args .new .now) (args .p) in let q = loop .q in omega (arith, count-more q f, count-le (q + 1) f)
 
 add-q : tie.Need-add-q Inv-loop μ-loop
 add-q c = search needs
@@ -41,7 +49,10 @@ loop-less : tie.Need-loop-less Inv-loop μ-loop
 loop-less c = search needs
 
 loop-again : tie.Need-loop-again Inv-loop μ-loop
-loop-again c = let old = c .before .before .before .before .before .before .before .before .args .old .now in let new = c .before .before .before .before .before .before .before .before .args .new .now in let p = c .before .before .before .before .before .before .before .before .args .p in let q = c .before .before .before .before .loop .q in (omega arith, (omega (arith, from-length old new p q), omega (arith, count-more q (sendsTo old new p))))
+loop-again c =
+    let args = c .before .before .before .before .before .before .before .before .args in
+    let loop = c .before .before .before .before .loop in
+    let old = args .old .now in let new = args .new .now in let p = args .p in let q = loop .q in (omega arith, (omega (arith, from-length old new p q), omega (arith, count-more q (sendsTo old new p))))
 
 returns : tie.Need-returns Inv-loop μ-loop
 returns c = let e : c .before .loop .q ≡ ranks (c .before .before .before .before .before .args .old .now) = omega arith in rw (← e) (c .before .loop .inv .1)

@@ -29,10 +29,16 @@ from-size-requires : tie.Need-from-size-requires Inv-loop μ-loop
 from-size-requires c κs = record { tables = c .before .before .before .before .before .pre; rankBelow = omega arith }
 
 add-bytes : tie.Need-add-bytes Inv-loop μ-loop
-add-bytes c = let old = c .before .before .before .before .before .before .before .args .old .now in let new = c .before .before .before .before .before .before .before .args .new .now in let p = c .before .before .before .loop .p in omega (arith, text-length old new p, text-most old new (p + 1), moves-most old new (p + 1) (omega arith) (omega arith))
+add-bytes c =
+    let args = c .before .before .before .before .before .before .before .args in
+    let loop = c .before .before .before .loop in
+    let old = args .old .now in let new = args .new .now in let p = loop .p in omega (arith, text-length old new p, text-most old new (p + 1), moves-most old new (p + 1) (omega arith) (omega arith))
 
 add-moves : tie.Need-add-moves Inv-loop μ-loop
-add-moves c = let old = c .before .before .before .before .before .before .before .before .args .old .now in let new = c .before .before .before .before .before .before .before .before .args .new .now in let p = c .before .before .before .before .loop .p in omega (arith, sum-more p (λ i. countBelow (ranks old) (sendsTo old new i)), moves-most old new (p + 1) (omega arith) (omega arith))
+add-moves c =
+    let args = c .before .before .before .before .before .before .before .before .args in
+    let loop = c .before .before .before .before .loop in
+    let old = args .old .now in let new = args .new .now in let p = loop .p in omega (arith, sum-more p (λ i. countBelow (ranks old) (sendsTo old new i)), moves-most old new (p + 1) (omega arith) (omega arith))
 
 add-p : tie.Need-add-p Inv-loop μ-loop
 add-p c = search needs
@@ -41,7 +47,10 @@ loop-less : tie.Need-loop-less Inv-loop μ-loop
 loop-less c = search needs
 
 loop-again : tie.Need-loop-again Inv-loop μ-loop
-loop-again c = let old = c .before .before .before .before .before .before .before .before .args .old .now in let new = c .before .before .before .before .before .before .before .before .args .new .now in let p = c .before .before .before .before .loop .p in (omega arith, (omega (arith, text-length old new p), omega (arith, sum-more p (λ i. countBelow (ranks old) (sendsTo old new i)))))
+loop-again c =
+    let args = c .before .before .before .before .before .before .before .before .args in
+    let loop = c .before .before .before .before .loop in
+    let old = args .old .now in let new = args .new .now in let p = loop .p in (omega arith, (omega (arith, text-length old new p), omega (arith, sum-more p (λ i. countBelow (ranks old) (sendsTo old new i)))))
 
 returns : tie.Need-returns Inv-loop μ-loop
 unfolding moveCount

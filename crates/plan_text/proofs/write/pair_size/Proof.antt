@@ -15,7 +15,10 @@ cast-count : tie.Need-cast-count
 cast-count c = search needs
 
 returns : tie.Need-returns
-returns c = (sym (ap length (pair-none (c .before .before .before .before .before .before .pre) (c .before .before .before .sent .ensures .0) (c .before .before .before .sent .ensures .1) (c .if1 .taken))), rw (pair-unsent (c .before .before .before .before .before .before .pre) (c .before .before .before .sent .ensures .0) (c .before .before .before .sent .ensures .1) (c .if1 .taken)))
+returns c =
+    let pre = c .before .before .before .before .before .before .pre in
+    let sent = c .before .before .before .sent in
+    (sym (ap length (pair-none pre (sent .ensures .0) (sent .ensures .1) (c .if1 .taken))), rw (pair-unsent pre (sent .ensures .0) (sent .ensures .1) (c .if1 .taken)))
 
 add-row-length : tie.Need-add-row-length
 add-row-length c = search needs
@@ -24,10 +27,17 @@ sub-row-length : tie.Need-sub-row-length
 sub-row-length c = search needs
 
 row-length-requires : tie.Need-row-length-requires
-row-length-requires c κs = pair-small (c .before .before .before .before .before .before .pre) (c .before .before .before .sent .ensures .0) (c .before .before .before .sent .ensures .1) (c .if1 .left)
+row-length-requires c κs =
+    let pre = c .before .before .before .before .before .before .pre in
+    let sent = c .before .before .before .sent in
+    pair-small pre (sent .ensures .0) (sent .ensures .1) (c .if1 .left)
 
 returns-2 : tie.Need-returns-2
-returns-2 c = (c .row-length .ensures ∙ sym (ap length (pair-some (c .before .before .before .before .before .before .before .pre) (c .before .before .before .before .sent .ensures .0) (c .before .before .before .before .sent .ensures .1) (c .before .if1 .left))), rw (pair-sent (c .before .before .before .before .before .before .before .pre) (c .before .before .before .before .sent .ensures .0) (c .before .before .before .before .sent .ensures .1) (c .before .if1 .left)))
+returns-2 c =
+    let pre = c .before .before .before .before .before .before .before .pre in
+    let sent = c .before .before .before .before .sent in
+    let if1 = c .before .if1 in
+    (c .row-length .ensures ∙ sym (ap length (pair-some pre (sent .ensures .0) (sent .ensures .1) (if1 .left))), rw (pair-sent pre (sent .ensures .0) (sent .ensures .1) (if1 .left)))
 
 pub pair-size-spec : {M : Type 1} → statement M
 pair-size-spec =

@@ -24,7 +24,10 @@ unfolding movesFrom
 loop-holds c = (omega arith, (put-none _ _, refl))
 
 put-pair-requires : tie.Need-put-pair-requires Inv-loop μ-loop
-put-pair-requires c κs = from-fits (c .before .before .before .before .before .before .before .pre) (c .before .before .loop .q) (omega arith) (c .before .before .loop .inv .1 .0)
+put-pair-requires c κs =
+    let pre = c .before .before .before .before .before .before .before .pre in
+    let loop = c .before .before .loop in
+    from-fits pre (loop .q) (omega arith) (loop .inv .1 .0)
 
 add-q : tie.Need-add-q Inv-loop μ-loop
 add-q c = search needs
@@ -33,13 +36,20 @@ loop-less : tie.Need-loop-less Inv-loop μ-loop
 loop-less c = search needs
 
 loop-again : tie.Need-loop-again Inv-loop μ-loop
-loop-again c = (omega arith, (from-turn (c .before .before .before .before .before .before .before .before .before .before .pre) (c .before .before .before .before .before .loop .q) (omega arith) (c .before .before .before .before .before .loop .inv .1 .0) (c .before .before .put-pair .ensures), search needs))
+loop-again c =
+    let pre = c .before .before .before .before .before .before .before .before .before .before .pre in
+    let loop = c .before .before .before .before .before .loop in
+    let put-pair = c .before .before .put-pair in
+    (omega arith, (from-turn pre (loop .q) (omega arith) (loop .inv .1 .0) (put-pair .ensures), search needs))
 
 same-length : tie.Need-same-length Inv-loop μ-loop
 same-length c = search needs
 
 returns : tie.Need-returns Inv-loop μ-loop
-returns c = let e : c .before .loop .q ≡ ranks (c .before .before .before .before .before .before .args .old .now) = omega arith in rw (← e) (c .before .loop .inv .1 .0)
+returns c =
+    let loop = c .before .loop in
+    let args = c .before .before .before .before .before .before .args in
+    let e : loop .q ≡ ranks (args .old .now) = omega arith in rw (← e) (loop .inv .1 .0)
 
 pub put-from-spec : {M : Type 1} → statement M
 put-from-spec =

@@ -11,14 +11,21 @@ put-word-requires c κs = fits-first _ _ (c .before .before .before .pre .fits)
 
 put-number-requires : tie.Need-put-number-requires
 unfolding numberText lineText
-put-number-requires c κs = record { small = c .before .before .before .before .before .before .before .pre .small; fits = fits-next (c .before .before .before .put-word .ensures) _ (c .before .before .before .before .before .before .before .pre .fits) }
+put-number-requires c κs =
+    let pre = c .before .before .before .before .before .before .before .pre in
+    let put-word = c .before .before .before .put-word in
+    record { small = pre .small; fits = fits-next (put-word .ensures) _ (pre .fits) }
 
 same-length : tie.Need-same-length
 same-length c = search needs
 
 returns : tie.Need-returns
 unfolding numberText lineText
-returns c = put-then (c .before .before .before .before .before .before .put-word .ensures) _ (c .before .before .before .before .before .before .before .before .before .before .pre .fits) (c .before .before .put-number .ensures)
+returns c =
+    let put-word = c .before .before .before .before .before .before .put-word in
+    let pre = c .before .before .before .before .before .before .before .before .before .before .pre in
+    let put-number = c .before .before .put-number in
+    put-then (put-word .ensures) _ (pre .fits) (put-number .ensures)
 
 pub put-line-spec : {M : Type 1} → statement M
 put-line-spec = tie.close (tie.spec put-word-requires put-number-requires same-length returns)

@@ -24,7 +24,10 @@ unfolding movesText
 loop-holds c = (omega arith, (put-none _ _, refl))
 
 put-from-requires : tie.Need-put-from-requires Inv-loop μ-loop
-put-from-requires c κs = text-fits (c .before .before .before .before .before .before .before .pre) (c .before .before .loop .p) (omega arith) (c .before .before .loop .inv .1 .0)
+put-from-requires c κs =
+    let pre = c .before .before .before .before .before .before .before .pre in
+    let loop = c .before .before .loop in
+    text-fits pre (loop .p) (omega arith) (loop .inv .1 .0)
 
 add-p : tie.Need-add-p Inv-loop μ-loop
 add-p c = search needs
@@ -33,13 +36,20 @@ loop-less : tie.Need-loop-less Inv-loop μ-loop
 loop-less c = search needs
 
 loop-again : tie.Need-loop-again Inv-loop μ-loop
-loop-again c = (omega arith, (text-turn (c .before .before .before .before .before .before .before .before .before .before .pre) (c .before .before .before .before .before .loop .p) (omega arith) (c .before .before .before .before .before .loop .inv .1 .0) (c .before .before .put-from .ensures), search needs))
+loop-again c =
+    let pre = c .before .before .before .before .before .before .before .before .before .before .pre in
+    let loop = c .before .before .before .before .before .loop in
+    let put-from = c .before .before .put-from in
+    (omega arith, (text-turn pre (loop .p) (omega arith) (loop .inv .1 .0) (put-from .ensures), search needs))
 
 same-length : tie.Need-same-length Inv-loop μ-loop
 same-length c = search needs
 
 returns : tie.Need-returns Inv-loop μ-loop
-returns c = let e : c .before .loop .p ≡ ranks (c .before .before .before .before .before .before .args .old .now) = omega arith in rw (← e) (c .before .loop .inv .1 .0)
+returns c =
+    let loop = c .before .loop in
+    let args = c .before .before .before .before .before .before .args in
+    let e : loop .p ≡ ranks (args .old .now) = omega arith in rw (← e) (loop .inv .1 .0)
 
 pub put-moves-spec : {M : Type 1} → statement M
 put-moves-spec =

@@ -17,7 +17,11 @@ same-length c = search needs
 
 returns : tie.Need-returns
 unfolding numberText
-returns c = put-then (c .before .before .before .before .before .before .put-decimal .ensures) _ (c .before .before .before .before .before .before .before .before .before .pre .fits) (c .before .before .put-byte .ensures)
+returns c =
+    let put-decimal = c .before .before .before .before .before .before .put-decimal in
+    let pre = c .before .before .before .before .before .before .before .before .before .pre in
+    let put-byte = c .before .before .put-byte in
+    put-then (put-decimal .ensures) _ (pre .fits) (put-byte .ensures)
 
 pub put-number-spec : {M : Type 1} → statement M
 put-number-spec = tie.close (tie.spec put-decimal-requires put-byte-requires same-length returns)

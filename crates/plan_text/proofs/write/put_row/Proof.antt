@@ -14,19 +14,41 @@ put-number-requires : tie.Need-put-number-requires
 put-number-requires c κs = row-sender (c .before .before .before .before .before .before .before .pre) (c .before .before .before .put-word .ensures)
 
 put-number-requires-2 : tie.Need-put-number-requires-2
-put-number-requires-2 c κs = row-receiver (c .before .before .before .before .before .before .before .before .before .before .before .pre) (c .before .before .before .before .before .before .before .put-word .ensures) (c .before .before .before .put-number .ensures)
+put-number-requires-2 c κs =
+    let pre = c .before .before .before .before .before .before .before .before .before .before .before .pre in
+    let put-word = c .before .before .before .before .before .before .before .put-word in
+    let put-number = c .before .before .before .put-number in
+    row-receiver pre (put-word .ensures) (put-number .ensures)
 
 put-number-requires-3 : tie.Need-put-number-requires-3
-put-number-requires-3 c κs = row-first (c .before .before .before .before .before .before .before .before .before .before .before .before .before .before .before .pre) (c .before .before .before .before .before .before .before .before .before .before .before .put-word .ensures) (c .before .before .before .before .before .before .before .put-number .ensures) (c .before .before .before .put-number2 .ensures)
+put-number-requires-3 c κs =
+    let pre = c .before .before .before .before .before .before .before .before .before .before .before .before .before .before .before .pre in
+    let put-word = c .before .before .before .before .before .before .before .before .before .before .before .put-word in
+    let put-number = c .before .before .before .before .before .before .before .put-number in
+    let put-number2 = c .before .before .before .put-number2 in
+    row-first pre (put-word .ensures) (put-number .ensures) (put-number2 .ensures)
 
 put-number-requires-4 : tie.Need-put-number-requires-4
-put-number-requires-4 c κs = row-last (c .before .before .before .before .before .before .before .before .before .before .before .before .before .before .before .before .before .before .before .pre) (c .before .before .before .before .before .before .before .before .before .before .before .before .before .before .before .put-word .ensures) (c .before .before .before .before .before .before .before .before .before .before .before .put-number .ensures) (c .before .before .before .before .before .before .before .put-number2 .ensures) (c .before .before .before .put-number3 .ensures)
+put-number-requires-4 c κs =
+    let pre = c .before .before .before .before .before .before .before .before .before .before .before .before .before .before .before .before .before .before .before .pre in
+    let put-word = c .before .before .before .before .before .before .before .before .before .before .before .before .before .before .before .put-word in
+    let put-number = c .before .before .before .before .before .before .before .before .before .before .before .put-number in
+    let put-number2 = c .before .before .before .before .before .before .before .put-number2 in
+    let put-number3 = c .before .before .before .put-number3 in
+    row-last pre (put-word .ensures) (put-number .ensures) (put-number2 .ensures) (put-number3 .ensures)
 
 same-length : tie.Need-same-length
 same-length c = search needs
 
 returns : tie.Need-returns
-returns c = row-done (c .before .before .before .before .before .before .before .before .before .before .before .before .before .before .before .before .before .before .before .before .before .before .pre) (c .before .before .before .before .before .before .before .before .before .before .before .before .before .before .before .before .before .before .put-word .ensures) (c .before .before .before .before .before .before .before .before .before .before .before .before .before .before .put-number .ensures) (c .before .before .before .before .before .before .before .before .before .before .put-number2 .ensures) (c .before .before .before .before .before .before .put-number3 .ensures) (c .before .before .put-number4 .ensures)
+returns c =
+    let pre = c .before .before .before .before .before .before .before .before .before .before .before .before .before .before .before .before .before .before .before .before .before .before .pre in
+    let put-word = c .before .before .before .before .before .before .before .before .before .before .before .before .before .before .before .before .before .before .put-word in
+    let put-number = c .before .before .before .before .before .before .before .before .before .before .before .before .before .before .put-number in
+    let put-number2 = c .before .before .before .before .before .before .before .before .before .before .put-number2 in
+    let put-number3 = c .before .before .before .before .before .before .put-number3 in
+    let put-number4 = c .before .before .put-number4 in
+    row-done pre (put-word .ensures) (put-number .ensures) (put-number2 .ensures) (put-number3 .ensures) (put-number4 .ensures)
 
 pub put-row-spec : {M : Type 1} → statement M
 put-row-spec =

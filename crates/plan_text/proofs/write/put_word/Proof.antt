@@ -22,7 +22,12 @@ shared-slice-read-put-byte : tie.Need-shared-slice-read-put-byte Inv-loop μ-loo
 shared-slice-read-put-byte c = search needs
 
 put-byte-requires : tie.Need-put-byte-requires Inv-loop μ-loop
-put-byte-requires c κs = let w = c .before .before .before .before .before .before .args .word .now in fits-turn (length w) (λ i. take i w) _ (word-more w) (c .before .before .before .loop .i) (c .before .before .loop-test .taken) (fits-as (sym (take-length w)) (c .before .before .before .before .before .before .pre)) (c .before .before .before .loop .inv .1 .0)
+put-byte-requires c κs =
+    let args = c .before .before .before .before .before .before .args in
+    let loop = c .before .before .before .loop in
+    let loop-test = c .before .before .loop-test in
+    let pre = c .before .before .before .before .before .before .pre in
+    let w = args .word .now in fits-turn (length w) (λ i. take i w) _ (word-more w) (loop .i) (loop-test .taken) (fits-as (sym (take-length w)) pre) (loop .inv .1 .0)
 
 add-i : tie.Need-add-i Inv-loop μ-loop
 add-i c = search needs
@@ -31,7 +36,13 @@ loop-less : tie.Need-loop-less Inv-loop μ-loop
 loop-less c = search needs
 
 loop-again : tie.Need-loop-again Inv-loop μ-loop
-loop-again c = let w = c .before .before .before .before .before .before .before .before .before .args .word .now in (omega arith, (put-turn (length w) (λ i. take i w) _ (word-more w) (c .before .before .before .before .before .before .loop .i) (c .before .before .before .before .before .loop-test .taken) (fits-as (sym (take-length w)) (c .before .before .before .before .before .before .before .before .before .pre)) (c .before .before .before .before .before .before .loop .inv .1 .0) (c .before .before .put-byte .ensures), search needs))
+loop-again c =
+    let args = c .before .before .before .before .before .before .before .before .before .args in
+    let loop = c .before .before .before .before .before .before .loop in
+    let loop-test = c .before .before .before .before .before .loop-test in
+    let pre = c .before .before .before .before .before .before .before .before .before .pre in
+    let put-byte = c .before .before .put-byte in
+    let w = args .word .now in (omega arith, (put-turn (length w) (λ i. take i w) _ (word-more w) (loop .i) (loop-test .taken) (fits-as (sym (take-length w)) pre) (loop .inv .1 .0) (put-byte .ensures), search needs))
 
 same-length : tie.Need-same-length Inv-loop μ-loop
 same-length c = search needs

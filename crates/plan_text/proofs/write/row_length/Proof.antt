@@ -29,7 +29,9 @@ add-result-4 : tie.Need-add-result-4
 add-result-4 c = search needs
 
 returns : tie.Need-returns
-returns c = omega (arith, row-length (c .before .before .before .before .args .p) (c .before .before .before .before .args .q) (c .before .before .before .before .args .first) (c .before .before .before .before .args .last))
+returns c =
+    let args = c .before .before .before .before .args in
+    omega (arith, row-length (args .p) (args .q) (args .first) (args .last))
 
 pub row-length-spec : {M : Type 1} → statement M
 row-length-spec =

@@ -23,7 +23,13 @@ row-requires-6 c κs = search needs
 
 returns : tie.Need-returns
 unfolding rowsOf
-returns c = rw (c .before .before .before .before .before .row .ensures, c .before .before .before .before .row2 .ensures, c .before .before .before .row3 .ensures, c .before .before .row4 .ensures, c .before .row5 .ensures, c .row6 .ensures)
+returns c =
+    let row = c .before .before .before .before .before .row in
+    let row2 = c .before .before .before .before .row2 in
+    let row3 = c .before .before .before .row3 in
+    let row4 = c .before .before .row4 in
+    let row5 = c .before .row5 in
+    rw (row .ensures, row2 .ensures, row3 .ensures, row4 .ensures, row5 .ensures, c .row6 .ensures)
 
 pub rows-of-spec : {M : Type 1} → statement M
 rows-of-spec =

@@ -1,0 +1,54 @@
+use Rattle.records.proofs.Forms.{zeros-at}
+use mathlib.Core.Path.{sym}
+use borrow.Author.Needs.{needs}
+use Rattle.records.proofs.form.zeros_ok.Statement.{statement}
+use Rattle.records.proofs.form.zeros_ok.Tie as tie
+
+add-result : tie.Need-add-result
+add-result c = search needs
+
+shared-slice-read-result : tie.Need-shared-slice-read-result
+shared-slice-read-result c = search needs
+
+add-result-2 : tie.Need-add-result-2
+add-result-2 c = search needs
+
+shared-slice-read-result-2 : tie.Need-shared-slice-read-result-2
+shared-slice-read-result-2 c = search needs
+
+add-result-3 : tie.Need-add-result-3
+add-result-3 c = search needs
+
+shared-slice-read-result-3 : tie.Need-shared-slice-read-result-3
+shared-slice-read-result-3 c = search needs
+
+add-result-4 : tie.Need-add-result-4
+add-result-4 c = search needs
+
+shared-slice-read-result-4 : tie.Need-shared-slice-read-result-4
+shared-slice-read-result-4 c = search needs
+
+add-result-5 : tie.Need-add-result-5
+add-result-5 c = search needs
+
+shared-slice-read-result-5 : tie.Need-shared-slice-read-result-5
+shared-slice-read-result-5 c = search needs
+
+returns : tie.Need-returns
+returns c = sym (zeros-at _ _)
+
+pub zeros-ok-spec : {M : Type 1} → statement M
+zeros-ok-spec =
+    tie.close
+    (tie.spec
+    add-result
+    shared-slice-read-result
+    add-result-2
+    shared-slice-read-result-2
+    add-result-3
+    shared-slice-read-result-3
+    add-result-4
+    shared-slice-read-result-4
+    add-result-5
+    shared-slice-read-result-5
+    returns)

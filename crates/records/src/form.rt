@@ -1,0 +1,75 @@
+// Whether a record is in form.
+use crate::read::code_of;
+use crate::read::face_of;
+use crate::read::neighbour_of;
+use crate::read::orientation_of;
+use crate::read::shape_of;
+use crate::shape::face_count;
+use crate::shape::shape_ok;
+ghost use mathlib.Core.Path.{_≡_};
+ghost use Prim.Native.Nat.{_+_, _≤_, _<_};
+ghost use lib.ListN.{length};
+ghost use Rattle.encoding.specs.Pieces.{piece};
+ghost use Rattle.records.specs.Record.{coreSize, zerosOk, unusedOk, boundaryOk, inForm};
+ghost use Rattle.records.specs.Means.{faceForm};
+
+// The neighbour of a face without use.
+pub const UNUSED: u32 = 4294967295;
+
+// Whether the zero bytes are zero.
+fn zeros_ok(bs: &[u8], at: usize) -> bool
+    requires { ⌜ at + coreSize ≤ length (now bs) ⌝ }
+    ensures { λ r. ⌜ r ≡ zerosOk (piece (now (bs .entry)) at coreSize) ⌝ }
+{
+    (bs[at + 5] == 0)
+        & (bs[at + 6] == 0)
+        & (bs[at + 7] == 0)
+        & ((bs[at + 38] == 0) & (bs[at + 39] == 0))
+}
+
+// Whether a face that the shape has is no boundary, or one with orientation 0.
+fn boundary_ok(bs: &[u8], at: usize, own: u32, face: u32) -> bool
+    requires { ⌜ (at + coreSize ≤ length (now bs)) × (face < 6) ⌝ }
+    ensures { λ r. ⌜ r ≡ boundaryOk own (piece (now (bs .entry)) at coreSize) face ⌝ }
+{
+    if neighbour_of(bs, at, face) != own {
+        return true;
+    }
+    if face_of(bs, at, face) != face {
+        return true;
+    }
+    orientation_of(bs, at, face) == 0
+}
+
+// Whether a face that the shape doesn't have is marked so.
+fn unused_ok(bs: &[u8], at: usize, face: u32) -> bool
+    requires { ⌜ (at + coreSize ≤ length (now bs)) × (face < 6) ⌝ }
+    ensures { λ r. ⌜ r ≡ unusedOk (piece (now (bs .entry)) at coreSize) face ⌝ }
+{
+    (neighbour_of(bs, at, face) == UNUSED) & (code_of(bs, at, face) == 0)
+}
+
+fn face_ok(bs: &[u8], at: usize, own: u32, face: u32) -> bool
+    requires { ⌜ (at + coreSize ≤ length (now bs)) × (face < 6) ⌝ }
+    ensures { λ r. ⌜ r ≡ faceForm own (piece (now (bs .entry)) at coreSize) face ⌝ }
+{
+    if face < face_count(shape_of(bs, at)) {
+        return boundary_ok(bs, at, own, face);
+    }
+    unused_ok(bs, at, face)
+}
+
+// Whether the record is in form. Its own number is the local index in a part's tree records and the global number everywhere else.
+pub fn in_form(bs: &[u8], at: usize, own: u32) -> bool
+    requires { ⌜ at + coreSize ≤ length (now bs) ⌝ }
+    ensures { λ r. ⌜ r ≡ inForm own (piece (now (bs .entry)) at coreSize) ⌝ }
+{
+    shape_ok(shape_of(bs, at))
+        & zeros_ok(bs, at)
+        & (face_ok(bs, at, own, 0)
+            & face_ok(bs, at, own, 1)
+            & face_ok(bs, at, own, 2)
+            & face_ok(bs, at, own, 3)
+            & face_ok(bs, at, own, 4)
+            & face_ok(bs, at, own, 5))
+}

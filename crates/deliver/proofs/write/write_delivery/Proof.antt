@@ -47,9 +47,7 @@ add-write-u32 c =
     omega (arith, places .ensures .few)
 
 write-u32-requires : tie.Need-write-u32-requires
-write-u32-requires c κs =
-    let places = c .before .before .before .before .before .before .before .before .before .before .before .before .before .before .before .before .before .before .before .places in
-    omega (arith, places .ensures .header-room)
+write-u32-requires c κs = omega (arith, c .before .before .before .before .before .before .before .before .before .before .before .before .before .before .before .before .before .before .before .places .ensures .header-room)
 
 same-length : tie.Need-same-length
 same-length c = search needs

@@ -45,7 +45,7 @@ pub fn orientation_ok(bs: &[u8], at: usize, face: u32) -> bool
     ensures { λ r. ⌜ r ≡ orientationOk (piece (now (bs .entry)) at coreSize) face ⌝ }
 {
     records::read::orientation_of(bs, at, face)
-        < records::shape::corners(records::read::shape_of(bs, at), face)
+        < records::corners(records::read::shape_of(bs, at), face)
 }
 
 // Both faces have as many corners; the neighbour's record is at `to`.
@@ -53,8 +53,8 @@ pub fn same_corners(bs: &[u8], at: usize, face: u32, to: usize) -> bool
     requires { ⌜ (at + coreSize ≤ length (now bs)) × (face < 6) × (to + coreSize ≤ length (now bs)) ⌝ }
     ensures { λ r. ⌜ r ≡ sameCorners (piece (now (bs .entry)) at coreSize) face (piece (now (bs .entry)) to coreSize) ⌝ }
 {
-    let own = records::shape::corners(records::read::shape_of(bs, at), face);
-    let there = records::shape::corners(
+    let own = records::corners(records::read::shape_of(bs, at), face);
+    let there = records::corners(
         records::read::shape_of(bs, to),
         records::read::face_of(bs, at, face),
     );

@@ -1,11 +1,12 @@
 -- Laws of shapes.
-use Prim.Native.Nat.{ℕ, zero, suc, _≤_, _<_}
+use Prim.Native.Nat.{ℕ, zero, suc, _+_, _-_, _/_, _%_, _≤_, _<_}
 use native.Mathlib.Omega.{arith}
-use mathlib.Core.Path.{_≡_, refl}
+use mathlib.Core.Path.{_≡_, refl, sym, _∙_}
 use mathlib.Core.Bool.{Bool, true, false, cond, _||_}
 use lib.Dec.{eqb, leb, ltb, lit≤}
-use borrow.Author.Tests.{ne-eqb, lt-leb, le-ltb}
+use borrow.Author.Tests.{ne-eqb, lt-leb, lt-ltb, le-ltb}
 use Rattle.encoding.proofs.Below.{either}
+use Rattle.records.specs.Means.{baseCorners, cornersFormula}
 use Rattle.records.specs.Shape.{shapeOk, dimensionOf, faceCount, facesIn, cornersOf, corners}
 
 -- what holds of each of the six shapes and of every other number holds of all
@@ -72,3 +73,37 @@ corners-four s f =
 pub corners-none : (s f : ℕ) → faceCount s ≤ f → corners s f ≡ 0
 unfolding corners
 corners-none s f h = rw (le-ltb f (faceCount s) h)
+
+-- ---- the corners by a formula
+
+none-either : (a b : Bool) → _≡_ {A = ℕ} (cond a 0 (cond b 0 0)) 0
+none-either true b = refl
+none-either false true = refl
+none-either false false = refl
+
+-- no face from the sixth on
+formula-none : (s f : ℕ) → 5 < f → cornersFormula s f ≡ 0
+unfolding cornersFormula baseCorners
+formula-none s f h =
+    rw (le-ltb f (4 - s) (omega arith), le-ltb f (3 + s % 3 / 2) (omega arith), le-ltb f (3 + s % 3 / 2 + (2 - s % 2)) (omega arith)) (none-either (ltb 5 s) (leb s 1))
+
+-- six faces by computation, and all others
+by-face : (s : ℕ) → cornersFormula s 0 ≡ corners s 0 → cornersFormula s 1 ≡ corners s 1 → cornersFormula s 2 ≡ corners s 2 → cornersFormula s 3 ≡ corners s 3 → cornersFormula s 4 ≡ corners s 4 → cornersFormula s 5 ≡ corners s 5
+    → (f : ℕ) → cornersFormula s f ≡ corners s f
+by-face s a b c d e g = shapes (λ f. cornersFormula s f ≡ corners s f) a b c d e g (λ f h. formula-none s f h ∙ sym (corners-none s f (omega (arith, count-six s))))
+
+-- the formula gives document 01's corners, for every number of a shape and of a face
+pub corners-formula : (s f : ℕ) → cornersFormula s f ≡ corners s f
+unfolding cornersFormula baseCorners corners cornersOf faceCount
+corners-formula =
+    shapes (λ s. (f : ℕ) → cornersFormula s f ≡ corners s f)
+    (by-face 0 refl refl refl refl refl refl)
+    (by-face 1 refl refl refl refl refl refl)
+    (by-face 2 refl refl refl refl refl refl)
+    (by-face 3 refl refl refl refl refl refl)
+    (by-face 4 refl refl refl refl refl refl)
+    (by-face 5 refl refl refl refl refl refl)
+    (λ s h f. rw (lt-ltb 5 s h, corners-none s f (omega (arith, count-none s h))))
+
+pub by-formula : {r : ℕ} (s f : ℕ) → r ≡ cornersFormula s f → r ≡ corners s f
+by-formula s f e = e ∙ corners-formula s f

@@ -1,11 +1,23 @@
--- Means, no part of what is promised: what one inner test of the form check gives.
-use Prim.Native.Nat.{ℕ}
+-- Means, no part of what is promised: what one inner test of the form check gives, and the corners as the code works them out.
+use Prim.Native.Nat.{ℕ, _+_, _-_, _/_, _%_}
 use mathlib.Core.Bool.{Bool, cond}
 use mathlib.Core.List.{List}
-use lib.Dec.{ltb}
+use lib.Dec.{leb, ltb}
 use Rattle.records.specs.Shape.{faceCount}
 use Rattle.records.specs.Record.{shapeOf, boundaryOk, unusedOk}
 
 -- one face of a record in form, of those that the shape has or not
 unfoldable pub faceForm : ℕ → List ℕ → ℕ → Bool
 faceForm own r f = cond (ltb f (faceCount (shapeOf r))) (boundaryOk own r f) (unusedOk r f)
+
+-- the corners of the polygon that a solid is drawn out from
+unfoldable pub baseCorners : ℕ → ℕ
+baseCorners s = 3 + s % 3 / 2
+
+-- the corners of a face by a formula. In dimension 2 a shape has 4 - s faces; a solid has a face for each side of its base, with 4 corners, or 3 where it is drawn out to a point (s odd), and then its base, once or twice.
+unfoldable pub cornersFormula : ℕ → ℕ → ℕ
+cornersFormula s f =
+    cond (ltb 5 s) 0
+    (cond (leb s 1) (cond (ltb f (4 - s)) 2 0)
+    (cond (ltb f (baseCorners s)) (4 - s % 2)
+    (cond (ltb f (baseCorners s + (2 - s % 2))) (baseCorners s) 0)))

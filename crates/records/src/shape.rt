@@ -1,7 +1,7 @@
 // Shapes, their dimensions, faces and corners.
 ghost use mathlib.Core.Path.{_≡_};
 ghost use Prim.Native.Nat.{_≤_, _<_};
-ghost use Rattle.records.specs.Shape.{shapeOk, dimensionOf, faceCount, facesIn, cornersOf, corners as cornersAt};
+ghost use Rattle.records.specs.Shape.{shapeOk, dimensionOf, faceCount, facesIn};
 
 pub fn shape_ok(shape: u32) -> bool
     ensures { λ r. ⌜ r ≡ shapeOk shape ⌝ }
@@ -43,38 +43,4 @@ pub fn faces_in(dimension: u32) -> u32
         return 4;
     }
     6
-}
-
-fn corners_of(shape: u32, face: u32) -> u32
-    ensures { λ r. ⌜ r ≡ cornersOf shape face ⌝ }
-{
-    if shape <= 1 {
-        return 2;
-    }
-    if shape == 2 {
-        return 4;
-    }
-    if shape == 3 {
-        return 3;
-    }
-    if shape == 4 {
-        if face <= 2 {
-            return 4;
-        }
-        return 3;
-    }
-    if face <= 3 {
-        return 3;
-    }
-    4
-}
-
-// The corners of any face of any shape, 0 for one that isn't there.
-pub fn corners(shape: u32, face: u32) -> u32
-    ensures { λ r. ⌜ r ≡ cornersAt shape face ⌝ }
-{
-    if face < face_count(shape) {
-        return corners_of(shape, face);
-    }
-    0
 }

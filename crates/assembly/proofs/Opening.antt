@@ -26,7 +26,7 @@ use Rattle.pattern.proofs.Answers.{tables-agree}
 use Rattle.records.specs.Record.{coreSize, treeSize}
 use Rattle.records.specs.Shape.{facesIn}
 use Rattle.mesh.specs.Mesh.{dimensionOk}
-use Rattle.part.proofs.Writing.{words-none, words-next}
+use Rattle.part_cut.proofs.Writing.{words-none, words-next}
 use Rattle.assembly.specs.Layout.{heardWords, ghostBound, newPlace, wordsPlace, slotsPlace, ghostSlotsPlace, areaSize, areaHeaderBytes, wordOf, wordsOf, slotsOf, areaWith}
 use Rattle.assembly.specs.Open.{freshArea}
 use Rattle.assembly.specs.Calls.{openChecks, areaLengthOf, openAreaOf}

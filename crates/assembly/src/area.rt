@@ -94,7 +94,7 @@ pub fn header_sound(area: &[u8]) -> bool
     if area.len() < 32 {
         return false;
     }
-    if !mesh::inner::dimension_ok(dimension(area)) {
+    if !mesh::layout::dimension_ok(dimension(area)) {
         return false;
     }
     let ranks = ranks(area);

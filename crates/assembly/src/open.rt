@@ -27,7 +27,7 @@ pub fn refusal(old: &[u8], new: &[u8], rank: u32, dimension: u32) -> u32
     if offsets::inner::ranks(old) <= rank as usize {
         return 5;
     }
-    if !mesh::inner::dimension_ok(dimension) {
+    if !mesh::layout::dimension_ok(dimension) {
         return 5;
     }
     0

@@ -22,10 +22,11 @@ use Rattle.records.proofs.Forms.{at-piece, number-at, form-unused, unused-neigh
 use Rattle.records.proofs.Shapes.{faces-positive, faces-six}
 use Rattle.part.specs.Layout.{partHeader, headerBytes}
 use Rattle.part.specs.Cut.{renamed, renameRow}
-use Rattle.part.specs.Mirror.{inRange, numberAt, smaller, Held, localRead}
+use Rattle.part.specs.Means.{inRange, numberAt, smaller}
+use Rattle.part_cut.specs.Means.{Held, localRead}
 use Rattle.part.specs.View.{isLocal, ghostIs, held}
-use Rattle.part.proofs.Cutting.{header-length}
-use Rattle.part_laws.proofs.Views.{TreeView, view-trees, core-tree, tree-link-held}
+use Rattle.part.proofs.Records.{header-length}
+use Rattle.part_theorems.proofs.Views.{TreeView, view-trees, core-tree, tree-link-held}
 use Rattle.assembly.specs.Layout.{ghostBound, slotsPlace, ghostSlotsPlace, slotsOf}
 use Rattle.assembly.specs.Area.{areaDimension, areaK, areaP, areaRank, areaCount, areaGhosts, areaNew, areaFirst, treeSlot, treeSlotCore, ghostSlot, areaBound, areaSound}
 use Rattle.assembly.specs.Close.{joinSound, joinIndex, joinedPart}

@@ -29,14 +29,13 @@ use Rattle.records.proofs.Rows.{splice-inside}
 use Rattle.records.proofs.Shapes.{count-six, faces-positive}
 use Rattle.part.specs.Layout.{partHeader, treePlace, ghostPlace, partSize, headerBytes}
 use Rattle.part.specs.Cut.{renamed, renameRow}
-use Rattle.part.specs.Mirror.{inRange}
+use Rattle.part.specs.Means.{inRange}
 use Rattle.part.specs.Part.{noTree, partDimension, partK, partFirst, partCount, partGhostCount, storedTree, storedGhost, globalIndex, globalTree, partHeaderSound, partSound}
 use Rattle.part.specs.View.{isLocal, ghostIs, held, viewSound}
-use Rattle.part.proofs.Cutting.{links-length, header-length}
-use Rattle.part.proofs.Trees.{rows-core}
-use Rattle.part_laws.proofs.Renamed.{renamed-length, renamed-number, renamed-shape, renamed-neighbour, renamed-back}
-use Rattle.part_laws.proofs.SoundParts.{part-view}
-use Rattle.part_laws.proofs.Views.{view-trees, view-ghosts, view-same, core-tree, held-cases, tree-link-held}
+use Rattle.part.proofs.Records.{links-length, header-length, rows-core}
+use Rattle.part_theorems.proofs.Renamed.{renamed-length, renamed-number, renamed-shape, renamed-neighbour, renamed-back}
+use Rattle.part_theorems.proofs.SoundParts.{part-view}
+use Rattle.part_theorems.proofs.Views.{view-trees, view-ghosts, view-same, core-tree, held-cases, tree-link-held}
 use Rattle.assembly.specs.Layout.{slotsPlace, slotsOf}
 use Rattle.assembly.specs.Area.{areaDimension, areaK, areaP, areaRank, areaCount, areaGhosts, areaOld, areaNew, areaFirst, heard, treeSlot, treeSlotCore, ghostSlot, areaSound}
 use Rattle.assembly.specs.Close.{allHeard, joinSound, joinIndex, joinedPart}

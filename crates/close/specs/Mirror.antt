@@ -8,7 +8,7 @@ use Rattle.encoding.specs.Pieces.{piece}
 use Rattle.records.specs.Record.{coreSize, treeSize}
 use Rattle.part.specs.Layout.{partHeader, partSize}
 use Rattle.part.specs.Cut.{renamed}
-use Rattle.part.specs.Mirror.{Held}
+use Rattle.part_cut.specs.Means.{Held}
 use Rattle.assembly.specs.Area.{areaCount, areaGhosts, areaSound}
 use Rattle.assembly.specs.Close.{joinSound}
 

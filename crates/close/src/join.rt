@@ -18,7 +18,7 @@ ghost use Rattle.offsets.specs.Limits.{maxTrees};
 ghost use Rattle.records.specs.Record.{coreSize, treeSize};
 ghost use Rattle.part.specs.Layout.{partHeader};
 ghost use Rattle.part.specs.Cut.{renamed};
-ghost use Rattle.part.specs.Mirror.{localRead};
+ghost use Rattle.part_cut.specs.Means.{localRead};
 ghost use Rattle.assembly.specs.Layout.{slotsOf};
 ghost use Rattle.assembly.specs.Area.{areaCount, areaFirst};
 ghost use Rattle.assembly.specs.Close.{joinedPart};
@@ -64,7 +64,7 @@ fn write_tree(
     ensures { λ u. ⌜ now (out .exit) ≡ splice (now (out .entry)) to (renamed (localRead (now (area .entry)) at count first end) faces (piece (now (area .entry)) from treeSize)) ⌝ }
 {
     let rows = records::links::rows_of(area, from, faces);
-    let local = part::cut::rename_rows(area, at, count, first, end, rows);
+    let local = part_cut::rename::rename_rows(area, at, count, first, end, rows);
     encoding::record::copy64(area, from, &mut *out, to);
     records::links::put_rows(&mut *out, to, local, faces);
 }

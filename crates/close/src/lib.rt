@@ -14,7 +14,7 @@ pub fn close_area(area: &[u8], out: &mut [u8]) -> Length
         return Length { refusal, length: 0 };
     }
     let count = assembly::area::count(area);
-    let n = part::sound::ghost_at(count, assembly::area::ghosts(area));
+    let n = part::layout::ghost_at(count, assembly::area::ghosts(area));
     if out.len() < n {
         return Length {
             refusal: 22,

@@ -18,7 +18,7 @@ use Rattle.records.specs.Record.{coreSize, treeSize}
 use Rattle.records.specs.Shape.{facesIn}
 use Rattle.part.specs.Cut.{renamed}
 use Rattle.part.specs.Layout.{partSize}
-use Rattle.part.proofs.Cutting.{rows-length, header-length}
+use Rattle.part.proofs.Records.{rows-length, header-length}
 use Rattle.assembly.specs.Layout.{slotsPlace}
 use Rattle.assembly.specs.Area.{areaDimension, areaP, areaRank, areaCount, areaGhosts, areaOld, areaNew, heard, treeSlot, ghostSlot, areaSound}
 use Rattle.assembly.specs.Close.{allHeard, joinSound, joinIndex, joinedPart, closeChecks, closeLengthOf}

@@ -19,7 +19,8 @@ use Rattle.records.specs.Shape.{faceCount}
 use Rattle.records.specs.Record.{numberOf, shapeOf, inForm}
 use Rattle.records.proofs.Forms.{form-shape}
 use Rattle.part.specs.View.{isLocal, treeLink, ghostLink, localSound, ghostAfter, ghostBeside, ghostSound, viewSound}
-use Rattle.part.specs.Mirror.{inRange, neighbourIn, linkBetween, linkQuick}
+use Rattle.part.specs.Means.{inRange, neighbourIn, linkQuick}
+use Rattle.mesh.specs.Means.{linkBetween}
 use Rattle.assembly.specs.Layout.{slotsPlace, ghostSlotsPlace}
 use Rattle.assembly.specs.Area.{areaDimension, areaK, areaP, areaRank, areaCount, areaGhosts, areaOld, areaNew, areaFirst, heard, treeSlotCore, ghostSlot, dueHeard, treeSlotSound, areaSound}
 use Rattle.assembly.specs.Close.{allHeard, joinSound}

@@ -14,8 +14,9 @@ use Rattle.records.specs.Shape.{dimensionOf, faceCount}
 use Rattle.records.specs.Record.{coreSize, treeSize, numberOf, shapeOf, neighbourOf}
 use Rattle.mesh.specs.Link.{orientationOk, linkOk}
 use Rattle.part.specs.View.{isLocal, ghostIs, held, heldCore, treeLink, ghostLink}
-use Rattle.part.specs.Mirror.{inRange, neighbourIn, linkBetween, linkQuick}
-use Rattle.part_laws.proofs.Views.{core-tree}
+use Rattle.part.specs.Means.{inRange, neighbourIn, linkQuick}
+use Rattle.mesh.specs.Means.{linkBetween}
+use Rattle.part_theorems.proofs.Views.{core-tree}
 use Rattle.close_checks.specs.Mirror.{treeFrom, ghostFrom, Slots, placeOf, treeTo, linkOfTree, ghostTo, linkOfGhost, treeJoins, ghostJoins}
 use Rattle.close_checks.proofs.Places.{Found, place-found, place-none}
 

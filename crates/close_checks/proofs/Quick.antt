@@ -12,7 +12,8 @@ use Rattle.records.specs.Shape.{shapeOk, dimensionOf, faceCount}
 use Rattle.records.specs.Record.{numberOf, shapeOf, neighbourOf}
 use Rattle.mesh.proofs.Quick.{link-quick}
 use Rattle.part.specs.View.{isLocal, ghostIs, held, heldCore}
-use Rattle.part.specs.Mirror.{neighbourIn, linkBetween, linkQuick}
+use Rattle.part.specs.Means.{neighbourIn, linkQuick}
+use Rattle.mesh.specs.Means.{linkBetween}
 use Rattle.close_checks.specs.Mirror.{treeFrom, ghostFrom, treeTo, linkOfTree, ghostTo, linkOfGhost, treeJoins, ghostJoins, recordsJoin}
 
 module _ (D : ℕ) where

@@ -13,7 +13,7 @@ use Rattle.records.specs.Shape.{dimensionOf, faceCount}
 use Rattle.records.specs.Record.{coreSize, treeSize, numberOf, shapeOf, neighbourOf}
 use Rattle.mesh.specs.Link.{orientationOk}
 use Rattle.part.specs.View.{held, heldCore}
-use Rattle.part.specs.Mirror.{inRange, neighbourIn, ghostHas}
+use Rattle.part.specs.Means.{inRange, neighbourIn, ghostHas}
 use Rattle.assembly.specs.Area.{areaRank, areaOld, areaNew, heard, areaSound}
 use Rattle.assembly.specs.Close.{allHeard}
 use Rattle.assembly.specs.Mirror.{HeaderHolds}

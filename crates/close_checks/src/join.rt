@@ -1,7 +1,7 @@
 // Whether the records in an area's slots make a sound part. Trees and ghosts have global numbers here, and links are followed by these.
-use part::cut::find_ghost;
-use part::inner::beside;
-use part::inner::in_range;
+use part::range::beside;
+use part::range::find_ghost;
+use part::range::in_range;
 use records::index::GlobalIndex;
 use records::index::LocalIndex;
 use records::index::to_local;
@@ -13,7 +13,7 @@ ghost use lib.ListN.{length};
 ghost use Rattle.encoding.specs.Below.{allBelow};
 ghost use Rattle.encoding.specs.Pieces.{piece};
 ghost use Rattle.records.specs.Record.{coreSize};
-ghost use Rattle.part.specs.Mirror.{inRange, ghostHas, linkQuick};
+ghost use Rattle.part.specs.Means.{inRange, ghostHas, linkQuick};
 ghost use Rattle.assembly.specs.Close.{joinSound};
 ghost use Rattle.close_checks.specs.Mirror.{ghostFrom, Slots, placeOf, linkOfTree, linkOfGhost, treeJoins, ghostJoins, recordsJoin, Complete};
 
@@ -154,8 +154,8 @@ fn link_ok(
     requires { ⌜ (from + coreSize ≤ length (now area)) × (face < 6) × (to + coreSize ≤ length (now area)) ⌝ }
     ensures { λ r. ⌜ r ≡ linkQuick dimension (number .0) (piece (now (area .entry)) from coreSize) face (piece (now (area .entry)) to coreSize) ⌝ }
 {
-    mesh::inner::corners_quick(area, dimension, from, face, to)
-        & mesh::inner::answered_quick(area, dimension, number.0, from, face, to)
+    mesh::link::corners_by_dimension(area, dimension, from, face, to)
+        & mesh::link::answered_by_dimension(area, dimension, number.0, from, face, to)
 }
 
 // ---- trees
@@ -261,7 +261,7 @@ fn ghost_link(
     let k = records::read::neighbour_of(area, from, face);
     let to = place_of(area, at, first, count, ghosts, GlobalIndex(k));
     if to == 0 {
-        return (k < trees) & mesh::inner::orientation_ok(area, from, face);
+        return (k < trees) & mesh::link::orientation_ok(area, from, face);
     }
     let number = records::read::number_of(area, from);
     link_ok(area, dimension, GlobalIndex(number), from, face, to)

@@ -37,7 +37,7 @@ pub fn part_of_area_length(area: &[u8]) -> Length
         return Length { refusal, length: 0 };
     }
     let count = assembly::area::count(area);
-    let length = part::sound::ghost_at(count, assembly::area::ghosts(area));
+    let length = part::layout::ghost_at(count, assembly::area::ghosts(area));
     Length {
         refusal: 0,
         length: length as u64,

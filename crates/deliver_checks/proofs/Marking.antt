@@ -21,7 +21,7 @@ use Rattle.bits.proofs.Bits.{in-none, in-with, with-length}
 use Rattle.records.specs.Shape.{faceCount}
 use Rattle.records.specs.Record.{coreSize, numberOf, shapeOf, neighbourOf, inForm}
 use Rattle.records.proofs.Forms.{number-at}
-use Rattle.part.specs.Mirror.{numberAt, Ascending, smaller}
+use Rattle.part.specs.Means.{numberAt, Ascending, smaller}
 use Rattle.message.specs.Layout.{messageTreePlace, messageGhostPlace, messageK, messageTrees, messageGhosts, messageTree, messageGhost, afterLast, inLayout}
 use Rattle.message.proofs.Layouts.{record-neighbour, tree-laid, tree-fits}
 use Rattle.assembly.specs.Layout.{heardWords, ghostSlotsPlace}

@@ -12,7 +12,7 @@ use Rattle.offsets.specs.Table.{tableLength, holds}
 use Rattle.bits.specs.Bits.{inSet}
 use Rattle.records.specs.Shape.{faceCount}
 use Rattle.records.specs.Record.{coreSize, numberOf, shapeOf, neighbourOf}
-use Rattle.part.specs.Mirror.{numberAt}
+use Rattle.part.specs.Means.{numberAt}
 use Rattle.message.specs.Layout.{messageHeader, messageK, messageSender, messageTrees, messageGhosts, messageTree, messageGhost, inLayout}
 use Rattle.assembly.specs.Layout.{areaHeader}
 use Rattle.assembly.specs.Area.{areaK, areaGhosts, areaBound, areaSound, heard}

@@ -5,7 +5,7 @@ ghost use Prim.Native.Nat.{_<_};
 ghost use Rattle.encoding.specs.Below.{allBelow};
 ghost use Rattle.encoding.specs.Pieces.{piece};
 ghost use Rattle.records.specs.Record.{coreSize};
-ghost use Rattle.part.specs.Mirror.{Ascending};
+ghost use Rattle.part.specs.Means.{Ascending};
 ghost use Rattle.message.specs.Layout.{messageK, messageTrees, messageGhosts};
 ghost use Rattle.assembly.specs.Area.{areaNew};
 ghost use Rattle.assembly.specs.Deliver.{ghostDue, ghostNew};
@@ -96,7 +96,7 @@ fn is_held(area: &[u8], at: usize, count: u32, number: GlobalIndex) -> bool
     ensures { λ r. ⌜ r ≡ heldAt (now (area .entry)) at count (number .0) ⌝ }
 {
     let k = number.0;
-    let position = part::cut::find_ghost(area, at, count, number);
+    let position = part::range::find_ghost(area, at, count, number);
     if count <= position {
         return false;
     }

@@ -50,7 +50,7 @@ fn face_code(dimension: u32, face: u32, orientation: u32) -> u8 {
 
 // One end of a link: face f of tree k leads to face g of tree n.
 fn half(m: &mut [u8; 272], dimension: u32, k: u32, f: u32, n: u32, g: u32, orientation: u32) {
-    let at = mesh::inner::tree_at(k % 4);
+    let at = mesh::layout::tree_at(k % 4);
     put_u32(m, at + 8 + 4 * (f % 6) as usize, n);
     put(
         m,
@@ -76,7 +76,7 @@ fn edge(m: &mut [u8; 272], dimension: u32, k: u32, shape: u32, f: u32) {
 
 // A tree whose faces are all boundary.
 fn tree(m: &mut [u8; 272], dimension: u32, k: u32, shape: u32) {
-    let at = mesh::inner::tree_at(k % 4);
+    let at = mesh::layout::tree_at(k % 4);
     put_u32(m, at, k);
     put(m, at + 4, (shape % 256) as u8);
     edge(m, dimension, k, shape, 0);

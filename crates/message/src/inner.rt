@@ -89,7 +89,7 @@ pub fn size_laid(message: &[u8]) -> bool
     if message.len() < 32 {
         return false;
     }
-    mesh::inner::dimension_ok(dimension(message))
+    mesh::layout::dimension_ok(dimension(message))
         & (message.len() == ghost_at(tree_count(message), ghost_count(message)))
 }
 

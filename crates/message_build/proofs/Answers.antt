@@ -21,7 +21,7 @@ use Rattle.pattern.specs.Sender.{sentCount}
 use Rattle.pattern.specs.Sets.{sendsTo}
 use Rattle.pattern.proofs.Answers.{tables-agree}
 use Rattle.part.specs.Part.{partSound}
-use Rattle.part.specs.Mirror.{RankKnown}
+use Rattle.part.specs.Means.{RankKnown}
 use Rattle.message.specs.Build.{partMessage}
 use Rattle.message.specs.Calls.{buildChecks, messageLengthOf, buildMessageOf}
 use Rattle.message.specs.Layout.{messageSize}

@@ -21,8 +21,8 @@ use Rattle.part.specs.Layout.{treePlace, ghostPlace}
 use Rattle.part.specs.Cut.{renamed}
 use Rattle.part.specs.View.{isLocal, ghostIs, held, heldCore}
 use Rattle.part.specs.Part.{partFirst, partCount, partGhostCount, storedTree, storedGhost, globalIndex, globalTree, partHolds, partCore}
-use Rattle.part.specs.Mirror.{inRange, Ascending, smaller, ghostCore, ghostHas}
-use Rattle.part.proofs.Checking.{search-past, search-other, search-found}
+use Rattle.part.specs.Means.{inRange, Ascending, smaller, ghostCore, ghostHas}
+use Rattle.part.proofs.Search.{search-past, search-other, search-found}
 use Rattle.message_build.specs.Mirror.{RecordRoom, Searchable, coresBelow, GhostRoom}
 
 -- ---- one record, found by its number

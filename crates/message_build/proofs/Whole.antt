@@ -23,9 +23,9 @@ use Rattle.records.proofs.Shapes.{faces-positive}
 use Rattle.part.specs.Layout.{partHeader, treePlace, ghostPlace}
 use Rattle.part.specs.Cut.{renamed}
 use Rattle.part.specs.Part.{partDimension, partK, partFirst, partCount, partGhostCount, storedGhost, partHolds, partCore}
-use Rattle.part.specs.Mirror.{numberAt}
-use Rattle.part.proofs.Cutting.{rows-length}
-use Rattle.part_laws.proofs.SoundParts.{PartSays, part-header, part-length, part-ascends, part-core-long, part-below}
+use Rattle.part.specs.Means.{numberAt}
+use Rattle.part.proofs.Records.{rows-length}
+use Rattle.part_theorems.proofs.SoundParts.{PartSays, part-header, part-length, part-ascends, part-core-long, part-below}
 use Rattle.message.specs.Layout.{messageHeader, messageSize, messageHeaderBytes}
 use Rattle.message.specs.Rule.{treesFrom, ghostGoes, ghostsGoing, ruleMessage}
 use Rattle.message.specs.Build.{partRecord, partMessage}

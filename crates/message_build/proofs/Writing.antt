@@ -14,10 +14,9 @@ use Rattle.records.proofs.Rows.{splice-inside, rows-hold}
 use Rattle.part.specs.Layout.{treePlace, ghostPlace}
 use Rattle.part.specs.Cut.{renamed, renameRow}
 use Rattle.part.specs.Part.{noTree, storedTree, storedGhost, globalIndex}
-use Rattle.part.specs.Mirror.{rowsWith}
-use Rattle.part.proofs.Writing.{words-none, words-next}
-use Rattle.part.proofs.Cutting.{links-length}
-use Rattle.part.proofs.Trees.{splice-over, with-hold, with-rows, rows-core}
+use Rattle.part.specs.Means.{rowsWith}
+use Rattle.part_cut.proofs.Writing.{words-none, words-next}
+use Rattle.part.proofs.Records.{links-length, splice-over, with-hold, with-rows, rows-core}
 use Rattle.part.proofs.Global.{global-word}
 use Rattle.message.specs.Layout.{messageHeaderBytes}
 use Rattle.message_build.specs.Mirror.{Opened, globalLinks}

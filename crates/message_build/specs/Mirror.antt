@@ -13,7 +13,7 @@ use Rattle.records.specs.Record.{coreSize, treeSize}
 use Rattle.records.specs.Links.{rowsOf, withRows}
 use Rattle.part.specs.Layout.{ghostPlace, partSize}
 use Rattle.part.specs.Part.{partDimension, partFirst, partCount, partGhostCount, globalIndex, partHolds, partCore}
-use Rattle.part.specs.Mirror.{Ascending, rowsWith}
+use Rattle.part.specs.Means.{Ascending, rowsWith}
 use Rattle.message.specs.Build.{partMessage}
 use Rattle.message.specs.Layout.{messageHeader, messageSize}
 use Rattle.message_marks.specs.Mirror.{Sending, Marks}

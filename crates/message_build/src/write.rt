@@ -13,10 +13,10 @@ ghost use Rattle.message.specs.Build.{partRecord, partMessage};
 ghost use Rattle.message.specs.Layout.{messageHeader, messageHeaderBytes};
 ghost use Rattle.message_build.specs.Mirror.{RecordRoom, globalLinks, recordsFrom, TreesRoom, coresBelow, GhostRoom, GhostsRoom, RecordsRoom, MessageRoom};
 use crate::index::global_rows;
-use part::cut::find_ghost;
-use part::inner::in_range;
-use part::sound::ghost_at;
-use part::sound::tree_at;
+use part::layout::ghost_at;
+use part::layout::tree_at;
+use part::range::find_ghost;
+use part::range::in_range;
 use records::index::GlobalIndex;
 use records::index::to_local;
 
@@ -196,10 +196,10 @@ fn write_records(part: &[u8], low: u32, n: u32, marks: &[u64], out: &mut [u8])
     requires { ⌜ RecordsRoom (now part) (now marks) (now out) low n ⌝ }
     ensures { λ u. ⌜ now (out .exit) ≡ splice (now (out .entry)) messageHeader (recordsFrom (partRecord (now (part .entry))) low n ++ coresBelow (partCore (now (part .entry))) (inSet (now (marks .entry))) (64 * length (now (marks .entry)))) ⌝ }
 {
-    let count = part::sound::tree_count(part);
-    let ghosts = part::sound::ghost_count(part);
-    let first = part::sound::first_tree(part).0;
-    let faces = records::shape::faces_in(part::sound::dimension(part));
+    let count = part::layout::tree_count(part);
+    let ghosts = part::layout::ghost_count(part);
+    let first = part::layout::first_tree(part).0;
+    let faces = records::shape::faces_in(part::layout::dimension(part));
     let at = 32 + 64 * (n as usize);
     write_trees(part, count, ghosts, faces, first, low, n, &mut *out);
     write_ghosts(part, count, ghosts, faces, first, marks, &mut *out, at);
@@ -219,8 +219,8 @@ pub fn write_message(
     requires { ⌜ MessageRoom (now part) (now old) (now new) p q epoch (now marks) (now out) ⌝ }
     ensures { λ u. ⌜ now (out .exit) ≡ splice (now (out .entry)) 0 (partMessage (now (part .entry)) (now (old .entry)) (now (new .entry)) p q epoch) ⌝ }
 {
-    let dimension = part::sound::dimension(part);
-    let trees = part::sound::trees(part);
+    let dimension = part::layout::dimension(part);
+    let trees = part::layout::trees(part);
     let ranks = offsets::inner::ranks(old) as u32;
     let sent = pattern::inner::sent(old, new, p as usize, q as usize);
     let low = sent.first;

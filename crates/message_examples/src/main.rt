@@ -130,7 +130,7 @@ fn show_message(m: &[u8]) {
 // Builds the message from p to q, shows it, and delivers it to the area of q.
 fn send(mesh: &[u8], old: &[u8], new: &[u8], p: u32, q: u32, area: &mut [u8]) {
     let mut space = blank();
-    let l = part::cut_part(mesh, old, p, &mut space);
+    let l = part_cut::cut_part(mesh, old, p, &mut space);
     let mut room = blank();
     let m = message_build::build_message(first(&space, l.length), old, new, p, q, 7, &mut room);
     word(b"", p as u64);
@@ -163,7 +163,7 @@ fn assemble(mesh: &[u8], old: &[u8], new: &[u8], ranks: u32, dimension: u32, q: 
     let mut joined = blank();
     let j = close::close_area(&area, &mut joined);
     let mut cut = blank();
-    let c = part::cut_part(mesh, new, q, &mut cut);
+    let c = part_cut::cut_part(mesh, new, q, &mut cut);
     word(b"closed ", j.refusal as u64);
     word(b": ", j.length);
     if same(first(&joined, j.length), first(&cut, c.length)) {

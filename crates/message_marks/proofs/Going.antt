@@ -17,7 +17,7 @@ use Rattle.records.specs.Shape.{faceCount}
 use Rattle.records.specs.Record.{shapeOf, neighbourOf, faceOf}
 use Rattle.part.specs.Ghosts.{isGhost}
 use Rattle.part.specs.Part.{partHolds, partCore}
-use Rattle.part_laws.proofs.SoundParts.{part-tree, part-held, part-answered, part-there}
+use Rattle.part_theorems.proofs.SoundParts.{part-tree, part-held, part-answered, part-there}
 use Rattle.message.specs.Build.{partRecord}
 use Rattle.message.specs.Rule.{sendsBeside, considers, sendsGhost, ghostSender, ghostGoes}
 use Rattle.message.proofs.Ghosts.{beside-at, beside-in, no-ghost-sender, one-ghost-sender, sends-considers}

@@ -23,7 +23,7 @@ use Rattle.records.specs.Record.{coreSize, shapeOf, neighbourOf}
 use Rattle.records.proofs.Shapes.{count-six}
 use Rattle.part.specs.Layout.{partHeader, treePlace}
 use Rattle.part.specs.Part.{partFirst, partCount, partCore}
-use Rattle.part_laws.proofs.SoundParts.{part-header, part-length}
+use Rattle.part_theorems.proofs.SoundParts.{part-header, part-length}
 use Rattle.message_marks.specs.Mirror.{markWords, Blank, Marks, Added, Sending, AtRecord, AtTree, recordPlace, recordAt, numberAt, goes, goesAcross, goesBeside, goesFrom}
 use Rattle.message_marks.proofs.Going.{sent-held, goes-with}
 use Rattle.message_marks.proofs.Records.{held-below, place-fits, tree-number, number-held, shape-is, tree-next}

@@ -20,8 +20,8 @@ use Rattle.records.specs.Record.{coreSize, unused, numberOf, shapeOf, neighbour
 use Rattle.records.proofs.Shapes.{count-six}
 use Rattle.part.specs.Layout.{treePlace, ghostPlace}
 use Rattle.part.specs.Part.{noTree, partDimension, partK, partFirst, partCount, partGhostCount, storedTree, storedGhost, globalIndex, globalTree, partHolds, partCore, partSound}
-use Rattle.part_laws.proofs.Renamed.{renamed-number, renamed-shape, renamed-neighbour}
-use Rattle.part_laws.proofs.SoundParts.{part-header, part-length, part-tree, part-number, part-held, part-core-tree, part-core-ghost, part-ghost-held, part-below}
+use Rattle.part_theorems.proofs.Renamed.{renamed-number, renamed-shape, renamed-neighbour}
+use Rattle.part_theorems.proofs.SoundParts.{part-header, part-length, part-tree, part-number, part-held, part-core-tree, part-core-ghost, part-ghost-held, part-below}
 use Rattle.message_marks.specs.Mirror.{Known, recordPlace, recordAt, numberAt, acrossAt, AtFace}
 
 -- a number that is read has 32 bits

@@ -28,7 +28,7 @@ fn mark_face(
     requires { ⌜ AtTree (now part) (now old) (now new) p q count (tree .0) × (face < faceCount (shapeOf (partCore (now part) (partFirst (now part) + tree .0)))) × (length (now marks) ≡ markWords) ⌝ }
     ensures { λ u. ⌜ Added (now (marks .entry)) (now (marks .exit)) (goesAcross (now (part .entry)) (now (old .entry)) (now (new .entry)) p q (partFirst (now (part .entry)) + tree .0) face) ⌝ }
 {
-    let j = records::read::neighbour_of(part, part::sound::tree_at(tree), face);
+    let j = records::read::neighbour_of(part, part::layout::tree_at(tree), face);
     let number = read::number_at(part, count, LocalIndex(j));
     let k = number.0;
     if rule::goes(part, old, new, p, q, count, LocalIndex(j), GlobalIndex(k)) {
@@ -53,7 +53,7 @@ fn mark_tree(
     let i = tree.0;
     let faces = records::shape::face_count(records::read::shape_of(
         part,
-        part::sound::tree_at(tree),
+        part::layout::tree_at(tree),
     ));
     let mut face = 0;
     while face < faces {
@@ -79,8 +79,8 @@ pub fn mark_ghosts(part: &[u8], old: &[u8], new: &[u8], p: u32, q: u32, marks: &
 {
     let from = p as usize;
     let to = q as usize;
-    let own = part::sound::first_tree(part);
-    let count = part::sound::tree_count(part);
+    let own = part::layout::first_tree(part);
+    let count = part::layout::tree_count(part);
     let sent = pattern::inner::sent(old, new, from, to);
     let first = sent.first;
     let n = sent.count;

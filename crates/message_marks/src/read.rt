@@ -13,9 +13,9 @@ pub fn record_at(count: u32, local: LocalIndex) -> usize
 {
     let j = local.0;
     if j < count {
-        return part::sound::tree_at(local);
+        return part::layout::tree_at(local);
     }
-    part::sound::ghost_at(count, j - count)
+    part::layout::ghost_at(count, j - count)
 }
 
 // Its number.

@@ -1,7 +1,7 @@
 // Parts of small meshes: their bytes, the neighbours that they answer, and calls that are refused, a line each.
 use encoding::answer::Length;
 use libc::STDOUT_FILENO;
-use part::neighbour::NeighbourAnswer;
+use part_neighbour::link::NeighbourAnswer;
 use records::index::GlobalIndex;
 use records::index::LocalIndex;
 ghost use mathlib.Core.Path.{_≡_};
@@ -97,7 +97,7 @@ fn face_code(dimension: u32, face: u32, orientation: u32) -> u8 {
 
 // One end of a link: face f of tree k leads to face g of tree n.
 fn half(m: &mut [u8; 264], dimension: u32, k: u32, f: u32, n: u32, g: u32, orientation: u32) {
-    let at = mesh::inner::tree_at(k % 4);
+    let at = mesh::layout::tree_at(k % 4);
     put_u32(m, at + 8 + 4 * (f % 6) as usize, n);
     put(
         m,
@@ -128,7 +128,7 @@ fn four(v: u32) -> u32 {
 
 // The tree data of tree k: 24 bytes from 32 (k + 1) on.
 fn data(m: &mut [u8; 264], k: u32) {
-    let at = mesh::inner::tree_at(k % 4);
+    let at = mesh::layout::tree_at(k % 4);
     let v = 32 * (k % 4 + 1);
     put_u32(m, at + 40, four(v));
     put_u32(m, at + 44, four(v + 4));
@@ -140,7 +140,7 @@ fn data(m: &mut [u8; 264], k: u32) {
 
 // A tree whose faces are all boundary.
 fn tree(m: &mut [u8; 264], dimension: u32, k: u32, shape: u32) {
-    let at = mesh::inner::tree_at(k % 4);
+    let at = mesh::layout::tree_at(k % 4);
     put_u32(m, at, k);
     put(m, at + 4, (shape % 256) as u8);
     edge(m, dimension, k, shape, 0);
@@ -315,7 +315,7 @@ fn show_ghosts(part: &[u8], n: u32, g: u32) {
 }
 
 fn show_place(trees: &[u8], ghosts: &[u8], number: u32) {
-    let f = part::find_record(trees, ghosts, GlobalIndex(number));
+    let f = lookup::find_record(trees, ghosts, GlobalIndex(number));
     word32(b" ", f.which);
     word(b"/", f.offset);
 }
@@ -361,7 +361,7 @@ fn show_written(cut: Length, out: &[u8]) {
 // The part of a mesh, which is the first n bytes.
 fn cut_out(mesh: &[u8], n: usize, table: &[u8], rank: u32, out: &mut [u8]) -> Length {
     if n <= mesh.len() {
-        return part::cut_part(&mesh[0..n], table, rank, out);
+        return part_cut::cut_part(&mesh[0..n], table, rank, out);
     }
     Length {
         refusal: 0,
@@ -371,7 +371,7 @@ fn cut_out(mesh: &[u8], n: usize, table: &[u8], rank: u32, out: &mut [u8]) -> Le
 
 fn length_of(mesh: &[u8], n: usize, table: &[u8], rank: u32) -> Length {
     if n <= mesh.len() {
-        return part::part_length(&mesh[0..n], table, rank);
+        return part_cut::part_length(&mesh[0..n], table, rank);
     }
     Length {
         refusal: 0,
@@ -423,7 +423,13 @@ fn number_of(part: &[u8], index: u32) -> u32 {
 
 // The answer, the number of the record that it leads to, whether the mesh has the same link, and whether the link there leads back.
 fn show_face(mesh: &[u8], table: &[u8], rank: u32, part: &[u8], i: u32, f: u32) {
-    let a = part::neighbour::flat(part::neighbour_of(part, table, rank, LocalIndex(i), f));
+    let a = part_neighbour::link::flat(part_neighbour::neighbour_of(
+        part,
+        table,
+        rank,
+        LocalIndex(i),
+        f,
+    ));
     word32(b"tree ", i);
     word32(b" face ", f);
     show_answer(b": ", a);
@@ -463,7 +469,7 @@ fn show_all_faces(mesh: &[u8], table: &[u8], rank: u32, part: &[u8], n: u32) {
 }
 
 fn show_neighbours(mesh: &[u8], table: &[u8], rank: u32, part: &[u8]) {
-    word32(b", check ", part::check_part(part, table, rank));
+    word32(b", check ", part_check::check_part(part, table, rank));
     let n = number_at(part, 20);
     word32(b", trees ", n);
     word32(b" from ", number_at(part, 16));
@@ -554,8 +560,8 @@ fn mixed_neighbours() {
 
 // What the calls answer, and whether a buffer is as it was.
 fn show_calls(mesh: &[u8], table: &[u8], rank: u32, out: &mut [u8]) {
-    show_length(b": length ", part::part_length(mesh, table, rank));
-    show_length(b", cut ", part::cut_part(mesh, table, rank, &mut *out));
+    show_length(b": length ", part_cut::part_length(mesh, table, rank));
+    show_length(b", cut ", part_cut::cut_part(mesh, table, rank, &mut *out));
     show_yes(b", bytes kept ", kept(out, 0));
     text(b"\n");
 }
@@ -640,10 +646,16 @@ fn room_refusals() {
 }
 
 fn show_reads(part: &[u8], table: &[u8], rank: u32, i: u32, f: u32) {
-    word32(b": check ", part::check_part(part, table, rank));
+    word32(b": check ", part_check::check_part(part, table, rank));
     show_answer(
         b", neighbour ",
-        part::neighbour::flat(part::neighbour_of(part, table, rank, LocalIndex(i), f)),
+        part_neighbour::link::flat(part_neighbour::neighbour_of(
+            part,
+            table,
+            rank,
+            LocalIndex(i),
+            f,
+        )),
     );
     text(b"\n");
 }

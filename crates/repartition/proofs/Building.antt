@@ -28,10 +28,10 @@ use Rattle.part.specs.Layout.{treePlace}
 use Rattle.part.specs.Ghosts.{isGhost}
 use Rattle.part.specs.Cut.{renameRow, renamed, localIndex, partTree, cutPart}
 use Rattle.part.specs.Part.{partDimension, partFirst, storedTree, globalIndex, globalTree, partHolds, partCore, partSound}
-use Rattle.part.proofs.Cutting.{Cuttable, links-length, rows-length}
-use Rattle.part.proofs.Trees.{rows-core}
-use Rattle.part_laws.proofs.CutRead.{cut-dimension, cut-first, cut-end, cut-record, cut-stored, cut-data}
-use Rattle.part_laws.proofs.CutSound.{holds-range, local-below, cut-global, cut-holds, cut-core, cut-sound}
+use Rattle.part_cut.proofs.Cutting.{Cuttable}
+use Rattle.part.proofs.Records.{links-length, rows-length, rows-core}
+use Rattle.part_theorems.proofs.CutRead.{cut-dimension, cut-first, cut-end, cut-record, cut-stored, cut-data}
+use Rattle.part_theorems.proofs.CutSound.{holds-range, local-below, cut-global, cut-holds, cut-core, cut-sound}
 use Rattle.message.specs.Build.{partRecord, partMessage, meshMessage}
 use Rattle.message.specs.Calls.{buildChecks, buildMessageOf}
 use Rattle.message.proofs.Messages.{HasPart, rule-from-part}

@@ -6,15 +6,17 @@ ghost use Rattle.assembly.specs.Calls.{areaLengthOf, openAreaOf, progressOf};
 ghost use Rattle.assembly.specs.Close.{closeLengthOf, closeOf};
 ghost use Rattle.assembly.specs.Deliver.{deliverOf};
 ghost use Rattle.message.specs.Calls.{messageRefusal, messageLengthOf, buildMessageOf};
-ghost use Rattle.part.specs.Calls.{partLengthOf, cutPartOf, partRefusal, neighbourAnswer};
-ghost use Rattle.part.specs.Lookup.{foundRecord};
-ghost use Rattle.part.specs.Neighbour.{flatAnswer};
+ghost use Rattle.part_cut.specs.Calls.{partLengthOf, cutPartOf};
+ghost use Rattle.part_check.specs.Calls.{partRefusal};
+ghost use Rattle.part_neighbour.specs.Calls.{neighbourAnswer};
+ghost use Rattle.lookup.specs.Lookup.{foundRecord};
+ghost use Rattle.part_neighbour.specs.Neighbour.{flatAnswer};
 ghost use Rattle.pattern.specs.Calls.{senderOf, treesSent, sendSetOf, receiveSetOf};
 use assembly::Progress;
 use encoding::answer::Length;
+use lookup::Found;
 use offsets::Range;
-use part::Found;
-use part::neighbour::NeighbourAnswer;
+use part_neighbour::link::NeighbourAnswer;
 use pattern::Ranks;
 use pattern::SenderAnswer;
 use records::index::GlobalIndex;
@@ -104,21 +106,21 @@ pub extern "C" fn vejgodat_check_mesh(mesh: &[u8]) -> u32
 pub extern "C" fn vejgodat_part_length(mesh: &[u8], table: &[u8], rank: u32) -> Length
     ensures { λ r. ⌜ r ≡ partLengthOf (now (mesh .entry)) (now (table .entry)) rank ⌝ }
 {
-    part::part_length(mesh, table, rank)
+    part_cut::part_length(mesh, table, rank)
 }
 
 #[no_mangle]
 pub extern "C" fn vejgodat_cut_part(mesh: &[u8], table: &[u8], rank: u32, out: &mut [u8]) -> Length
     ensures { λ r. ⌜ (r, now (out .exit)) ≡ cutPartOf (now (mesh .entry)) (now (table .entry)) rank (now (out .entry)) ⌝ }
 {
-    part::cut_part(mesh, table, rank, out)
+    part_cut::cut_part(mesh, table, rank, out)
 }
 
 #[no_mangle]
 pub extern "C" fn vejgodat_check_part(part: &[u8], table: &[u8], rank: u32) -> u32
     ensures { λ r. ⌜ r ≡ partRefusal (now (part .entry)) (now (table .entry)) rank ⌝ }
 {
-    part::check_part(part, table, rank)
+    part_check::check_part(part, table, rank)
 }
 
 #[no_mangle]
@@ -131,14 +133,20 @@ pub extern "C" fn vejgodat_neighbour_of(
 ) -> NeighbourAnswer
     ensures { λ r. ⌜ r ≡ flatAnswer (neighbourAnswer (now (part .entry)) (now (table .entry)) rank local face) ⌝ }
 {
-    part::neighbour::flat(part::neighbour_of(part, table, rank, LocalIndex(local), face))
+    part_neighbour::link::flat(part_neighbour::neighbour_of(
+        part,
+        table,
+        rank,
+        LocalIndex(local),
+        face,
+    ))
 }
 
 #[no_mangle]
 pub extern "C" fn vejgodat_lookup(trees: &[u8], ghosts: &[u8], number: u32) -> Found
     ensures { λ r. ⌜ r ≡ foundRecord (now (trees .entry)) (now (ghosts .entry)) number ⌝ }
 {
-    part::find_record(trees, ghosts, GlobalIndex(number))
+    lookup::find_record(trees, ghosts, GlobalIndex(number))
 }
 
 #[no_mangle]

@@ -1,4 +1,4 @@
-use Rattle.part.specs.Mirror.{linkQuick}
+use Rattle.part.specs.Means.{linkQuick}
 use borrow.Author.Needs.{needs}
 use Rattle.close_checks.proofs.join.link_ok.Statement.{statement}
 use Rattle.close_checks.proofs.join.link_ok.Tie as tie

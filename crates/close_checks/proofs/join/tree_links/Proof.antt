@@ -5,7 +5,7 @@ use native.Mathlib.Omega.{arith}
 use borrow.Author.Tests.{not-true, not-false}
 use Rattle.encoding.specs.Below.{allBelow}
 use Rattle.encoding.proofs.Below.{all-more, all-fails, all-to}
-use Rattle.part.specs.Mirror.{linkQuick}
+use Rattle.part.specs.Means.{linkQuick}
 use Rattle.close_checks.specs.Mirror.{linkOfTree}
 use borrow.Author.Needs.{needs}
 use Rattle.close_checks.proofs.join.tree_links.Statement.{statement}

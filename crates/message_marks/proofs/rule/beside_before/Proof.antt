@@ -1,6 +1,6 @@
 use Rattle.message_marks.proofs.Reading.{neighbour-before, face-here}
 use Rattle.message_marks.specs.Mirror.{numberAt, besideBefore}
-use Rattle.part.proofs.Finding.{none-next, none-to}
+use Rattle.part.proofs.Ranges.{none-next, none-to}
 use Rattle.encoding.proofs.Below.{any-intro}
 use Rattle.encoding.specs.Below.{anyBelow}
 use native.Mathlib.Omega.{arith}

@@ -81,10 +81,10 @@ fn tables_fit(area: &[u8], old: &[u8], new: &[u8]) -> bool
     ensures { λ r. ⌜ r ≡ tablesFit (now (area .entry)) ⌝ }
 {
     let k = trees(area) as u64;
-    offsets::inner::valid(old)
-        & offsets::inner::valid(new)
-        & (offsets::inner::trees(old) == k)
-        & (offsets::inner::trees(new) == k)
+    offsets::table::valid(old)
+        & offsets::table::valid(new)
+        & (offsets::table::trees(old) == k)
+        & (offsets::table::trees(new) == k)
         & (rank(area) < ranks(area))
 }
 
@@ -98,7 +98,7 @@ pub fn header_sound(area: &[u8]) -> bool
         return false;
     }
     let ranks = ranks(area);
-    if !offsets::inner::rank_count_ok(ranks) {
+    if !offsets::table::rank_count_ok(ranks) {
         return false;
     }
     if area.len() < area_size(dimension(area), ranks, count(area)) {
@@ -206,7 +206,7 @@ fn range_sound(area: &[u8], old: &[u8], new: &[u8], s: usize) -> bool
     if count == 0 {
         return true;
     }
-    let own = offsets::inner::first_tree(new, rank) as u32;
+    let own = offsets::table::first_tree(new, rank) as u32;
     let tree = to_local(GlobalIndex(first), GlobalIndex(own));
     let i = tree.0;
     let at = slots_place(ranks(area)) + 64 * (i as usize);
@@ -286,8 +286,8 @@ fn ghosts_sound(area: &[u8], old: &[u8], new: &[u8]) -> bool
         return false;
     }
     let rank = rank(area);
-    let first = offsets::inner::first_tree(new, rank);
-    let end = offsets::inner::end_tree(new, rank);
+    let first = offsets::table::first_tree(new, rank);
+    let end = offsets::table::end_tree(new, rank);
     let at = ghost_slots_place(ranks(area), count);
     if !ghosts_held(area, at, trees(area), first, end, ghosts) {
         return false;

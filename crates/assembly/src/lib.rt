@@ -24,7 +24,7 @@ pub fn area_length(old: &[u8], new: &[u8], rank: u32, dimension: u32) -> Length
     if refusal != 0 {
         return Length { refusal, length: 0 };
     }
-    let ranks = offsets::inner::ranks(old);
+    let ranks = offsets::table::ranks(old);
     let count = open::tree_count(new, rank as usize);
     Length {
         refusal: 0,
@@ -47,7 +47,7 @@ pub fn open_area(
     if refusal != 0 {
         return Length { refusal, length: 0 };
     }
-    let ranks = offsets::inner::ranks(old);
+    let ranks = offsets::table::ranks(old);
     let count = open::tree_count(new, rank as usize);
     let n = place::area_size(dimension, ranks, count);
     if out.len() < n {

@@ -24,7 +24,7 @@ pub fn refusal(old: &[u8], new: &[u8], rank: u32, dimension: u32) -> u32
     if refusal != 0 {
         return refusal;
     }
-    if offsets::inner::ranks(old) <= rank as usize {
+    if offsets::table::ranks(old) <= rank as usize {
         return 5;
     }
     if !mesh::inner::dimension_ok(dimension) {
@@ -38,8 +38,8 @@ pub fn tree_count(t: &[u8], rank: usize) -> u32
     requires { ⌜ RankIn (now t) rank ⌝ }
     ensures { λ r. ⌜ (r ≡ treeCount (now (t .entry)) rank) × (r ≤ maxTrees) ⌝ }
 {
-    let first = offsets::inner::first_tree(t, rank);
-    let end = offsets::inner::end_tree(t, rank);
+    let first = offsets::table::first_tree(t, rank);
+    let end = offsets::table::end_tree(t, rank);
     (end - first) as u32
 }
 
@@ -71,8 +71,8 @@ pub fn write(old: &[u8], new: &[u8], rank: u32, dimension: u32, epoch: u32, out:
     requires { ⌜ AreaRoom (now old) (now new) rank dimension (now out) ⌝ }
     ensures { λ u. ⌜ now (out .exit) ≡ splice (now (out .entry)) 0 (freshArea (now (old .entry)) (now (new .entry)) rank dimension epoch) ⌝ }
 {
-    let ranks = offsets::inner::ranks(old);
-    let trees = offsets::inner::trees(old) as u32;
+    let ranks = offsets::table::ranks(old);
+    let trees = offsets::table::trees(old) as u32;
     let count = tree_count(new, rank as usize);
     let middle = new_place(ranks);
     let from = words_place(ranks);

@@ -34,7 +34,7 @@ fn first_tree(area: &[u8]) -> GlobalIndex
     let middle = new_place(ranks);
     let end = words_place(ranks);
     let new = &area[middle..end];
-    let first = offsets::inner::first_tree(new, rank(area)) as u32;
+    let first = offsets::table::first_tree(new, rank(area)) as u32;
     GlobalIndex(first)
 }
 

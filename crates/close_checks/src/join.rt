@@ -355,7 +355,7 @@ pub fn join_sound(area: &[u8], new: &[u8]) -> bool
     requires { ⌜ Complete (now area) (now new) ⌝ }
     ensures { λ r. ⌜ r ≡ joinSound (now (area .entry)) ⌝ }
 {
-    let first = offsets::inner::first_tree(new, assembly::area::rank(area));
+    let first = offsets::table::first_tree(new, assembly::area::rank(area));
     records_join(
         area,
         assembly::place::slots_place(assembly::area::ranks(area)),

@@ -34,7 +34,7 @@ fn trees_place(area: &[u8], message: &[u8]) -> usize
     let end = assembly::place::words_place(ranks);
     let new = &area[middle..end];
     let sent = records::read::number_of(message, 32);
-    let first = offsets::inner::first_tree(new, assembly::area::rank(area)) as u32;
+    let first = offsets::table::first_tree(new, assembly::area::rank(area)) as u32;
     let tree = to_local(GlobalIndex(sent), GlobalIndex(first));
     assembly::place::slots_place(ranks) + 64 * (tree.0 as usize)
 }

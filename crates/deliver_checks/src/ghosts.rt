@@ -58,7 +58,7 @@ fn ghost_beside(
     if below <= number {
         return false;
     }
-    !offsets::inner::holds(new, rank, number as u64) & bits::set::in_set(marks, number)
+    !offsets::table::holds(new, rank, number as u64) & bits::set::in_set(marks, number)
 }
 
 fn ghosts_beside(new: &[u8], rank: usize, message: &[u8], marks: &[u64]) -> bool

@@ -18,7 +18,7 @@ pub fn refusal(part: &[u8], old: &[u8], new: &[u8], p: u32, q: u32) -> u32
     if refusal != 0 {
         return refusal;
     }
-    let ranks = offsets::inner::ranks(old);
+    let ranks = offsets::table::ranks(old);
     if ranks <= p as usize {
         return 5;
     }

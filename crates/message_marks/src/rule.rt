@@ -17,7 +17,7 @@ fn sent_before(old: &[u8], new: &[u8], p: usize, q: usize, tree: GlobalIndex) ->
     ensures { λ r. ⌜ r ≡ sentBefore (now (old .entry)) (now (new .entry)) p q (tree .0) ⌝ }
 {
     let h = tree.0;
-    if !offsets::inner::holds(new, q, h as u64) {
+    if !offsets::table::holds(new, q, h as u64) {
         return false;
     }
     let sender = pattern::inner::sender(old, h as u64, q);
@@ -65,7 +65,7 @@ pub fn goes(
 {
     let j = local.0;
     let k = number.0;
-    if offsets::inner::holds(new, q, k as u64) {
+    if offsets::table::holds(new, q, k as u64) {
         return false;
     }
     if p == q {

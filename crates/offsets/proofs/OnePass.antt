@@ -13,7 +13,7 @@ use Rattle.encoding.proofs.Below.{tests, and-fst, and-snd, and-intro, iff-eq, a
 use Rattle.offsets.specs.Limits.{maxRanks, rankCountOk, treeCountOk}
 use Rattle.offsets.specs.Table.{tableLength, ranks, ranksOk, entry, trees, negative, magnitude, firstOf, firstTree, endTree, entriesWithin, countsOk, valid}
 use Rattle.offsets.proofs.Tables.{ranks-within, trees-within, small-plain, plain-magnitude}
-use Rattle.offsets.specs.Mirror.Table.{entryOk, entryOkAt, validOnePass}
+use Rattle.offsets.specs.Means.{entryOk, entryOkAt, validOnePass}
 
 -- what a table's length tells
 pub record Ranks (t : List ℕ) (P : ℕ) : Type 0 where

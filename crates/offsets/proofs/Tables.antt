@@ -142,3 +142,9 @@ module _ (t : List ℕ) (b : Bytes t) (ok : ranksOk t ≡ true) (v : valid t ≡
   pub last-end : magnitude (entry t (ranks t)) ≡ trees t
   unfolding trees
   last-end = plain-magnitude (trees t) (small-plain (trees t) trees-high)
+
+-- a rank's range in a valid table fits 32 bits
+pub range-fits : (t : List ℕ) (P p : ℕ) → Bytes t → ranksOk t ≡ true → valid t ≡ true → P ≡ ranks t → p < P → (firstTree t p ≤ endTree t p) × (endTree t p ≤ maxTrees)
+range-fits t P p b ok v e h =
+    let l : p < ranks t = omega arith in
+    (first-le-end t b ok v p l, omega (arith, end-trees t b ok v p l, trees-high t b ok v))

@@ -129,7 +129,7 @@ fn numbers() -> [u32; 1024]
 
 fn partition_in(out: &mut [u8], ranks: u32, first: &[u32], count: &[u32], room: usize) {
     if room <= out.len() {
-        let l = offsets::write_table(ranks, first, count, &mut out[..room]);
+        let l = offsets_write::write_table(ranks, first, count, &mut out[..room]);
         show_written(l.refusal, l.length, out);
     }
 }
@@ -141,7 +141,7 @@ fn show_partition(ranks: u32, first: &[u32], count: &[u32], room: usize) {
 
 fn leaves_in(out: &mut [u8], ranks: u32, leaves: &[u32], room: usize) {
     if room <= out.len() {
-        let l = offsets::table_from_leaves(ranks, leaves, &mut out[..room]);
+        let l = leaves::table_from_leaves(ranks, leaves, &mut out[..room]);
         show_written(l.refusal, l.length, out);
     }
 }
@@ -252,7 +252,7 @@ fn partitions() {
 }
 
 fn show_length(ranks: u32) {
-    let l = offsets::table_length(ranks);
+    let l = offsets_write::table_length(ranks);
     word(b"refusal ", l.refusal as u64);
     word(b" length ", l.length);
     text(b"\n");

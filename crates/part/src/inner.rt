@@ -15,13 +15,13 @@ ghost use Rattle.part.specs.Calls.{rankChecks, cutChecks};
 pub fn rank_refusal(table: &[u8], rank: u32) -> u32
     ensures { λ r. ⌜ r ≡ firstFailed (rankChecks (now (table .entry)) rank) ⌝ }
 {
-    if !offsets::inner::ranks_ok(table) {
+    if !offsets::table::ranks_ok(table) {
         return 2;
     }
-    if !offsets::inner::valid(table) {
+    if !offsets::table::valid(table) {
         return 3;
     }
-    let ranks = offsets::inner::ranks(table);
+    let ranks = offsets::table::ranks(table);
     if ranks <= rank as usize {
         return 5;
     }
@@ -39,7 +39,7 @@ pub fn cut_refusal(mesh: &[u8], table: &[u8], rank: u32) -> u32
     if !mesh::inner::sound(mesh) {
         return 7;
     }
-    if mesh::inner::trees(mesh) as u64 != offsets::inner::trees(table) {
+    if mesh::inner::trees(mesh) as u64 != offsets::table::trees(table) {
         return 7;
     }
     0

@@ -23,8 +23,8 @@ pub fn part_length(mesh: &[u8], table: &[u8], rank: u32) -> Length
     if refusal != 0 {
         return Length { refusal, length: 0 };
     }
-    let first = offsets::inner::first_tree(table, rank as usize) as u32;
-    let end = offsets::inner::end_tree(table, rank as usize) as u32;
+    let first = offsets::table::first_tree(table, rank as usize) as u32;
+    let end = offsets::table::end_tree(table, rank as usize) as u32;
     let ghosts = inner::ghost_count(mesh, mesh::inner::trees(mesh), first, end);
     Length {
         refusal: 0,
@@ -40,8 +40,8 @@ pub fn cut_part(mesh: &[u8], table: &[u8], rank: u32, out: &mut [u8]) -> Length
     if refusal != 0 {
         return Length { refusal, length: 0 };
     }
-    let first = offsets::inner::first_tree(table, rank as usize) as u32;
-    let end = offsets::inner::end_tree(table, rank as usize) as u32;
+    let first = offsets::table::first_tree(table, rank as usize) as u32;
+    let end = offsets::table::end_tree(table, rank as usize) as u32;
     let trees = mesh::inner::trees(mesh);
     let count = inner::ghost_count(mesh, trees, first, end);
     let at = 32 + 64 * ((end - first) as usize);
@@ -52,7 +52,7 @@ pub fn cut_part(mesh: &[u8], table: &[u8], rank: u32, out: &mut [u8]) -> Length
             length: 0,
         };
     }
-    let ranks = offsets::inner::ranks(table) as u32;
+    let ranks = offsets::table::ranks(table) as u32;
     cut::write(mesh, trees, ranks, rank, first, end, &mut *out, at, count);
     Length {
         refusal: 0,
@@ -83,8 +83,8 @@ pub fn neighbour_of(part: &[u8], table: &[u8], rank: u32, local: LocalIndex, fac
     if refusal != 0 {
         return neighbour::refused(refusal);
     }
-    let first = offsets::inner::first_tree(table, rank as usize);
-    let end = offsets::inner::end_tree(table, rank as usize);
+    let first = offsets::table::first_tree(table, rank as usize);
+    let end = offsets::table::end_tree(table, rank as usize);
     if end - first <= i as u64 {
         return neighbour::refused(5);
     }

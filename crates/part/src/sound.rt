@@ -80,12 +80,12 @@ fn header_sound(part: &[u8], table: &[u8], rank: u32) -> bool
     if part.len() < 32 {
         return false;
     }
-    let ranks = offsets::inner::ranks(table);
-    let first = offsets::inner::first_tree(table, rank as usize);
-    let end = offsets::inner::end_tree(table, rank as usize);
+    let ranks = offsets::table::ranks(table);
+    let first = offsets::table::first_tree(table, rank as usize);
+    let end = offsets::table::end_tree(table, rank as usize);
     let count = tree_count(part);
     mesh::inner::dimension_ok(dimension(part))
-        & (trees(part) as u64 == offsets::inner::entry(table, ranks))
+        & (trees(part) as u64 == offsets::table::entry(table, ranks))
         & (encoding::bytes::read_u32(part, 8) as usize == ranks)
         & (encoding::bytes::read_u32(part, 12) == rank)
         & (first_tree(part).0 as u64 == first)

@@ -13,15 +13,15 @@ ghost use Rattle.pattern.specs.Mirror.{TreeOf, RankOf, PairOf, TreeTo, R
 ghost use Rattle.pattern.specs.Sender.{leastHolder, sender as senderIs, senderTo, sentFirst, sentCount};
 ghost use Rattle.pattern.specs.Sets.{sendsTo};
 use crate::Sender;
-use offsets::inner::end_tree;
-use offsets::inner::entry;
-use offsets::inner::first_tree;
-use offsets::inner::holds;
-use offsets::inner::magnitude;
-use offsets::inner::ranks;
-use offsets::inner::ranks_ok;
-use offsets::inner::trees;
-use offsets::inner::valid;
+use offsets::table::end_tree;
+use offsets::table::entry;
+use offsets::table::first_tree;
+use offsets::table::holds;
+use offsets::table::magnitude;
+use offsets::table::ranks;
+use offsets::table::ranks_ok;
+use offsets::table::trees;
+use offsets::table::valid;
 
 fn both_ranks_ok(old: &[u8], new: &[u8]) -> bool
     ensures { λ r. ⌜ r ≡ (ranksOk (now (old .entry)) && ranksOk (now (new .entry))) ⌝ }

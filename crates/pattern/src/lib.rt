@@ -56,11 +56,11 @@ pub fn sender_of(old: &[u8], new: &[u8], tree: u32, receiver: u32) -> SenderAnsw
         return sender_refused(refusal);
     }
     let k = tree as u64;
-    if offsets::inner::trees(old) <= k {
+    if offsets::table::trees(old) <= k {
         return sender_refused(5);
     }
     let q = receiver as usize;
-    if offsets::inner::ranks(old) <= q {
+    if offsets::table::ranks(old) <= q {
         return sender_refused(5);
     }
     SenderAnswer {
@@ -75,16 +75,16 @@ pub fn trees_sent(old: &[u8], new: &[u8], sender: u32, receiver: u32) -> Range
 {
     let refusal = inner::tables_refusal(old, new);
     if refusal != 0 {
-        return offsets::inner::range_refused(refusal);
+        return offsets::table::range_refused(refusal);
     }
-    let ranks = offsets::inner::ranks(old);
+    let ranks = offsets::table::ranks(old);
     let p = sender as usize;
     if ranks <= p {
-        return offsets::inner::range_refused(5);
+        return offsets::table::range_refused(5);
     }
     let q = receiver as usize;
     if ranks <= q {
-        return offsets::inner::range_refused(5);
+        return offsets::table::range_refused(5);
     }
     let sent = inner::sent(old, new, p, q);
     Range {
@@ -136,7 +136,7 @@ fn rank_set(old: &[u8], new: &[u8], rank: u32, sending: bool, out: &mut [u32]) -
         return ranks_refused(refusal);
     }
     let p = rank as usize;
-    if offsets::inner::ranks(old) <= p {
+    if offsets::table::ranks(old) <= p {
         return ranks_refused(5);
     }
     let count = inner::set_count(old, new, p, sending);

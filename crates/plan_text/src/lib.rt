@@ -5,7 +5,7 @@ ghost use lib.ListN.{length};
 ghost use Rattle.plan_text.specs.Plan.{planAnswer};
 ghost use Rattle.plan_text.specs.Mirror.Writing.{outputAnswer, tablesOutput};
 use encoding::answer::Length;
-use offsets::inner::rank_count_ok;
+use offsets::table::rank_count_ok;
 use pattern::inner::tables_refusal;
 use read::read_input;
 use write::write_moves;

@@ -13,8 +13,8 @@ ghost use Rattle.plan_text.specs.Text.{decimal, numberLimit, ranksWord};
 ghost use Rattle.plan_text.specs.Plan.{treesWord, messagesWord, refusedWord, lineText, movesFrom, movesText, moveCount, movesOutput};
 ghost use Rattle.plan_text.specs.Mirror.Writing.{Put, Fits, FitsNumber, Small, FitsRow, FitsPair, FitsFrom, FitsMoves, SmallOutput, FitsOutput, numberText, rowText, pairText, outputAnswer};
 use encoding::answer::Length;
-use offsets::inner::ranks;
-use offsets::inner::trees;
+use offsets::table::ranks;
+use offsets::table::trees;
 use pattern::inner::sent;
 
 // How many bytes the text of some moves has, and how many moves it lists.

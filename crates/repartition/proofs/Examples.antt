@@ -15,9 +15,10 @@ use Rattle.encoding.specs.Refusal.{firstFailed}
 use Rattle.encoding.proofs.Below.{either, tests, all-at}
 use Rattle.offsets.specs.Limits.{rankCountOk, treeCountOk}
 use Rattle.offsets.specs.Table.{ranks, ranksOk, entry, negative, magnitude, firstOf, trees, firstTree, endTree, treeCount, holds, entriesWithin, countsOk, valid, tableBytes}
-use Rattle.offsets.specs.Leaves.{leafTable}
+use Rattle.leaves.specs.Leaves.{leafTable}
 use Rattle.offsets.specs.Calls.{tableRefusal}
-use Rattle.offsets.proofs.Examples.{minus, nine-tables, leaf-tables}
+use Rattle.offsets.proofs.Examples.{minus, nine-tables}
+use Rattle.leaves.proofs.Examples.{leaf-tables}
 use Rattle.pattern.specs.Calls.{tableChecks}
 use Rattle.pattern.specs.Sender.{leastHolder, sender, Tables}
 use Rattle.pattern.specs.Sets.{sendsTo}

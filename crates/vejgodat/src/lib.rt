@@ -1,6 +1,8 @@
 // The C interface: include/vejgodat.h says what each function takes, checks and answers. A slice is a pointer and a count.
 ghost use mathlib.Core.Path.{_≡_};
-ghost use Rattle.offsets.specs.Calls.{tableRefusal, tableRange, tableLengthAnswer, writeTable, tableFromLeaves};
+ghost use Rattle.offsets.specs.Calls.{tableRefusal, tableRange};
+ghost use Rattle.offsets_write.specs.Calls.{tableLengthAnswer, writeTable};
+ghost use Rattle.leaves.specs.Calls.{tableFromLeaves};
 ghost use Rattle.mesh.specs.Mesh.{meshRefusal};
 ghost use Rattle.assembly.specs.Calls.{areaLengthOf, openAreaOf, progressOf};
 ghost use Rattle.assembly.specs.Close.{closeLengthOf, closeOf};
@@ -31,7 +33,7 @@ pub extern "C" fn vejgodat_check_table(table: &[u8]) -> u32
 pub extern "C" fn vejgodat_table_length(ranks: u32) -> Length
     ensures { λ r. ⌜ r ≡ tableLengthAnswer ranks ⌝ }
 {
-    offsets::table_length(ranks)
+    offsets_write::table_length(ranks)
 }
 
 #[no_mangle]
@@ -50,14 +52,14 @@ pub extern "C" fn vejgodat_write_table(
 ) -> Length
     ensures { λ r. ⌜ (r, now (out .exit)) ≡ writeTable ranks (now (first .entry)) (now (count .entry)) (now (out .entry)) ⌝ }
 {
-    offsets::write_table(ranks, first, count, out)
+    offsets_write::write_table(ranks, first, count, out)
 }
 
 #[no_mangle]
 pub extern "C" fn vejgodat_table_from_leaves(ranks: u32, leaves: &[u32], out: &mut [u8]) -> Length
     ensures { λ r. ⌜ (r, now (out .exit)) ≡ tableFromLeaves ranks (now (leaves .entry)) (now (out .entry)) ⌝ }
 {
-    offsets::table_from_leaves(ranks, leaves, out)
+    leaves::table_from_leaves(ranks, leaves, out)
 }
 
 #[no_mangle]

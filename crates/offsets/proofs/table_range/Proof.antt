@@ -1,4 +1,4 @@
-use Rattle.offsets.proofs.RangeFits.{range-fits}
+use Rattle.offsets.proofs.Tables.{range-fits}
 use Prim.Native.Nat.{_≤_}
 use Rattle.offsets.specs.Limits.{maxTrees}
 use Rattle.offsets.specs.Table.{treeCount, firstTree, endTree}

@@ -16,7 +16,7 @@ use Rattle.offsets.specs.Limits.{maxTrees}
 use Rattle.offsets.specs.Table.{trees, firstTree, endTree}
 use Rattle.offsets.proofs.OnePass.{ranks-known}
 use Rattle.offsets.proofs.Tables.{trees-high}
-use Rattle.pattern.specs.Mirror.{PairOf}
+use Rattle.pattern.specs.Means.{PairOf}
 use Rattle.pattern.specs.Sender.{sentFirst, sentCount}
 use Rattle.pattern.specs.Sets.{sendsTo}
 use Rattle.pattern.proofs.Sets.{gets-sends}

@@ -12,7 +12,7 @@ use Rattle.encoding.specs.Below.{allBelow, countBelow, sumBelow}
 use Rattle.encoding.specs.Numbers.{u64At}
 use Rattle.encoding.specs.Pieces.{Bytes}
 use Rattle.encoding.proofs.Below.{either, and-fst, and-snd, all-at, sum-more, count-same, count-none}
-use Rattle.pattern.specs.Mirror.{rankSet, RankOf}
+use Rattle.pattern.specs.Means.{rankSet, RankOf}
 use Rattle.pattern.specs.Sets.{getsFrom, receiveSet}
 use Rattle.pattern.proofs.Answers.{set-receives}
 use Rattle.bits.specs.Bits.{bitOf}

@@ -151,7 +151,7 @@ fn bit_sound(area: &[u8], old: &[u8], new: &[u8], s: usize) -> bool
     if ranks(area) <= s {
         return false;
     }
-    pattern::inner::sends_some(old, new, s, rank(area))
+    pattern::range::sends_some(old, new, s, rank(area))
 }
 
 fn bits_sound(area: &[u8], old: &[u8], new: &[u8]) -> bool
@@ -200,7 +200,7 @@ fn range_sound(area: &[u8], old: &[u8], new: &[u8], s: usize) -> bool
     ensures { λ r. ⌜ r ≡ rangeSound (now (area .entry)) s ⌝ }
 {
     let rank = rank(area);
-    let sent = pattern::inner::sent(old, new, s, rank);
+    let sent = pattern::range::sent(old, new, s, rank);
     let first = sent.first;
     let count = sent.count;
     if count == 0 {

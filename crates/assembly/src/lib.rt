@@ -80,7 +80,7 @@ pub fn progress_of(area: &[u8]) -> Progress
     let end = place::words_place(ranks);
     let old = &area[32..middle];
     let new = &area[middle..end];
-    let due = pattern::inner::set_count(old, new, area::rank(area), false) as u32;
+    let due = pattern::set::set_count(old, new, area::rank(area), false) as u32;
     Progress {
         refusal: 0,
         heard,

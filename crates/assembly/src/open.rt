@@ -20,7 +20,7 @@ use crate::place::words_place;
 pub fn refusal(old: &[u8], new: &[u8], rank: u32, dimension: u32) -> u32
     ensures { λ r. ⌜ r ≡ firstFailed (openChecks (now (old .entry)) (now (new .entry)) rank dimension) ⌝ }
 {
-    let refusal = pattern::inner::tables_refusal(old, new);
+    let refusal = pattern::tables::tables_refusal(old, new);
     if refusal != 0 {
         return refusal;
     }

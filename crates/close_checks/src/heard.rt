@@ -11,7 +11,7 @@ fn sender_heard(area: &[u8], old: &[u8], new: &[u8], s: usize) -> bool
     requires { ⌜ Tabled (now area) (now old) (now new) × (s < areaP (now area)) ⌝ }
     ensures { λ r. ⌜ r ≡ senderHeard (now (area .entry)) s ⌝ }
 {
-    if !pattern::inner::sends_some(old, new, s, assembly::area::rank(area)) {
+    if !pattern::range::sends_some(old, new, s, assembly::area::rank(area)) {
         return true;
     }
     assembly::area::heard(area, s)

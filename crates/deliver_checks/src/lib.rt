@@ -43,7 +43,7 @@ fn sender_due(area: &[u8], old: &[u8], new: &[u8], message: &[u8]) -> bool
     if assembly::area::ranks(area) <= sender {
         return false;
     }
-    pattern::inner::sends_some(old, new, sender, assembly::area::rank(area))
+    pattern::range::sends_some(old, new, sender, assembly::area::rank(area))
 }
 
 // Whether the message's trees have the numbers from `first` on.
@@ -68,7 +68,7 @@ fn trees_due(area: &[u8], old: &[u8], new: &[u8], message: &[u8]) -> bool
     ensures { λ r. ⌜ r ≡ treesDue (now (area .entry)) (now (message .entry)) ⌝ }
 {
     let sender = message::inner::sender(message) as usize;
-    let sent = pattern::inner::sent(old, new, sender, assembly::area::rank(area));
+    let sent = pattern::range::sent(old, new, sender, assembly::area::rank(area));
     let first = sent.first;
     let count = sent.count;
     if message::inner::tree_count(message) != count {

@@ -16,7 +16,7 @@ use Rattle.bits.specs.Bits.{inSet}
 use Rattle.bits.proofs.Bits.{in-none}
 use Rattle.offsets.specs.Table.{ranks, ranksOk, trees, valid}
 use Rattle.pattern.specs.Calls.{tableChecks}
-use Rattle.pattern.specs.Mirror.{PairOf}
+use Rattle.pattern.specs.Means.{PairOf}
 use Rattle.pattern.specs.Sender.{sentCount}
 use Rattle.pattern.specs.Sets.{sendsTo}
 use Rattle.pattern.proofs.Answers.{tables-agree}

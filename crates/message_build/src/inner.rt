@@ -5,7 +5,7 @@ ghost use lib.ListN.{length};
 ghost use Rattle.encoding.specs.Below.{countBelow};
 ghost use Rattle.encoding.specs.Refusal.{firstFailed};
 ghost use Rattle.bits.specs.Bits.{inSet};
-ghost use Rattle.pattern.specs.Mirror.{PairOf};
+ghost use Rattle.pattern.specs.Means.{PairOf};
 ghost use Rattle.pattern.specs.Sender.{sentCount};
 ghost use Rattle.message.specs.Calls.{buildChecks};
 ghost use Rattle.message.specs.Layout.{messageSize};
@@ -14,7 +14,7 @@ ghost use Rattle.message.specs.Layout.{messageSize};
 pub fn refusal(part: &[u8], old: &[u8], new: &[u8], p: u32, q: u32) -> u32
     ensures { λ r. ⌜ r ≡ firstFailed (buildChecks (now (part .entry)) (now (old .entry)) (now (new .entry)) p q) ⌝ }
 {
-    let refusal = pattern::inner::tables_refusal(old, new);
+    let refusal = pattern::tables::tables_refusal(old, new);
     if refusal != 0 {
         return refusal;
     }
@@ -28,7 +28,7 @@ pub fn refusal(part: &[u8], old: &[u8], new: &[u8], p: u32, q: u32) -> u32
     if !part::sound::part_sound(part, old, p) {
         return 8;
     }
-    if !pattern::inner::sends_some(old, new, p as usize, q as usize) {
+    if !pattern::range::sends_some(old, new, p as usize, q as usize) {
         return 9;
     }
     0
@@ -39,7 +39,7 @@ pub fn message_size(old: &[u8], new: &[u8], p: u32, q: u32, marks: &[u64]) -> us
     requires { ⌜ PairOf (now old) (now new) p q × (length (now marks) ≤ 16384) ⌝ }
     ensures { λ r. ⌜ r ≡ messageSize (sentCount (now (old .entry)) (now (new .entry)) p q) (countBelow (64 * length (now (marks .entry))) (inSet (now (marks .entry)))) ⌝ }
 {
-    let sent = pattern::inner::sent(old, new, p as usize, q as usize);
+    let sent = pattern::range::sent(old, new, p as usize, q as usize);
     let n = sent.count;
     32 + (64 * (n as usize) + 40 * (crate::write::member_count(marks) as usize))
 }

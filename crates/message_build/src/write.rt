@@ -222,7 +222,7 @@ pub fn write_message(
     let dimension = part::sound::dimension(part);
     let trees = part::sound::trees(part);
     let ranks = offsets::table::ranks(old) as u32;
-    let sent = pattern::inner::sent(old, new, p as usize, q as usize);
+    let sent = pattern::range::sent(old, new, p as usize, q as usize);
     let low = sent.first;
     let n = sent.count;
     let g = member_count(marks);

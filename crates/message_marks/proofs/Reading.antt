@@ -9,7 +9,7 @@ use borrow.Author.Tests.{lt-ltb, le-ltb, eq-eqb, ne-eqb}
 use Rattle.encoding.specs.Pieces.{piece}
 use Rattle.offsets.specs.Table.{ranks, holds}
 use Rattle.pattern.specs.Sender.{sender}
-use Rattle.pattern.specs.Mirror.{PairOf, TreeOf}
+use Rattle.pattern.specs.Means.{PairOf, TreeOf}
 use Rattle.pattern.proofs.Sets.{new-below}
 use Rattle.records.specs.Shape.{faceCount}
 use Rattle.records.specs.Record.{coreSize, numberOf, shapeOf, neighbourOf}

@@ -10,7 +10,7 @@ use Rattle.encoding.specs.Pieces.{piece, Bytes}
 use Rattle.bits.specs.Bits.{inSet}
 use Rattle.offsets.specs.Table.{holds}
 use Rattle.pattern.specs.Sender.{sender}
-use Rattle.pattern.specs.Mirror.{PairOf}
+use Rattle.pattern.specs.Means.{PairOf}
 use Rattle.records.specs.Shape.{faceCount}
 use Rattle.records.specs.Record.{coreSize, numberOf, shapeOf, neighbourOf}
 use Rattle.part.specs.Layout.{treePlace, ghostPlace}

@@ -81,7 +81,7 @@ pub fn mark_ghosts(part: &[u8], old: &[u8], new: &[u8], p: u32, q: u32, marks: &
     let to = q as usize;
     let own = part::sound::first_tree(part);
     let count = part::sound::tree_count(part);
-    let sent = pattern::inner::sent(old, new, from, to);
+    let sent = pattern::range::sent(old, new, from, to);
     let first = sent.first;
     let n = sent.count;
     let mut i = 0;

@@ -7,7 +7,7 @@ ghost use mathlib.Core.Path.{_≡_};
 ghost use Prim.Native.Nat.{_<_};
 ghost use Rattle.records.specs.Shape.{faceCount};
 ghost use Rattle.records.specs.Record.{shapeOf};
-ghost use Rattle.pattern.specs.Mirror.{PairOf};
+ghost use Rattle.pattern.specs.Means.{PairOf};
 ghost use Rattle.part.specs.Part.{partCore};
 ghost use Rattle.message_marks.specs.Mirror.{AtRecord, numberAt, sentBefore, besideBefore, goes as goesTo};
 
@@ -20,7 +20,7 @@ fn sent_before(old: &[u8], new: &[u8], p: usize, q: usize, tree: GlobalIndex) ->
     if !offsets::table::holds(new, q, h as u64) {
         return false;
     }
-    let sender = pattern::inner::sender(old, h as u64, q);
+    let sender = pattern::holder::sender(old, h as u64, q);
     (sender == q) | (sender < p)
 }
 

@@ -14,7 +14,7 @@ use Rattle.offsets.specs.Table.{ranks, ranksOk, valid, trees, entry, negative, 
 use Rattle.offsets.proofs.Tables.{ranks-low, zero-first, plain-magnitude, small-plain, plain-first, shared-first, end-next, end-trees, rises, last-end}
 use Rattle.pattern.specs.declared.Sender.the-variants.{Rank, Nobody}
 use Rattle.pattern.specs.Sender.{Tables, leastHolder, sender, senderTo, sends, sentCount, sentFirst}
-use Rattle.pattern.specs.Mirror.{sentLow, sentHigh}
+use Rattle.pattern.specs.Means.{sentLow, sentHigh}
 use Rattle.pattern.proofs.Counting.{range-true, range-in, range-out, range-meet, count-span, least-span}
 
 -- ---- the trees of a rank

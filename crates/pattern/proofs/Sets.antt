@@ -13,7 +13,7 @@ use Rattle.offsets.specs.Table.{ranks, trees, entry, magnitude, firstTree, endT
 use Rattle.offsets.proofs.Tables.{count-add, end-trees}
 use Rattle.pattern.specs.Sender.{Tables, sender, sends, sentFirst, sentCount}
 use Rattle.pattern.specs.Sets.{sendsTo, sendSet, getsFrom, receiveSet}
-use Rattle.pattern.specs.Mirror.{sentLow, sentHigh}
+use Rattle.pattern.specs.Means.{sentLow, sentHigh}
 use Rattle.pattern.proofs.Counting.{range-true, range-in, range-out, any-span, count-one, pairs-three}
 use Rattle.pattern.proofs.Senders.{holds-true, holds-in, first-near, end-before, sender-lt, sender-holds, sends-true, sends-in, sends-range, sent-high, sent-count, sent-first, sent-other, sent-new}
 

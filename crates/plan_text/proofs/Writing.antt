@@ -23,7 +23,7 @@ use Rattle.offsets.specs.Table.{ranks, ranksOk, trees, valid, tableBytes}
 use Rattle.offsets.proofs.Tables.{never-falls, ranks-within, ranks-high, trees-high}
 use Rattle.pattern.specs.Sender.{Tables, sends, sentFirst, sentCount}
 use Rattle.pattern.specs.Sets.{sendsTo, sendSet}
-use Rattle.pattern.specs.Mirror.{PairOf}
+use Rattle.pattern.specs.Means.{PairOf}
 use Rattle.pattern.specs.Calls.{tableChecks}
 use Rattle.pattern.proofs.Sets.{send-member, send-length, send-ascends, one-range, sent-in, sent-below, move-bound}
 use Rattle.pattern.proofs.Answers.{tables-agree}

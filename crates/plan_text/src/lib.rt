@@ -6,7 +6,7 @@ ghost use Rattle.plan_text.specs.Plan.{planAnswer};
 ghost use Rattle.plan_text.specs.Mirror.Writing.{outputAnswer, tablesOutput};
 use encoding::answer::Length;
 use offsets::table::rank_count_ok;
-use pattern::inner::tables_refusal;
+use pattern::tables::tables_refusal;
 use read::read_input;
 use write::write_moves;
 use write::write_refused;

@@ -8,14 +8,14 @@ ghost use Rattle.encoding.specs.Below.{countBelow};
 ghost use Rattle.offsets.specs.Table.{ranks as ranksOf};
 ghost use Rattle.pattern.specs.Sender.{Tables};
 ghost use Rattle.pattern.specs.Sets.{sendsTo};
-ghost use Rattle.pattern.specs.Mirror.{RankOf, PairOf};
+ghost use Rattle.pattern.specs.Means.{RankOf, PairOf};
 ghost use Rattle.plan_text.specs.Text.{decimal, numberLimit, ranksWord};
 ghost use Rattle.plan_text.specs.Plan.{treesWord, messagesWord, refusedWord, lineText, movesFrom, movesText, moveCount, movesOutput};
 ghost use Rattle.plan_text.specs.Mirror.Writing.{Put, Fits, FitsNumber, Small, FitsRow, FitsPair, FitsFrom, FitsMoves, SmallOutput, FitsOutput, numberText, rowText, pairText, outputAnswer};
 use encoding::answer::Length;
 use offsets::table::ranks;
 use offsets::table::trees;
-use pattern::inner::sent;
+use pattern::range::sent;
 
 // How many bytes the text of some moves has, and how many moves it lists.
 struct Size {

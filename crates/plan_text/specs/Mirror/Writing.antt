@@ -13,7 +13,7 @@ use Rattle.offsets.specs.Table.{ranks}
 use Rattle.pattern.specs.Sender.{Tables}
 use Rattle.pattern.specs.Sets.{sendsTo}
 use Rattle.pattern.specs.Calls.{tableChecks}
-use Rattle.pattern.specs.Mirror.{RankOf, PairOf}
+use Rattle.pattern.specs.Means.{RankOf, PairOf}
 use Rattle.plan_text.specs.Text.{decimal, numberLimit}
 use Rattle.plan_text.specs.Plan.{moveWord, refusedWord, lineText, moveText, movesFrom, movesText, moveCount, movesOutput}
 

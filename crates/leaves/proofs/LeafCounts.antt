@@ -5,17 +5,17 @@ use native.Mathlib.Numerals.{add-one}
 use native.Mathlib.Omega.{arith}
 use mathlib.Core.Path.{_≡_, refl, sym, ap, _∙_}
 use mathlib.Core.Bool.{Bool, true, false, cond, not, _&&_}
-use mathlib.Core.List.{List, _++_}
+use mathlib.Core.List.{List}
 use lib.Dec.{leb, ltb}
-use lib.ListN.{length, getD, length-append}
+use lib.ListN.{length, getD}
 use borrow.Author.Tests.{lt-ltb, le-ltb, le-leb, lt-leb, not-true, not-false}
 use Rattle.encoding.specs.Below.{anyBelow, countBelow, leastBelow, sumBelow}
 use Rattle.encoding.specs.Pieces.{splice}
-use Rattle.encoding.specs.Numbers.{leBytes, lePut, putU64}
+use Rattle.encoding.specs.Numbers.{putU64}
 use Rattle.encoding.proofs.Below.{tests, either, clash, and-fst, and-snd, and-intro, iff-eq, all-at, all-intro, any-intro, any-at, count-range, count-initial, count-none, least-is, least-none, least-below, least-at, least-le, sum-more, sum-mono, sum-strict, sum-le, count-le}
-use Rattle.encoding.proofs.Pieces.{splice-none, splice-next}
-use Rattle.encoding.proofs.Numbers.{bytes-length, length-put}
-use Rattle.offsets.specs.Limits.{maxRanks, maxTrees, rankCountOk, treeCountOk}
+use Rattle.encoding.proofs.Pieces.{splice-none}
+use Rattle.encoding.proofs.Numbers.{length-put}
+use Rattle.offsets.specs.Limits.{maxTrees, rankCountOk, treeCountOk}
 use Rattle.leaves.specs.Leaves.{maxLeaves, leavesOk, leafStart, leafTotal, cut, leafHolds, leafFirst, leafCount, equalShares, leafTable}
 use Rattle.leaves.specs.Means.{treesBefore, sharedEntry, leafEntry, Walking}
 use Rattle.offsets_write.specs.Partition.{nonEmpty, onRank, lastTree, coversAll, coversOnly, ascending, validPartition, endBelow, entryOf, entriesBelow, tableOf, IsTable}

@@ -11,9 +11,9 @@ use lib.ListN.{length, take, drop, length-append}
 use lib.Seq.{take-at, drop-at, take-add, take-all}
 use borrow.Author.Tests.{ltb-true, ltb-false, eqb-true, eqb-false, leb-true, leb-false, lt-ltb, le-ltb, le-leb, lt-leb, eq-eqb}
 use Rattle.encoding.specs.Pieces.{Bytes, piece, splice}
-use Rattle.encoding.specs.Numbers.{leValue, leBytes, leAt, lePut, putU64}
+use Rattle.encoding.specs.Numbers.{leValue, leBytes, leAt, putU64}
 use Rattle.encoding.proofs.Below.{tests, either, and-fst, and-snd, and-intro, iff-eq, below-suc, all-at, all-intro, all-more, all-fails, all-same, any-at, any-intro}
-use Rattle.encoding.proofs.Pieces.{piece-length, bytes-piece, splice-next}
+use Rattle.encoding.proofs.Pieces.{piece-length, bytes-piece}
 use Rattle.encoding.proofs.Numbers.{bytes-length, value-bytes, bytes-value, put-next}
 use Rattle.offsets.specs.Limits.{maxTrees, rankCountOk, treeCountOk}
 use Rattle.offsets.specs.Table.{tableLength, ranks, ranksOk, entry, negative, magnitude, trees, firstTree, endTree, treeCount, holds, entriesWithin, countsOk, valid}

@@ -12,7 +12,7 @@ use Rattle.encoding.specs.Pieces.{Bytes, splice}
 use Rattle.encoding.proofs.Below.{and-snd, count-le, count-more, count-mono, count-lt, kept-more, kept-length, least-is}
 use Rattle.encoding.proofs.Pieces.{splice-none, splice-cons, splice-next, length-splice}
 use Rattle.offsets.specs.Limits.{maxRanks, maxTrees}
-use Rattle.offsets.specs.Table.{tableLength, ranks, ranksOk, entry, trees, firstTree, endTree}
+use Rattle.offsets.specs.Table.{tableLength, ranks, ranksOk, firstTree, endTree}
 use Rattle.offsets.proofs.OnePass.{ranks-known}
 use Rattle.offsets.proofs.Tables.{end-next, rises, last-end, ranks-low, trees-high}
 use Rattle.pattern.proofs.Senders.{least-end, sent-high, sent-count, sent-first}

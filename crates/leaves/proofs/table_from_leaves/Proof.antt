@@ -1,11 +1,9 @@
 use Rattle.leaves.proofs.LeafCounts.{leaf-table-length}
-use Rattle.leaves.specs.Leaves.{leafTable}
 use Rattle.leaves.specs.Calls.{tableFromLeaves, leavesRefusal}
 use Rattle.offsets.specs.Table.{tableLength}
 use Rattle.encoding.specs.Answer.{writeAnswer, lengthAnswer, written}
 use Rattle.encoding.specs.Refusal.{firstFailed}
 use lib.ListN.{length}
-use native.Mathlib.Omega.{arith}
 use borrow.Author.Tests.{not-true, not-false, le-leb, lt-leb}
 use mathlib.Core.Path.{_∙_, sym}
 use borrow.Author.Needs.{needs}

@@ -6,7 +6,7 @@ use Rattle.offsets.specs.Calls.{tableRange, rangeAnswer, rangeRefusal}
 use Rattle.encoding.specs.Refusal.{firstFailed}
 use native.Mathlib.Omega.{arith}
 use borrow.Author.Tests.{not-true, not-false, le-ltb, lt-ltb}
-use mathlib.Core.Path.{_∙_, sym, ap}
+use mathlib.Core.Path.{_∙_, sym}
 use borrow.Author.Needs.{needs}
 use Rattle.offsets.proofs.table_range.Statement.{statement}
 use Rattle.offsets.proofs.table_range.Tie as tie

@@ -4,7 +4,6 @@ use Rattle.offsets.specs.Table.{tableLength}
 use Rattle.encoding.specs.Answer.{writeAnswer, lengthAnswer, written}
 use Rattle.encoding.specs.Refusal.{firstFailed}
 use lib.ListN.{length}
-use native.Mathlib.Omega.{arith}
 use borrow.Author.Tests.{not-true, not-false, le-leb, lt-leb}
 use mathlib.Core.Path.{_∙_, sym}
 use borrow.Author.Needs.{needs}

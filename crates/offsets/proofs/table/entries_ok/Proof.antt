@@ -1,11 +1,11 @@
 use Rattle.offsets.proofs.OnePass.{entry-turn}
-use Rattle.offsets.specs.Means.{entryOkAt, entryOk}
+use Rattle.offsets.specs.Means.{entryOkAt}
 use Rattle.encoding.proofs.Below.{all-more, all-fails, all-to}
 use Rattle.encoding.specs.Below.{allBelow}
 use borrow.Author.Tests.{not-true, not-false}
 use native.Mathlib.Omega.{arith}
 use mathlib.Core.Bool.{true}
-use mathlib.Core.Path.{_≡_, sym, refl, _∙_}
+use mathlib.Core.Path.{_≡_, sym, _∙_}
 use Prim.Native.Nat.{_≤_, _-_}
 use borrow.Author.Needs.{needs}
 use Rattle.offsets.proofs.table.entries_ok.Statement.{statement}

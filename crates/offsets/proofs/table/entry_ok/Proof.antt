@@ -1,7 +1,5 @@
 use Rattle.offsets.specs.Means.{entryOk}
 use borrow.Author.Tests.{le-leb, lt-leb}
-use mathlib.Core.Bool.{_&&_}
-use mathlib.Core.Path.{sym, refl, ap, _∙_}
 use borrow.Author.Needs.{needs}
 use Rattle.offsets.proofs.table.entry_ok.Statement.{statement}
 use Rattle.offsets.proofs.table.entry_ok.Tie as tie

@@ -1,5 +1,4 @@
 use Rattle.offsets.specs.Table.{firstOf}
-use Rattle.encoding.proofs.Below.{tests}
 use native.Mathlib.Omega.{arith}
 use mathlib.Core.Path.{_∙_, sym}
 use borrow.Author.Needs.{needs}

@@ -1,8 +1,7 @@
 use Rattle.offsets.proofs.OnePass.{negative-high}
 use Rattle.offsets.specs.Table.{magnitude, negative}
-use Rattle.encoding.proofs.Below.{tests}
 use native.Mathlib.Omega.{arith}
-use mathlib.Core.Path.{_∙_, sym, refl}
+use mathlib.Core.Path.{_∙_, sym}
 use borrow.Author.Needs.{needs}
 use Rattle.offsets.proofs.table.magnitude.Statement.{statement}
 use Rattle.offsets.proofs.table.magnitude.Tie as tie

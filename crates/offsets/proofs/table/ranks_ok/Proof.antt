@@ -1,8 +1,6 @@
 use Rattle.offsets.proofs.OnePass.{ranks-short}
 use Rattle.offsets.specs.Table.{ranks, ranksOk}
-use lib.Dec.{eqb}
-use mathlib.Core.Bool.{_&&_}
-use mathlib.Core.Path.{sym, refl, ap}
+use mathlib.Core.Path.{sym}
 use borrow.Author.Needs.{needs}
 use Rattle.offsets.proofs.table.ranks_ok.Statement.{statement}
 use Rattle.offsets.proofs.table.ranks_ok.Tie as tie

@@ -1,9 +1,8 @@
 use Rattle.offsets.proofs.OnePass.{not-from-zero, not-in-limits, entries-decide, trees-read}
 use Rattle.offsets.specs.Limits.{treeCountOk}
-use Rattle.offsets.specs.Table.{trees, entry}
-use native.Mathlib.Omega.{arith}
+use Rattle.offsets.specs.Table.{entry}
 use borrow.Author.Tests.{not-true, not-false}
-use mathlib.Core.Path.{sym, _∙_, ap, _≡_}
+use mathlib.Core.Path.{sym, _∙_, ap}
 use borrow.Author.Needs.{needs}
 use Rattle.offsets.proofs.table.valid.Statement.{statement}
 use Rattle.offsets.proofs.table.valid.Tie as tie

@@ -14,7 +14,7 @@ use Rattle.pattern.specs.Calls.{tableChecks}
 use Rattle.plan_read.specs.Text.{digitsOf, decimal}
 use Rattle.plan_read.specs.Read.{isDigit, digitCount, valueOf, digitsOk, readNumber, negated, readEntry, before, readList, wordAt, readRanks, readOld, readNew, formOk, parse}
 use Rattle.plan_write.specs.Moves.{lineText, moveText, movesFrom, movesText, moveCount, movesOutput}
-use Rattle.plan_text.specs.Plan.{planRefusal, planOutput}
+use Rattle.plan_text.specs.Plan.{planRanksOk, planRefusal, planOutput}
 
 -- ranks=3, old=0,-2,3,5, new=0,-3,-4,5
 abbrev input : List ℕ
@@ -36,5 +36,5 @@ output =
     109 ∷ 101 ∷ 115 ∷ 115 ∷ 97 ∷ 103 ∷ 101 ∷ 115 ∷ 61 ∷ 53 ∷ 10 ∷ []
 
 pub plan-example : planOutput input ≡ output
-unfolding planOutput planRefusal movesOutput moveCount movesText movesFrom moveText lineText parse formOk readNew readOld readRanks wordAt readList before readEntry negated readNumber digitsOk valueOf digitCount isDigit decimal digitsOf tableChecks sendsTo sentFirst sentCount sends sender leastHolder tableBytes valid countsOk entriesWithin holds endTree firstTree trees firstOf magnitude negative entry ranksOk ranks treeCountOk rankCountOk firstFailed leAt leBytes leValue piece allBelow anyBelow countBelow leastBelow sumBelow
+unfolding planOutput planRefusal planRanksOk movesOutput moveCount movesText movesFrom moveText lineText parse formOk readNew readOld readRanks wordAt readList before readEntry negated readNumber digitsOk valueOf digitCount isDigit decimal digitsOf tableChecks sendsTo sentFirst sentCount sends sender leastHolder tableBytes valid countsOk entriesWithin holds endTree firstTree trees firstOf magnitude negative entry ranksOk ranks treeCountOk rankCountOk firstFailed leAt leBytes leValue piece allBelow anyBelow countBelow leastBelow sumBelow
 plan-example = refl

@@ -1,6 +1,6 @@
 -- The program's output, as one value of its input.
 use Prim.Native.Nat.{ℕ}
-use mathlib.Core.Bool.{cond, _&&_}
+use mathlib.Core.Bool.{Bool, cond, _&&_}
 use mathlib.Core.List.{List, [], _∷_}
 use lib.Dec.{leb, eqb}
 use lib.ListN.{length}
@@ -10,17 +10,17 @@ use Rattle.encoding.specs.declared.answer.Length.{Length}
 use Rattle.offsets.specs.Table.{tableBytes}
 use Rattle.pattern.specs.Calls.{tableChecks}
 use Rattle.plan_read.specs.Read.{parse}
-use Rattle.plan_write.specs.Moves.{refusedWord, lineText, movesOutput}
+use Rattle.plan_write.specs.Moves.{planRanks, refusedWord, lineText, movesOutput}
 
--- the program's own limit of P
-abbrev pub planRanks : ℕ
-planRanks = 1024
+-- P from 1 to the program's own limit
+unfoldable pub planRanksOk : ℕ → Bool
+planRanksOk P = leb 1 P && leb P planRanks
 
 -- why the input is refused: its form, its P, and the two tables
 unfoldable pub planRefusal : List ℕ → ℕ
 planRefusal text =
     firstFailed
-    (check (parse text .ok) 1 ∷ check (leb 1 (parse text .ranks) && leb (parse text .ranks) planRanks) 2 ∷ tableChecks (tableBytes (parse text .old)) (tableBytes (parse text .new)))
+    (check (parse text .ok) 1 ∷ check (planRanksOk (parse text .ranks)) 2 ∷ tableChecks (tableBytes (parse text .old)) (tableBytes (parse text .new)))
 
 -- the output
 unfoldable pub planOutput : List ℕ → List ℕ

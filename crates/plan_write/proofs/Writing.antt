@@ -23,8 +23,8 @@ use Rattle.pattern.specs.Sets.{sendsTo}
 use Rattle.pattern.specs.Means.{PairOf}
 use Rattle.pattern.proofs.Sets.{sent-below}
 use Rattle.plan_read.specs.Text.{digitsOf, decimal, numberLimit, ranksWord}
-use Rattle.plan_write.specs.Moves.{treesWord, moveWord, messagesWord, lineText, moveText, movesFrom, movesText, moveCount, movesOutput}
-use Rattle.plan_write.specs.Means.{Put, Fits, FitsNumber, Small, FitsRow, FitsPair, FitsFrom, FitsMoves, SmallOutput, FitsOutput, numberText, rowText, pairText, outputAnswer}
+use Rattle.plan_write.specs.Moves.{planRanks, treesWord, moveWord, messagesWord, lineText, moveText, movesFrom, movesText, moveCount, movesOutput}
+use Rattle.plan_write.specs.Means.{Put, Fits, FitsNumber, Small, FitsRow, FitsPair, FitsFrom, FitsMoves, PlanTables, SmallOutput, FitsOutput, numberText, rowText, pairText, outputAnswer}
 use Rattle.plan_read.proofs.Decimals.{decimal-most}
 
 -- ---- numbers
@@ -205,9 +205,9 @@ module _ (old new : List ℕ) where
   text-most (suc n) = omega (arith, rw add-one at (text-length n), text-most n, from-most n (ranks old))
 
   -- at most one move for each pair of ranks
-  pub moves-most : (n : ℕ) → n ≤ 1024 → ranks old ≤ 1024 → sumBelow n (λ p. countBelow (ranks old) (sendsTo old new p)) ≤ 1048576
+  pub moves-most : (n : ℕ) → n ≤ planRanks → ranks old ≤ planRanks → sumBelow n (λ p. countBelow (ranks old) (sendsTo old new p)) ≤ planRanks * planRanks
   moves-most n h r =
-      omega (arith, sum-le n (λ p. countBelow (ranks old) (sendsTo old new p)) 1024 (λ p _. omega (arith, count-le (ranks old) (sendsTo old new p))))
+      omega (arith, sum-le n (λ p. countBelow (ranks old) (sendsTo old new p)) planRanks (λ p _. omega (arith, count-le (ranks old) (sendsTo old new p))))
 
 -- the trees from p to q: the first and how many
 module _ {old new : List ℕ} {p q first count : ℕ} (P : PairOf old new p q) (a : first ≡ sentFirst old new p q) (b : count ≡ sentCount old new p q) where
@@ -281,11 +281,12 @@ module _ (old new : List ℕ) where
   output-length = simp length-append (omega arith)
 
   -- its numbers have at most 8 digits
-  pub output-small : {P K bytes moves : ℕ} → Tables old new → P ≡ ranks old → K ≡ trees old → bytes ≡ length (movesText old new (ranks old)) → moves ≡ moveCount old new → SmallOutput P K bytes moves
+  pub output-small : {P K bytes moves : ℕ} → PlanTables old new → P ≡ ranks old → K ≡ trees old → bytes ≡ length (movesText old new (ranks old)) → moves ≡ moveCount old new → SmallOutput P K bytes moves
   unfolding moveCount
   output-small T p k l m =
-      let r = ranks-high old (T .oldBytes) (T .oldRanks) (T .oldValid) in
-      let t = trees-high old (T .oldBytes) (T .oldRanks) (T .oldValid) in
+      let A = T .agree in
+      let r = T .few in
+      let t = trees-high old (A .oldBytes) (A .oldRanks) (A .oldValid) in
       let c = moves-most old new (ranks old) r r in
       record { ranksSmall = omega arith; treesSmall = omega arith; bytesSmall = omega (arith, text-most old new (ranks old)); movesSmall = omega arith }
 
@@ -323,7 +324,7 @@ module _ {old new out : List ℕ} {moves P : ℕ} (r : FitsOutput old new out mo
       rest2 = fits-next x _ rest1
 
       pub output-moves : FitsMoves old new o2 n2
-      output-moves = record { tables = r .tables; fits = fits-first (movesText old new (ranks old)) _ rest2 }
+      output-moves = record { tables = r .tables .agree; fits = fits-first (movesText old new (ranks old)) _ rest2 }
 
       module _ {o3 : List ℕ} {n3 : ℕ} (y : Put o2 o3 n2 n3 (movesText old new (ranks old))) where
         pub output-count : FitsNumber o3 n3 moves (lineText messagesWord moves)

@@ -14,7 +14,7 @@ use Rattle.pattern.specs.Sender.{Tables}
 use Rattle.pattern.specs.Sets.{sendsTo}
 use Rattle.pattern.specs.Means.{RankOf, PairOf}
 use Rattle.plan_read.specs.Text.{decimal, numberLimit}
-use Rattle.plan_write.specs.Moves.{moveWord, moveText, movesFrom, movesText, moveCount, movesOutput}
+use Rattle.plan_write.specs.Moves.{planRanks, moveWord, moveText, movesFrom, movesText, moveCount, movesOutput}
 
 -- the text stands at its place, all else is as before, and `next` is the place behind it
 pub record Put (before after : List ℕ) (at next : ℕ) (text : List ℕ) : Type 0 where
@@ -74,16 +74,21 @@ pub record FitsMoves (old new out : List ℕ) (at : ℕ) : Type 0 where
 
 -- ---- the output
 
+-- two tables that agree, within the program's own limit of P
+pub record PlanTables (old new : List ℕ) : Type 0 where
+  pub agree : Tables old new
+  pub few : ranks old ≤ planRanks
+
 -- three numbers of at most 8 digits, and at most 41 bytes for each pair of ranks
 pub record SmallOutput (ranks trees bytes moves : ℕ) : Type 0 where
   pub ranksSmall : ranks < numberLimit
   pub treesSmall : trees < numberLimit
-  pub bytesSmall : bytes ≤ 41 * 1048576
+  pub bytesSmall : bytes ≤ 41 * (planRanks * planRanks)
   pub movesSmall : moves < numberLimit
 
 -- room for the output, and how many moves it lists
 pub record FitsOutput (old new out : List ℕ) (moves : ℕ) : Type 0 where
-  pub tables : Tables old new
+  pub tables : PlanTables old new
   pub counted : moves ≡ moveCount old new
   pub fits : Fits out 0 (movesOutput old new)
 

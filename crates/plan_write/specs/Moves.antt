@@ -8,6 +8,10 @@ use Rattle.pattern.specs.Sender.{sentFirst, sentCount}
 use Rattle.pattern.specs.Sets.{sendsTo}
 use Rattle.plan_read.specs.Text.{decimal, ranksWord}
 
+-- the program's own limit of P
+abbrev pub planRanks : ℕ
+planRanks = 1024
+
 -- trees=
 abbrev pub treesWord : List ℕ
 treesWord = 116 ∷ 114 ∷ 101 ∷ 101 ∷ 115 ∷ 61 ∷ []

@@ -7,11 +7,10 @@ ghost use mathlib.Core.Bool.{cond};
 ghost use lib.ListN.{length};
 ghost use Rattle.encoding.specs.Below.{countBelow};
 ghost use Rattle.offsets.specs.Table.{ranks as ranksOf};
-ghost use Rattle.pattern.specs.Sender.{Tables};
 ghost use Rattle.pattern.specs.Sets.{sendsTo};
 ghost use Rattle.pattern.specs.Means.{RankOf, PairOf};
 ghost use Rattle.plan_write.specs.Moves.{movesFrom, movesText, moveCount};
-ghost use Rattle.plan_write.specs.Means.{Put, Small, FitsRow, FitsPair, FitsFrom, FitsMoves, rowText, pairText};
+ghost use Rattle.plan_write.specs.Means.{Put, Small, FitsRow, FitsPair, FitsFrom, FitsMoves, PlanTables, rowText, pairText};
 use offsets::table::ranks;
 use pattern::range::sent;
 
@@ -103,7 +102,7 @@ fn put_from(out: &mut [u8], at: usize, old: &[u8], new: &[u8], p: usize) -> usiz
 }
 
 pub fn moves_size(old: &[u8], new: &[u8]) -> Size
-    requires { ⌜ Tables (now old) (now new) ⌝ }
+    requires { ⌜ PlanTables (now old) (now new) ⌝ }
     ensures { λ r. ⌜ (r .bytes ≡ length (movesText (now (old .entry)) (now (new .entry)) (ranksOf (now (old .entry))))) × (r .moves ≡ moveCount (now (old .entry)) (now (new .entry))) ⌝ }
 {
     let n = ranks(old);

@@ -8,10 +8,9 @@ use encoding::answer::refused;
 ghost use mathlib.Core.Path.{_≡_};
 ghost use Prim.Native.Nat.{_+_, _<_};
 ghost use lib.ListN.{length};
-ghost use Rattle.pattern.specs.Sender.{Tables};
 ghost use Rattle.plan_read.specs.Text.{numberLimit, ranksWord};
 ghost use Rattle.plan_write.specs.Moves.{treesWord, messagesWord, refusedWord, lineText, movesOutput};
-ghost use Rattle.plan_write.specs.Means.{Put, SmallOutput, FitsOutput, outputAnswer};
+ghost use Rattle.plan_write.specs.Means.{Put, PlanTables, SmallOutput, FitsOutput, outputAnswer};
 use offsets::table::ranks;
 use offsets::table::trees;
 
@@ -39,7 +38,7 @@ fn put_output(out: &mut [u8], old: &[u8], new: &[u8], moves: u64) -> usize
 
 // The output of two tables that agree, if it fits (22).
 pub fn write_moves(old: &[u8], new: &[u8], out: &mut [u8]) -> Length
-    requires { ⌜ Tables (now old) (now new) ⌝ }
+    requires { ⌜ PlanTables (now old) (now new) ⌝ }
     ensures { λ r. ⌜ (r, now (out .exit)) ≡ outputAnswer (movesOutput (now (old .entry)) (now (new .entry))) (now (out .entry)) ⌝ }
 {
     let size = moves_size(old, new);

@@ -1,4 +1,4 @@
-use Rattle.plan_text.proofs.Answers.{tables-small, tables-refused, tables-moved}
+use Rattle.plan_text.proofs.Answers.{table-few, tables-small, tables-refused, tables-moved}
 use Rattle.plan_write.specs.Means.{outputAnswer}
 use Rattle.pattern.proofs.Answers.{tables-agree}
 use mathlib.Core.Path.{ap, _∙_}
@@ -29,7 +29,11 @@ write-moves-requires c κs =
     let shared-slice-known = c .before .before .before .before .before .shared-slice-known in
     let shared-slice-known2 = c .before .before .before .before .shared-slice-known2 in
     let if1 = c .before .if1 in
-    tables-agree _ _ _ (tables-refusal .ensures) (λ i. shared-slice-known .given i .fits) (λ i. shared-slice-known2 .given i .fits) (if1 .left)
+    let pre = c .before .before .before .before .before .before .pre in
+    record {
+      agree = tables-agree _ _ _ (tables-refusal .ensures) (λ i. shared-slice-known .given i .fits) (λ i. shared-slice-known2 .given i .fits) (if1 .left);
+      few = table-few _ pre;
+    }
 
 same-length-2 : tie.Need-same-length-2
 same-length-2 c = search needs

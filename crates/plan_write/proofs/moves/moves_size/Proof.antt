@@ -19,26 +19,28 @@ abbrev μ-loop : tie.MeasureT-loop
 μ-loop old new n bytes₀ moves₀ p₀ bytes moves p = n - p
 
 ranks-requires : tie.Need-ranks-requires Inv-loop μ-loop
-ranks-requires c κs = c .before .before .pre .oldRanks
+ranks-requires c κs = c .before .before .pre .agree .oldRanks
 
 loop-holds : tie.Need-loop-holds Inv-loop μ-loop
 unfolding movesText sumBelow
 loop-holds c = (omega arith, (refl, refl))
 
 from-size-requires : tie.Need-from-size-requires Inv-loop μ-loop
-from-size-requires c κs = record { tables = c .before .before .before .before .before .pre; rankBelow = omega arith }
+from-size-requires c κs = record { tables = c .before .before .before .before .before .pre .agree; rankBelow = omega arith }
 
 add-bytes : tie.Need-add-bytes Inv-loop μ-loop
 add-bytes c =
     let args = c .before .before .before .before .before .before .before .args in
+    let pre = c .before .before .before .before .before .before .before .pre in
     let loop = c .before .before .before .loop in
-    let old = args .old .now in let new = args .new .now in let p = loop .p in omega (arith, text-length old new p, text-most old new (p + 1), moves-most old new (p + 1) (omega arith) (omega arith))
+    let old = args .old .now in let new = args .new .now in let p = loop .p in omega (arith, text-length old new p, text-most old new (p + 1), moves-most old new (p + 1) (omega (arith, pre .few)) (pre .few))
 
 add-moves : tie.Need-add-moves Inv-loop μ-loop
 add-moves c =
     let args = c .before .before .before .before .before .before .before .before .args in
+    let pre = c .before .before .before .before .before .before .before .before .pre in
     let loop = c .before .before .before .before .loop in
-    let old = args .old .now in let new = args .new .now in let p = loop .p in omega (arith, sum-more p (λ i. countBelow (ranks old) (sendsTo old new i)), moves-most old new (p + 1) (omega arith) (omega arith))
+    let old = args .old .now in let new = args .new .now in let p = loop .p in omega (arith, sum-more p (λ i. countBelow (ranks old) (sendsTo old new i)), moves-most old new (p + 1) (omega (arith, pre .few)) (pre .few))
 
 add-p : tie.Need-add-p Inv-loop μ-loop
 add-p c = search needs

@@ -8,10 +8,10 @@ moves-size-requires : tie.Need-moves-size-requires
 moves-size-requires c κs = search needs
 
 ranks-requires : tie.Need-ranks-requires
-ranks-requires c κs = search needs
+ranks-requires c κs = c .before .before .before .before .pre .agree .oldRanks
 
 trees-requires : tie.Need-trees-requires
-trees-requires c κs = search needs
+trees-requires c κs = c .before .before .before .before .before .pre .agree .oldRanks
 
 output-length-requires : tie.Need-output-length-requires
 output-length-requires c κs =

@@ -273,9 +273,9 @@ begins-later ls zero e h = absurd (omega (arith, start-zero ls))
 begins-later ls (suc k) e h = omega arith
 
 -- what the walk finds makes the rank's entry
-entry-walked : (ls : List ℕ) {a b lo hi t s : ℕ} → t ≡ treesBefore ls lo → s ≡ leafStart ls t → lo ≡ a → hi ≡ b → sharedEntry t s lo hi ≡ leafEntry ls a b
+pub entry-walked : (ls : List ℕ) (lo hi : ℕ) {t s v : ℕ} → t ≡ treesBefore ls lo → s ≡ leafStart ls t → v ≡ sharedEntry t s lo hi → v ≡ leafEntry ls lo hi
 unfolding leafEntry
-entry-walked ls et es el eh = rw (es, et, el, eh)
+entry-walked ls lo hi et es ev = ev ∙ rw (es, et)
 
 -- a value between the first and the last of some bounds lies between two in a row
 between : (bound : ℕ → ℕ) (P x : ℕ) → bound 0 ≤ x → x < bound P → (p : ℕ) × (p < P) × (bound p ≤ x) × (x < bound (p + 1))
@@ -480,22 +480,21 @@ module _ {ls : List ℕ} {P : ℕ} {bound : ℕ → ℕ} {out₀ : List ℕ} (cu
         rw e (record { ok = cuts .ok; within = within ls (cuts .ok) P bound (cuts .from) (cuts .to) (cuts .mono) p (w .reached); passed = w .passed; begins = w .begins })
 
     -- one more turn of the loop
-    pub writing-more : {lo hi t s v : ℕ} {out' : List ℕ} → p < P → lo ≡ bound p → hi ≡ bound (p + 1)
-        → t ≡ treesBefore ls lo → s ≡ leafStart ls t → v ≡ sharedEntry t s lo hi → out' ≡ putU64 out (8 * p) v → Writing ls P bound out₀ (p + 1) t s out'
-    writing-more {lo} {hi} {t} {s} {v} {out'} h el eh et es ev eo =
+    pub writing-more : {lo hi t s : ℕ} {out' : List ℕ} → p < P → lo ≡ bound p → hi ≡ bound (p + 1)
+        → t ≡ treesBefore ls lo → s ≡ leafStart ls t → out' ≡ putU64 out (8 * p) (leafEntry ls lo hi) → Writing ls P bound out₀ (p + 1) t s out'
+    writing-more {lo} {hi} {t} {s} {out'} h el eh et es eo =
         let first = leafFirst ls bound in
         let count = leafCount ls bound in
         let b : bound (p + 1) ≤ leafTotal ls = within ls (cuts .ok) P bound (cuts .from) (cuts .to) (cuts .mono) (p + 1) (omega arith) in
         let f : 8 * p + 8 ≤ length out₀ = omega arith in
         let g : 8 * p + 8 ≤ length out = omega (arith, w .size) in
-        let q : sharedEntry t s lo hi ≡ leafEntry ls (bound p) (bound (p + 1)) = entry-walked ls et es el eh in
-        let m : v ≡ entryOf first count p = ev ∙ (q ∙ sym (leaf-entry ls (cuts .ok) P bound (cuts .from) (cuts .to) (cuts .mono) p h)) in
+        let m : leafEntry ls lo hi ≡ entryOf first count p = rw (el, eh) (sym (leaf-entry ls (cuts .ok) P bound (cuts .from) (cuts .to) (cuts .mono) p h)) in
         record {
           reached = omega arith;
           passed = rw (et, el) (before-mono ls (cuts .ok) (bound p) (bound (p + 1)) (cuts .mono p (p + 1) (omega arith) (omega arith)) b);
           begins = es;
           bytes = eo ∙ rw (w .bytes, m) (entries-put first count out₀ p (omega arith));
-          size = ap length eo ∙ (length-put 8 out (8 * p) v g ∙ w .size);
+          size = ap length eo ∙ (length-put 8 out (8 * p) (leafEntry ls lo hi) g ∙ w .size);
         }
 
     -- behind the loop

@@ -6,6 +6,8 @@ use mathlib.Core.List.{List}
 use lib.Dec.{leb, ltb}
 use lib.ListN.{length}
 use Rattle.encoding.specs.Below.{countBelow}
+use Rattle.offsets.specs.Limits.{rankCountOk}
+use Rattle.offsets.specs.Table.{tableLength}
 use Rattle.leaves.specs.Leaves.{maxLeaves, leavesOk, leafStart, leafTotal}
 
 -- a count within its limits
@@ -29,3 +31,10 @@ pub record Walking (ls : List ℕ) (lo tree start : ℕ) : Type 0 where
   pub within : lo ≤ leafTotal ls
   pub passed : tree ≤ treesBefore ls lo
   pub begins : start ≡ leafStart ls tree
+
+-- what writing the table takes: P and the counts within their limits, N, and room
+pub record Writable (P : ℕ) (ls : List ℕ) (N : ℕ) (out : List ℕ) : Type 0 where
+  pub ranksFit : rankCountOk P ≡ true
+  pub leavesFit : leavesOk ls ≡ true
+  pub total : N ≡ leafTotal ls
+  pub room : tableLength P ≤ length out

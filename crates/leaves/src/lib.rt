@@ -24,7 +24,7 @@ pub fn table_from_leaves(ranks: u32, leaves: &[u32], out: &mut [u8]) -> Length
     if out.len() < n {
         return refused(22);
     }
-    table::write(p, leaves, out);
+    table::write(p, leaves, counts::total(leaves), out);
     Length {
         refusal: 0,
         length: n as u64,

@@ -1,16 +1,14 @@
 // Writing the table by a walk over the trees.
-use crate::counts::total;
 use crate::counts::wide;
 use crate::shares::cut;
+use encoding::bytes::write_u64;
 ghost use mathlib.Core.Path.{_≡_};
-ghost use mathlib.Core.Bool.{true};
-ghost use Prim.Native.Nat.{_≤_, _<_};
+ghost use Prim.Native.Nat.{_+_, _*_, _≤_, _<_};
 ghost use lib.ListN.{length};
 ghost use Rattle.encoding.specs.Pieces.{splice};
-ghost use Rattle.offsets.specs.Limits.{rankCountOk};
-ghost use Rattle.offsets.specs.Table.{tableLength};
-ghost use Rattle.leaves.specs.Leaves.{leavesOk, leafStart, leafTable};
-ghost use Rattle.leaves.specs.Means.{treesBefore, sharedEntry, Walking};
+ghost use Rattle.encoding.specs.Numbers.{putU64};
+ghost use Rattle.leaves.specs.Leaves.{leafStart, leafTable};
+ghost use Rattle.leaves.specs.Means.{treesBefore, sharedEntry, leafEntry, Walking, Writable};
 
 // How far a walk over the trees has come: a tree and its first leaf.
 struct Walk {
@@ -44,14 +42,30 @@ fn entry_of(tree: u64, start: u64, lo: u64, hi: u64) -> u64
     }
 }
 
-// The table of the leaf counts, at the start of `out`.
-pub fn write(ranks: usize, leaves: &[u32], out: &mut [u8])
-    requires { ⌜ rankCountOk ranks ≡ true ⌝ }
-    requires { ⌜ leavesOk (now leaves) ≡ true ⌝ }
-    requires { ⌜ tableLength ranks ≤ length (now out) ⌝ }
+// The entry of rank p, which has leaves lo up to, but without, hi. The walk goes on to lo.
+fn put_rank(
+    leaves: &[u32],
+    tree: usize,
+    start: u64,
+    lo: u64,
+    hi: u64,
+    p: usize,
+    out: &mut [u8],
+) -> Walk
+    requires { ⌜ Walking (now leaves) lo tree start × (8 * p + 8 ≤ length (now out)) ⌝ }
+    ensures { λ r. ⌜ (r .tree ≡ treesBefore (now (leaves .entry)) lo) × (r .start ≡ leafStart (now (leaves .entry)) (r .tree)) × (now (out .exit) ≡ putU64 (now (out .entry)) (8 * p) (leafEntry (now (leaves .entry)) lo hi)) ⌝ }
+{
+    let at = advance(leaves, tree, start, lo);
+    let entry = entry_of(at.tree as u64, at.start, lo, hi);
+    write_u64(&mut *out, 8 * p, entry);
+    at
+}
+
+// The table of equal shares of the n leaves, at the start of `out`.
+pub fn write(ranks: usize, leaves: &[u32], n: u64, out: &mut [u8])
+    requires { ⌜ Writable ranks (now leaves) n (now out) ⌝ }
     ensures { λ r. ⌜ now (out .exit) ≡ splice (now (out .entry)) 0 (leafTable ranks (now (leaves .entry))) ⌝ }
 {
-    let n = total(leaves);
     let w = ranks as u64;
     let mut tree: usize = 0;
     let mut start: u64 = 0;
@@ -59,12 +73,10 @@ pub fn write(ranks: usize, leaves: &[u32], out: &mut [u8])
     while p < ranks {
         let lo = cut(n, p as u64, w);
         let hi = cut(n, (p + 1) as u64, w);
-        let at = advance(leaves, tree, start, lo);
+        let at = put_rank(leaves, tree, start, lo, hi, p, &mut *out);
         tree = at.tree;
         start = at.start;
-        let entry = entry_of(tree as u64, start, lo, hi);
-        encoding::bytes::write_u64(&mut *out, 8 * p, entry);
         p += 1;
     }
-    encoding::bytes::write_u64(&mut *out, 8 * ranks, leaves.len() as u64);
+    write_u64(&mut *out, 8 * ranks, leaves.len() as u64);
 }

@@ -55,14 +55,17 @@ returns-3 c =
     let if3 = c .before .if3 in
     simp (c .refused3 .ensures, ← rank-count-ok .ensures, not-false (rank-count-ok .result) (if1 .left), ← leaves-ok .ensures, not-false (leaves-ok .result) (if2 .left), lt-leb (tableLength (args .ranks)) (length (args .out .now)) (if3 .taken))
 
+total-requires : tie.Need-total-requires
+total-requires c κs = sym (c .before .before .leaves-ok .ensures) ∙ not-false _ (c .before .if2 .left)
+
 write-requires : tie.Need-write-requires
 write-requires c κs =
-    let rank-count-ok = c .before .before .before .before .before .rank-count-ok in
-    let if1 = c .before .before .before .before .if1 in
-    let leaves-ok = c .before .before .before .leaves-ok in
-    let if2 = c .before .before .if2 in
-    let if3 = c .before .if3 in
-    (sym (rank-count-ok .ensures) ∙ not-false _ (if1 .left), (sym (leaves-ok .ensures) ∙ not-false _ (if2 .left), if3 .left))
+    let rank-count-ok = c .before .before .before .before .before .before .rank-count-ok in
+    let if1 = c .before .before .before .before .before .if1 in
+    let leaves-ok = c .before .before .before .before .leaves-ok in
+    let if2 = c .before .before .before .if2 in
+    let if3 = c .before .before .if3 in
+    record { ranksFit = sym (rank-count-ok .ensures) ∙ not-false _ (if1 .left); leavesFit = sym (leaves-ok .ensures) ∙ not-false _ (if2 .left); total = c .before .total .ensures .0; room = if3 .left }
 
 same-length : tie.Need-same-length
 same-length c = search needs
@@ -70,12 +73,12 @@ same-length c = search needs
 returns-4 : tie.Need-returns-4
 unfolding tableFromLeaves leavesRefusal firstFailed writeAnswer lengthAnswer written
 returns-4 c =
-    let rank-count-ok = c .before .before .before .before .before .before .before .before .rank-count-ok in
-    let if1 = c .before .before .before .before .before .before .before .if1 in
-    let leaves-ok = c .before .before .before .before .before .before .leaves-ok in
-    let if2 = c .before .before .before .before .before .if2 in
-    let args = c .before .before .before .before .before .before .before .before .before .before .before .args in
-    let if3 = c .before .before .before .before .if3 in
+    let rank-count-ok = c .before .before .before .before .before .before .before .before .before .rank-count-ok in
+    let if1 = c .before .before .before .before .before .before .before .before .if1 in
+    let leaves-ok = c .before .before .before .before .before .before .before .leaves-ok in
+    let if2 = c .before .before .before .before .before .before .if2 in
+    let args = c .before .before .before .before .before .before .before .before .before .before .before .before .args in
+    let if3 = c .before .before .before .before .before .if3 in
     let write = c .before .before .write in
     simp (← rank-count-ok .ensures, not-false (rank-count-ok .result) (if1 .left), ← leaves-ok .ensures, not-false (leaves-ok .result) (if2 .left), le-leb (tableLength (args .ranks)) (length (args .out .now)) (if3 .left), write .ensures, leaf-table-length (args .ranks) (args .leaves .now))
 
@@ -93,6 +96,7 @@ table-from-leaves-spec =
     mul-n
     refused-requires-3
     returns-3
+    total-requires
     write-requires
     same-length
     returns-4)

@@ -348,13 +348,6 @@ module _ (ls : List ℕ) (ok : leavesOk ls ≡ true) (P : ℕ) (bound : ℕ → 
       (λ e. rw (end-is p h e, first-is p h e, holds-is p k h b, e))
       (λ e. rw (holds-is p k h b, e) (out-range (leafFirst ls bound p) k (leafFirst ls bound p + leafCount ls bound p) (λ q. omega (arith, count-empty p h e))))
 
-  -- and no other number is
-  pub leaf-on-rank-past : (p k : ℕ) → p < P → length ls ≤ k → onRank (leafFirst ls bound) (leafCount ls bound) p k ≡ false
-  unfolding onRank
-  leaf-on-rank-past p k h b =
-      out-range (leafFirst ls bound p) k (leafFirst ls bound p + leafCount ls bound p)
-      (λ q. either (ltb (bound p) (bound (p + 1))) (λ e. omega (arith, end-is p h e, before-le ls ok (bound (p + 1)))) (λ e. omega (arith, count-empty p h e)))
-
   -- the trees on lower ranks end with the last that begins before the rank's first leaf
   pub leaf-end : (p : ℕ) → p ≤ P → endBelow (leafFirst ls bound) (leafCount ls bound) p ≡ treesBefore ls (bound p)
   unfolding endBelow

@@ -16,12 +16,12 @@ use Rattle.offsets.proofs.Tables.{ranks-within, trees-within, small-pla
 use Rattle.offsets.specs.Means.{entryOk, entryOkAt, validOnePass}
 
 -- what a table's length tells
-pub record Ranks (t : List ℕ) (P : ℕ) : Type 0 where
+pub record TableRanks (t : List ℕ) (P : ℕ) : Type 0 where
   pub low : 1 ≤ P
   pub high : P ≤ maxRanks
   pub size : length t ≡ tableLength P
 
-pub ranks-known : (t : List ℕ) → ranksOk t ≡ true → Ranks t (ranks t)
+pub ranks-known : (t : List ℕ) → ranksOk t ≡ true → TableRanks t (ranks t)
 unfolding ranksOk
 ranks-known t h =
     let r : (1 ≤ ranks t) × (ranks t ≤ maxRanks) = ranks-within (ranks t) (and-snd (eqb (length t) (tableLength (ranks t))) (rankCountOk (ranks t)) h) in

@@ -90,9 +90,6 @@ module _ (t : List ℕ) (b : Bytes t) (ok : ranksOk t ≡ true) (v : valid t ≡
   unfolding valid
   trees-ok = trees-within (trees t) (and-snd (eqb (entry t 0) 0) (treeCountOk (trees t)) (and-fst _ (entriesWithin t) (and-fst _ (countsOk t) v)))
 
-  pub trees-low : 1 ≤ trees t
-  trees-low = trees-ok .0
-
   pub trees-high : trees t ≤ maxTrees
   trees-high = trees-ok .1
 

@@ -605,13 +605,6 @@ module _ (first count : ℕ → ℕ) (P : ℕ) (ro : rankCountOk P ≡ true) whe
       → (t : List ℕ) × IsTable first count P K t × ((u : List ℕ) → IsTable first count P K u → u ≡ t)
   one-table K ko v = (tableOf first count P, table-of first count P K ro ko v, table-unique K)
 
-  -- ranges that fit have the table that is written
-  pub fit-table : rangesFit first count P ≡ true → IsTable first count P (endBelow first count P) (tableOf first count P)
-  unfolding rangesFit
-  fit-table f =
-      let k = treeCountOk (endBelow first count P) in
-      table-of first count P (endBelow first count P) ro (and-fst k _ f) (and-snd k _ f)
-
 -- ---- the loops of the code: e is the end that they carry
 
 module _ (first count : ℕ → ℕ) where

@@ -151,12 +151,6 @@ module _ (old new : List ℕ) (T : Tables old new) where
   unfolding senderTo
   sender-nobody k q e = rw e
 
-  pub nobody-only : (k q : ℕ) → senderTo old new k q ≡ Nobody → holds new q k ≡ false
-  nobody-only k q e =
-      either (holds new q k)
-      (λ h. let d = sender-defined k q h in let z : _≡_ {A = ℕ} 0 1 = cc in absurd (omega arith))
-      (λ h. h)
-
   -- to one rank, the sender never falls from tree to tree
   pub sender-rises : (j k q : ℕ) → j ≤ k → k < trees old → q < ranks old → sender old j q ≤ sender old k q
   sender-rises j k q l h r =

@@ -7,12 +7,11 @@ use mathlib.Core.List.{List, [], _∷_, _++_}
 use lib.Dec.{leb, eqb}
 use lib.ListN.{length, take}
 use lib.Seq.{length-take-le}
-use borrow.Author.Tests.{leb-true, le-leb, eq-eqb, ne-eqb, eqb-true}
-use Rattle.encoding.specs.Pieces.{Bytes, splice}
+use borrow.Author.Tests.{leb-true, eq-eqb, ne-eqb, eqb-true}
+use Rattle.encoding.specs.Pieces.{Bytes}
 use Rattle.encoding.specs.Numbers.{leBytes}
 use Rattle.encoding.specs.declared.answer.Length.{Length}
 use Rattle.encoding.specs.Refusal.{firstFailed}
-use Rattle.encoding.specs.Answer.{lengthAnswer, written, writeAnswer}
 use Rattle.encoding.proofs.Below.{either, and-snd}
 use Rattle.encoding.proofs.Pieces.{splice-take}
 use Rattle.offsets.specs.Table.{tableLength, ranks, ranksOk, trees, valid, tableBytes}
@@ -101,11 +100,6 @@ output-fits text =
     either (eqb (planRefusal text) 0)
     (λ t. rw t (moves-fit _ _ (plan-tables text (eqb-true (planRefusal text) 0 t))))
     (λ f. rw f (omega (arith, line-most refusedWord (planRefusal text))))
-
--- so a buffer of that size is never too short
-pub plan-written : (text out : List ℕ) → 131072 ≤ length out → planAnswer text out ≡ (record { refusal = 0; length = length (planOutput text) }, splice out 0 (planOutput text))
-unfolding planAnswer writeAnswer lengthAnswer written firstFailed
-plan-written text out h = rw (le-leb (length (planOutput text)) (length out) (omega (arith, output-fits text)))
 
 -- ---- the call: its checks in order
 

@@ -14,9 +14,8 @@ use Rattle.encoding.proofs.Below.{tests, either, iff-eq, any-at, count-lt}
 use Rattle.offsets.specs.Table.{ranks, trees}
 use Rattle.pattern.specs.Sender.{Tables, sends, sentFirst, sentCount}
 use Rattle.pattern.specs.Sets.{sendsTo, sendSet}
-use Rattle.pattern.proofs.Sets.{send-member, send-length, send-ascends, one-range, sent-in}
-use Rattle.plan_read.specs.Text.{ranksWord}
-use Rattle.plan_write.specs.Moves.{treesWord, messagesWord, lineText, moveText, movesFrom, movesText, moveCount, movesOutput}
+use Rattle.pattern.proofs.Sets.{send-member, send-length, send-ascends, one-range}
+use Rattle.plan_write.specs.Moves.{moveText, movesFrom, movesText, moveCount}
 
 -- ---- the moves: exactly the pairs of a sender and a receiver with a tree to move, each once, by sender and then receiver
 
@@ -102,13 +101,6 @@ module _ (old new : List ℕ) where
   unfolding moveCount
   moves-counted = sym (pairs-count (ranks old))
 
-  -- the whole output
-  pub output-listed : movesOutput old new
-      ≡ lineText ranksWord (ranks old)
-      ++ (lineText treesWord (trees old) ++ (moveLines (movePairs (ranks old)) ++ lineText messagesWord (length (movePairs (ranks old)))))
-  unfolding movesOutput
-  output-listed = rw (← moves-listed (ranks old), ← moves-counted)
-
   -- a pair is listed exactly where both are ranks and the first sends the second a tree
   pub pairs-exact : (n p q : ℕ) → listed p q (movePairs n) ≡ (ltb p n && (ltb q (ranks old) && sendsTo old new p q))
   unfolding movePairs listed
@@ -179,10 +171,3 @@ module _ (old new : List ℕ) (T : Tables old new) (p q : ℕ) (l : p < ranks ol
       let c = sentCount old new p q in
       one-range old new T p q l r k h
       ∙ ap (λ b. leb f k && b) (iff-eq (ltb k (f + c)) (leb k (f + c - 1)) (λ t. le-leb k (f + c - 1) (omega tests)) (λ t. lt-ltb k (f + c) (omega tests)))
-
-  -- the first and the last are among them
-  pub move-first : sends old new p q (sentFirst old new p q) ≡ true
-  move-first = sent-in old new T p q l r (sentFirst old new p q) (le-refl (sentFirst old new p q)) (omega (arith, some-sent))
-
-  pub move-last : sends old new p q (sentFirst old new p q + sentCount old new p q - 1) ≡ true
-  move-last = sent-in old new T p q l r (sentFirst old new p q + sentCount old new p q - 1) (omega (arith, some-sent)) (omega (arith, some-sent))

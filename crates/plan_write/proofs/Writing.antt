@@ -18,7 +18,7 @@ use Rattle.encoding.proofs.Below.{either, any-none, any-false, sum-le, count-le
 use Rattle.encoding.proofs.Pieces.{splice-none, splice-cons, splice-then, length-splice}
 use Rattle.offsets.specs.Table.{ranks, trees}
 use Rattle.offsets.proofs.Tables.{never-falls, ranks-high, trees-high}
-use Rattle.pattern.specs.Sender.{Tables, sends, sentFirst, sentCount}
+use Rattle.pattern.specs.Sender.{sends, sentFirst, sentCount}
 use Rattle.pattern.specs.Sets.{sendsTo}
 use Rattle.pattern.specs.Means.{PairOf}
 use Rattle.pattern.proofs.Sets.{sent-below}

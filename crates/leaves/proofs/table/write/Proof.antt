@@ -1,4 +1,4 @@
-use Rattle.leaves.proofs.LeafCounts.{share-is, shares-cuts, begins-later, Writing, writing-none, writing-walk, writing-more, writing-done}
+use Rattle.leaves.proofs.LeafCounts.{share-is, shares-cuts, Writing, writing-none, writing-walk, writing-more, writing-done}
 use Rattle.offsets.proofs.Tables.{ranks-within}
 use Rattle.leaves.specs.Leaves.{equalShares, leafTable}
 use native.Mathlib.Omega.{arith}

@@ -44,7 +44,7 @@ pub checks-then : (xs ys : List Check) → numbered xs → firstFailed (xs ++ ys
 unfolding firstFailed numbered
 checks-then [] ys n = refl
 checks-then (c ∷ cs) ys n =
-    either (c .holds) (λ t. rw t (checks-then cs ys (n .1))) (λ t. rw (t, ne-eqb (c .number) 0 (λ z. omega (arith, n .0))))
+    either (c .passes) (λ t. rw t (checks-then cs ys (n .1))) (λ t. rw (t, ne-eqb (c .number) 0 (λ z. omega (arith, n .0))))
 
 pub one-check : (b : Bool) (n : ℕ) → firstFailed (check b n ∷ []) ≡ cond b 0 n
 unfolding firstFailed

@@ -97,9 +97,9 @@ pub record Accepted (a m : List ℕ) : Type 0 where
   pub ghosts-fit : areaGhosts a + messageGhosts m ≤ areaBound a
 
 -- where no check fails, the first passes and none of the others fails
-passed : (c : Check) (cs : List Check) → (c .number ≡ 0 → ⊥) → firstFailed (c ∷ cs) ≡ 0 → (c .holds ≡ true) × (firstFailed cs ≡ 0)
+passed : (c : Check) (cs : List Check) → (c .number ≡ 0 → ⊥) → firstFailed (c ∷ cs) ≡ 0 → (c .passes ≡ true) × (firstFailed cs ≡ 0)
 unfolding firstFailed
-passed c cs n e = either (c .holds) (λ t. (t, rw t at e)) (λ t. absurd (n (rw t at e)))
+passed c cs n e = either (c .passes) (λ t. (t, rw t at e)) (λ t. absurd (n (rw t at e)))
 
 pub accepted-parts : (a m : List ℕ) → firstFailed (deliverChecks a m) ≡ 0 → Accepted a m
 unfolding deliverChecks

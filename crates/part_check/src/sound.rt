@@ -51,13 +51,26 @@ fn header_sound(part: &[u8], table: &[u8], rank: u32) -> bool
         & (part.len() == ghost_at(count, ghost_count(part)))
 }
 
+// Whether the local index of the tree's number is its own.
+fn tree_numbered(part: &[u8], first: GlobalIndex, tree: LocalIndex) -> bool
+    requires { ⌜ treePlace (tree .0) + coreSize ≤ length (now part) ⌝ }
+    ensures { λ r. ⌜ r ≡ treeNumbered (first .0) (storedTree (now (part .entry))) (tree .0) ⌝ }
+{
+    let number = records::read::number_of(part, tree_at(tree));
+    if number < first.0 {
+        return false;
+    }
+    let local = to_local(GlobalIndex(number), first);
+    local.0 == tree.0
+}
+
 fn tree_numbers(part: &[u8], first: u32, count: u32) -> bool
-    requires { ⌜ (treePlace count ≤ length (now part)) × (first + count ≤ maxTrees) ⌝ }
+    requires { ⌜ treePlace count ≤ length (now part) ⌝ }
     ensures { λ r. ⌜ r ≡ allBelow count (treeNumbered first (storedTree (now (part .entry)))) ⌝ }
 {
     let mut i = 0;
     while i < count {
-        if records::read::number_of(part, tree_at(LocalIndex(i))) != first + i {
+        if !tree_numbered(part, GlobalIndex(first), LocalIndex(i)) {
             return false;
         }
         i += 1;

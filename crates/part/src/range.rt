@@ -1,7 +1,7 @@
 // The range of a rank and its ghosts.
 use records::index::GlobalIndex;
 ghost use mathlib.Core.Path.{_≡_};
-ghost use Prim.Native.Nat.{_+_, _*_, _≤_, _-_};
+ghost use Prim.Native.Nat.{_+_, _*_, _≤_};
 ghost use lib.ListN.{length};
 ghost use Rattle.encoding.specs.Below.{anyBelow, countBelow};
 ghost use Rattle.encoding.specs.Pieces.{piece};

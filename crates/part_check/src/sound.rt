@@ -17,7 +17,7 @@ use records::index::ghost_index;
 use records::index::to_local;
 ghost use mathlib.Core.Path.{_≡_};
 ghost use mathlib.Core.Bool.{_&&_};
-ghost use Prim.Native.Nat.{_+_, _-_, _≤_, _<_};
+ghost use Prim.Native.Nat.{_+_, _≤_, _<_};
 ghost use lib.Dec.{eqb, ltb};
 ghost use lib.ListN.{length};
 ghost use Rattle.encoding.specs.Below.{allBelow, leastBelow};
@@ -50,6 +50,8 @@ fn header_sound(part: &[u8], table: &[u8], rank: u32) -> bool
         & (encoding::bytes::read_u32(part, 28) == 0)
         & (part.len() == ghost_at(count, ghost_count(part)))
 }
+
+// ---- numbers
 
 // Whether the local index of the tree's number is its own.
 fn tree_numbered(part: &[u8], first: GlobalIndex, tree: LocalIndex) -> bool
@@ -120,6 +122,8 @@ fn numbers_sound(part: &[u8], first: u32, count: u32, ghosts: u32, trees: u32) -
 {
     tree_numbers(part, first, count) & ghost_numbers(part, first, count, ghosts, trees)
 }
+
+// ---- trees
 
 // A tree's link leads back to the local index, a ghost's to the global number.
 fn tree_face(
@@ -206,6 +210,8 @@ fn trees_sound(part: &[u8], count: u32, ghosts: u32, dimension: u32) -> bool
     }
     true
 }
+
+// ---- ghosts
 
 // The position of the ghost with the number, or how many ghosts there are.
 fn ghost_with(part: &[u8], count: u32, ghosts: u32, number: GlobalIndex) -> u32
@@ -346,6 +352,8 @@ fn ghosts_sound(
     }
     true
 }
+
+// ---- the whole
 
 fn records_sound(
     part: &[u8],

@@ -151,7 +151,7 @@ fn send(mesh: &[u8], old: &[u8], new: &[u8], p: u32, q: u32, area: &mut [u8]) {
 // Assembles the part of q under the new table and compares it with the one cut from the mesh.
 fn assemble(mesh: &[u8], old: &[u8], new: &[u8], ranks: u32, dimension: u32, q: u32) {
     let mut area = blank();
-    let l = assembly::open_area(old, new, q, dimension, 7, &mut area);
+    let l = area_open::open_area(old, new, q, dimension, 7, &mut area);
     word(b"area of ", q as u64);
     word(b": ", l.length);
     text(b" bytes\n");

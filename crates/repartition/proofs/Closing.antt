@@ -35,10 +35,10 @@ use Rattle.part_laws.proofs.SoundParts.{part-view}
 use Rattle.part_laws.proofs.Views.{view-same}
 use Rattle.message.specs.Rule.{ghostSender}
 use Rattle.message.proofs.Ghosts.{sender-below, sends-some, ghost-sender-lt, ghost-sender-sends}
-use Rattle.assembly.specs.Layout.{slotsOf}
-use Rattle.assembly.specs.Area.{areaDimension, areaK, areaP, areaRank, areaCount, areaGhosts, areaOld, areaNew, areaFirst, heard, treeSlot, treeSlotCore, ghostSlot, areaSound}
-use Rattle.assembly.specs.Close.{allHeard, joinSound, joinIndex, joinedPart, closeChecks, closeOf}
-use Rattle.assembly_laws.proofs.Zones.{Reads}
+use Rattle.area.specs.Layout.{slotsOf}
+use Rattle.area.specs.Area.{areaDimension, areaK, areaP, areaRank, areaCount, areaGhosts, areaOld, areaNew, areaFirst, heard, treeSlot, treeSlotCore, ghostSlot, areaSound}
+use Rattle.area.specs.Close.{allHeard, joinSound, joinIndex, joinedPart, closeChecks, closeOf}
+use Rattle.area_theorems.proofs.Zones.{Reads}
 use Rattle.repartition.specs.Canonical.{slotHeard, ghostHeard, ghostsHeard, canonical}
 use Rattle.repartition.specs.Lists.{Setting, allDue}
 use Rattle.repartition.proofs.Receive.{InReceive}

@@ -21,10 +21,10 @@ use Rattle.mesh.specs.Mesh.{meshDimension, meshTrees, meshCore, meshSound, face
 use Rattle.mesh.proofs.Soundness.{sound-shape, neighbour-below, neighbours-both}
 use Rattle.part.specs.Ghosts.{isGhost}
 use Rattle.message.specs.Layout.{messageDimension, messageK, messageTrees, messageGhosts, messageTree, messageGhost, recordLaid, sizeLaid, afterLast, recordsLaid, inLayout}
-use Rattle.assembly.specs.Layout.{ghostBound}
-use Rattle.assembly.specs.Area.{areaRank, areaNew}
-use Rattle.assembly.specs.Deliver.{besideTrees, ghostDue}
-use Rattle.assembly_laws.proofs.Zones.{range-end}
+use Rattle.area.specs.Layout.{ghostBound}
+use Rattle.area.specs.Area.{areaRank, areaNew}
+use Rattle.area.specs.Deliver.{besideTrees, ghostDue}
+use Rattle.area_theorems.proofs.Zones.{range-end}
 use Rattle.repartition.specs.Lists.{Setting}
 
 -- ---- any tests

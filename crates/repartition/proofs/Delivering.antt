@@ -28,10 +28,10 @@ use Rattle.message.specs.Rule.{sendsBeside, considers, sendsGhost, ghostSender,
 use Rattle.message.specs.Build.{meshMessage}
 use Rattle.message.proofs.Ghosts.{beside-at, no-ghost-sender, one-ghost-sender, sends-considers, considers-ghost}
 use Rattle.message.proofs.Messages.{RecordsLong, mesh-records-long, mesh-in-layout, message-epoch, message-dimension, message-K, message-P, message-sender, message-receiver, message-trees, message-ghosts, message-record, message-tree, message-ghost}
-use Rattle.assembly.specs.Layout.{ghostBound, areaWith}
-use Rattle.assembly.specs.Area.{areaRank, areaGhosts, heard, ghostSlot, areaBound, areaSound}
-use Rattle.assembly.specs.Deliver.{among, oneOf, sameRun, senderDue, treesDue, besideTrees, ghostDue, ghostNew, deliverChecks, slotAfter, ghostsAfter, delivered, deliverOf}
-use Rattle.assembly_laws.proofs.Zones.{Reads, dimension-small, area-same}
+use Rattle.area.specs.Layout.{ghostBound, areaWith}
+use Rattle.area.specs.Area.{areaRank, areaGhosts, heard, ghostSlot, areaBound, areaSound}
+use Rattle.area.specs.Deliver.{among, oneOf, sameRun, senderDue, treesDue, besideTrees, ghostDue, ghostNew, deliverChecks, slotAfter, ghostsAfter, delivered, deliverOf}
+use Rattle.area_theorems.proofs.Zones.{Reads, dimension-small, area-same}
 use Rattle.repartition.specs.Canonical.{slotHeard, ghostHeard, ghostsHeard, canonical}
 use Rattle.repartition.specs.Lists.{deliver, Setting, Built, hears}
 use Rattle.repartition.proofs.Receive.{InReceive, built-due}

@@ -26,11 +26,11 @@ use Rattle.message.specs.Layout.{messageTrees, messageTree, messageGhosts, mess
 use Rattle.message.specs.Build.{meshMessage}
 use Rattle.message.specs.Rule.{ghostGoes}
 use Rattle.message.proofs.Ghosts.{tree-one-message, ghost-one-message}
-use Rattle.assembly.specs.Calls.{openChecks, openAreaOf}
-use Rattle.assembly.specs.Deliver.{among}
-use Rattle.assembly.specs.Layout.{areaSize}
-use Rattle.assembly.specs.Open.{freshArea}
-use Rattle.assembly_laws.proofs.Zones.{area-length}
+use Rattle.area_open.specs.Calls.{openChecks, openAreaOf}
+use Rattle.area.specs.Deliver.{among}
+use Rattle.area.specs.Layout.{areaSize}
+use Rattle.area.specs.Open.{freshArea}
+use Rattle.area_theorems.proofs.Zones.{area-length}
 use Rattle.repartition.specs.Canonical.{slotHeard, ghostHeard, ghostsHeard, canonical}
 use Rattle.repartition.specs.Lists.{Call, deliver, close, countIn, treeIn, ghostWith, Setting, Built, AllBuilt, messageOf, opened, hears, hearsAll, nobody, allDue, areaAfterAll, answersOf, dueAll, acceptedBy}
 use Rattle.repartition.specs.Demand.{Demand3, size, heardBy, bytesAfter, cameIn}

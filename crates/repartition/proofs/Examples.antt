@@ -26,8 +26,8 @@ use Rattle.records.specs.Record.{unused}
 use Rattle.mesh.specs.Mesh.{meshDimension, meshTrees, meshSound, dimensionOk}
 use Rattle.mesh.proofs.Examples.{numbers, treeBytes, triangle, triangles, small-meshes}
 use Rattle.message.proofs.Examples.{oldThree, newThree, treesMoved, ghostsMoved, three-trees, three-ghosts}
-use Rattle.assembly.specs.Calls.{openChecks, openAreaOf}
-use Rattle.assembly.specs.Layout.{heardWords, ghostBound, newPlace, wordsPlace, slotsPlace, ghostSlotsPlace, areaSize}
+use Rattle.area_open.specs.Calls.{openChecks, openAreaOf}
+use Rattle.area.specs.Layout.{heardWords, ghostBound, newPlace, wordsPlace, slotsPlace, ghostSlotsPlace, areaSize}
 use Rattle.repartition.specs.Demand.{Demand3}
 use Rattle.repartition.specs.Lists.{Call, deliver, close, Setting, Built, AllBuilt, opened}
 use Rattle.repartition.proofs.Demand.{demand-3}

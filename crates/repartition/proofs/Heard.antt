@@ -23,14 +23,14 @@ use Rattle.pattern.proofs.Counting.{count-imp}
 use Rattle.mesh.specs.Mesh.{meshHeader, meshDimension, meshTrees, meshCore, meshRecord}
 use Rattle.mesh.proofs.Soundness.{header-parts, sound-header, sound-fits, sound-core, sound-form, sound-number}
 use Rattle.part.specs.Ghosts.{isGhost}
-use Rattle.assembly.specs.Layout.{heardWords, ghostBound}
-use Rattle.assembly.specs.Area.{areaGhosts, heard, ghostSlot, areaSound}
-use Rattle.assembly.specs.Open.{freshArea}
-use Rattle.assembly.specs.Deliver.{among, oneOf}
-use Rattle.assembly_laws.proofs.Joined.{piece-first, piece-last}
-use Rattle.assembly_laws.proofs.Zones.{Zones, Reads, words-enough, few-ranks, range-end, area-reads, area-same}
-use Rattle.assembly_laws.proofs.Kept.{ghostAt}
-use Rattle.assembly_laws.proofs.Sound.{Held, zeros-zero, area-sound}
+use Rattle.area.specs.Layout.{heardWords, ghostBound}
+use Rattle.area.specs.Area.{areaGhosts, heard, ghostSlot, areaSound}
+use Rattle.area.specs.Open.{freshArea}
+use Rattle.area.specs.Deliver.{among, oneOf}
+use Rattle.area_theorems.proofs.Joined.{piece-first, piece-last}
+use Rattle.area_theorems.proofs.Zones.{Zones, Reads, words-enough, few-ranks, range-end, area-reads, area-same}
+use Rattle.area_theorems.proofs.Kept.{ghostAt}
+use Rattle.area_theorems.proofs.Sound.{Held, zeros-zero, area-sound}
 use Rattle.repartition.specs.Canonical.{slotHeard, ghostHeard, ghostsHeard, canonical}
 use Rattle.repartition.specs.Lists.{Setting, nobody}
 use Rattle.repartition.proofs.Receive.{InReceive}

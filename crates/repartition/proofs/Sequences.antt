@@ -11,8 +11,8 @@ use Rattle.encoding.specs.Answer.{writeAnswer}
 use Rattle.encoding.specs.declared.answer.Length.{Length}
 use Rattle.encoding.proofs.Below.{either, clash, and-fst, and-snd, and-intro}
 use Rattle.part.specs.Cut.{cutPart}
-use Rattle.assembly.specs.Deliver.{deliverOf}
-use Rattle.assembly.specs.Close.{closeOf}
+use Rattle.area.specs.Deliver.{deliverOf}
+use Rattle.area.specs.Close.{closeOf}
 use Rattle.repartition.specs.Canonical.{canonical}
 use Rattle.repartition.specs.Lists.{Call, deliver, close, Answer, delivery, closing, countIn, Setting, Built, AllBuilt, messageOf, areaAfter, answerOf, areaAfterAll, answersOf, acceptedBy, hears, hearsAll, allDue, due, dueAll}
 use Rattle.repartition.proofs.Receive.{InReceive, hears-receive}

@@ -10,7 +10,7 @@ use Rattle.records.specs.Record.{treeSize}
 use Rattle.mesh.specs.Mesh.{meshDimension, meshTrees, meshCore, meshRecord}
 use Rattle.part.specs.Ghosts.{isGhost}
 use Rattle.message.specs.Rule.{ghostSender}
-use Rattle.assembly.specs.Layout.{areaWith}
+use Rattle.area.specs.Layout.{areaWith}
 
 module _ (mesh old new : List ℕ) (rank epoch : ℕ) where
   -- tree slot i: the mesh's record if its sender is heard, else zero

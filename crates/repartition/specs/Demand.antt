@@ -7,7 +7,7 @@ use lib.ListN.{take, drop}
 use Rattle.offsets.specs.Table.{ranks, treeCount, holds}
 use Rattle.mesh.specs.Mesh.{meshDimension, meshTrees, meshCore}
 use Rattle.part.specs.Ghosts.{isGhost}
-use Rattle.assembly.specs.Layout.{areaSize}
+use Rattle.area.specs.Layout.{areaSize}
 use Rattle.repartition.specs.Lists.{Call, countIn, treeIn, ghostWith, opened, areaAfterAll, answersOf, acceptedBy, hearsAll, nobody, allDue, dueAll}
 
 module _ (mesh old new : List ℕ) (rank epoch : ℕ) where

@@ -16,9 +16,9 @@ use Rattle.mesh.specs.Mesh.{meshDimension, meshTrees, meshSound}
 use Rattle.part.specs.Cut.{cutPart}
 use Rattle.message.specs.Layout.{messageTrees, messageGhosts, messageTree, messageGhost}
 use Rattle.message.specs.Build.{partMessage}
-use Rattle.assembly.specs.Calls.{openAreaOf}
-use Rattle.assembly.specs.Deliver.{among, deliverOf}
-use Rattle.assembly.specs.Close.{closeOf}
+use Rattle.area_open.specs.Calls.{openAreaOf}
+use Rattle.area.specs.Deliver.{among, deliverOf}
+use Rattle.area.specs.Close.{closeOf}
 
 -- a call: deliver the message from rank p to rank q, or close into a buffer
 pub data Call : Type 0 where

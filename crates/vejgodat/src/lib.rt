@@ -2,15 +2,15 @@
 ghost use mathlib.Core.Path.{_≡_};
 ghost use Rattle.offsets.specs.Calls.{tableRefusal, tableRange, tableLengthAnswer, writeTable, tableFromLeaves};
 ghost use Rattle.mesh.specs.Mesh.{meshRefusal};
-ghost use Rattle.assembly.specs.Calls.{areaLengthOf, openAreaOf, progressOf};
-ghost use Rattle.assembly.specs.Close.{closeLengthOf, closeOf};
-ghost use Rattle.assembly.specs.Deliver.{deliverOf};
+ghost use Rattle.area_open.specs.Calls.{areaLengthOf, openAreaOf, progressOf};
+ghost use Rattle.area.specs.Close.{closeLengthOf, closeOf};
+ghost use Rattle.area.specs.Deliver.{deliverOf};
 ghost use Rattle.message.specs.Calls.{messageRefusal, messageLengthOf, buildMessageOf};
 ghost use Rattle.part.specs.Calls.{partLengthOf, cutPartOf, partRefusal, neighbourAnswer};
 ghost use Rattle.part.specs.Lookup.{foundRecord};
 ghost use Rattle.part.specs.Neighbour.{flatAnswer};
 ghost use Rattle.pattern.specs.Calls.{senderOf, treesSent, sendSetOf, receiveSetOf};
-use assembly::Progress;
+use area_open::Progress;
 use encoding::answer::Length;
 use offsets::Range;
 use part::Found;
@@ -180,7 +180,7 @@ pub extern "C" fn vejgodat_build_message(
 pub extern "C" fn vejgodat_area_length(old: &[u8], new: &[u8], rank: u32, dimension: u32) -> Length
     ensures { λ r. ⌜ r ≡ areaLengthOf (now (old .entry)) (now (new .entry)) rank dimension ⌝ }
 {
-    assembly::area_length(old, new, rank, dimension)
+    area_open::area_length(old, new, rank, dimension)
 }
 
 #[no_mangle]
@@ -194,7 +194,7 @@ pub extern "C" fn vejgodat_open_area(
 ) -> Length
     ensures { λ r. ⌜ (r, now (out .exit)) ≡ openAreaOf (now (old .entry)) (now (new .entry)) rank dimension epoch (now (out .entry)) ⌝ }
 {
-    assembly::open_area(old, new, rank, dimension, epoch, out)
+    area_open::open_area(old, new, rank, dimension, epoch, out)
 }
 
 #[no_mangle]
@@ -208,14 +208,14 @@ pub extern "C" fn vejgodat_deliver(area: &mut [u8], message: &[u8]) -> u32
 pub extern "C" fn vejgodat_progress_of(area: &[u8]) -> Progress
     ensures { λ r. ⌜ r ≡ progressOf (now (area .entry)) ⌝ }
 {
-    assembly::progress_of(area)
+    area_open::progress_of(area)
 }
 
 #[no_mangle]
 pub extern "C" fn vejgodat_part_of_area_length(area: &[u8]) -> Length
     ensures { λ r. ⌜ r ≡ closeLengthOf (now (area .entry)) ⌝ }
 {
-    close_checks::part_of_area_length(area)
+    close::part_of_area_length(area)
 }
 
 #[no_mangle]

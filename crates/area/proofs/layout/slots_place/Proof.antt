@@ -1,0 +1,18 @@
+use Rattle.area.specs.Layout.{slotsPlace, heardWords}
+use native.Mathlib.Omega.{arith}
+use borrow.Author.Needs.{needs}
+use Rattle.area.proofs.layout.slots_place.Statement.{statement}
+use Rattle.area.proofs.layout.slots_place.Tie as tie
+
+words-place-requires : tie.Need-words-place-requires
+words-place-requires c κs = search needs
+
+add-result : tie.Need-add-result
+add-result c = search needs
+
+returns : tie.Need-returns
+unfolding slotsPlace heardWords
+returns c = (omega arith, omega arith)
+
+pub slots-place-spec : {M : Type 1} → statement M
+slots-place-spec = tie.close (tie.spec words-place-requires add-result returns)

@@ -11,14 +11,14 @@ use Rattle.encoding.specs.Numbers.{u32At}
 use Rattle.encoding.specs.Pieces.{piece, Bytes}
 use Rattle.encoding.proofs.Below.{and-fst, and-snd}
 use Rattle.encoding.proofs.Pieces.{piece-length, bytes-piece}
-use Rattle.offsets.specs.Limits.{rankCountOk}
+use Rattle.offsets.specs.Limits.{maxRanks, rankCountOk}
 use Rattle.offsets.specs.Table.{ranks, ranksOk, valid, trees, treeCount}
 use Rattle.offsets.proofs.Tables.{ranks-within}
 use Rattle.records.specs.Record.{coreSize, treeSize}
 use Rattle.mesh.specs.Mesh.{dimensionOk}
 use Rattle.area.specs.Layout.{heardWords, newPlace, wordsPlace, slotsPlace, ghostSlotsPlace, areaSize}
 use Rattle.area.specs.Area.{areaDimension, areaK, areaP, areaRank, areaCount, areaOld, areaNew, areaBound, areaHeaderSound}
-use Rattle.area.specs.Means.{RankIn, SizedArea, tablesFit, HeaderHolds, Tabled}
+use Rattle.area.specs.Means.{tablesEnd, wordsEnd, RankIn, SizedArea, tablesFit, HeaderHolds, Tabled}
 use Rattle.area.proofs.Ranges.{range-fits, count-high}
 
 -- ---- a table in a buffer
@@ -34,24 +34,33 @@ module _ (a : List ℕ) (off P : ℕ) (ok : rankCountOk P ≡ true) (fits : off 
 
 -- ---- how long an area is
 
-pub words-place-is : (P : ℕ) → wordsPlace P ≡ 48 + 16 * P
+-- the words have a bit for each rank, and are few
+pub words-enough : (P : ℕ) → P ≤ maxRanks → P ≤ 64 * heardWords P
+unfolding heardWords
+words-enough P h = omega arith
+
+pub words-few : (P : ℕ) → P ≤ maxRanks → heardWords P ≤ maxRanks
+unfolding heardWords
+words-few P h = omega arith
+
+pub words-place-is : (P : ℕ) → wordsPlace P ≡ tablesEnd P
 unfolding wordsPlace newPlace
 words-place-is P = omega arith
 
-pub slots-place-is : (P : ℕ) → slotsPlace P ≡ 176 + 16 * P
-unfolding slotsPlace heardWords
+pub slots-place-is : (P : ℕ) → slotsPlace P ≡ wordsEnd P
+unfolding slotsPlace
 slots-place-is P = omega (arith, words-place-is P)
 
-pub ghosts-place-is : (P n : ℕ) → ghostSlotsPlace P n ≡ 176 + 16 * P + treeSize * n
+pub ghosts-place-is : (P n : ℕ) → ghostSlotsPlace P n ≡ wordsEnd P + treeSize * n
 unfolding ghostSlotsPlace
 ghosts-place-is P n = omega (arith, slots-place-is P)
 
-pub size-low : (dimension P n : ℕ) → 176 + 16 * P + treeSize * n ≤ areaSize dimension P n
+pub size-low : (dimension P n : ℕ) → wordsEnd P + treeSize * n ≤ areaSize dimension P n
 unfolding areaSize
 size-low dimension P n = omega (arith, ghosts-place-is P n)
 
 -- its zones are in the buffer
-pub size-long : (a : List ℕ) → areaSize (areaDimension a) (areaP a) (areaCount a) ≤ length a → 176 + 16 * areaP a + treeSize * areaCount a + coreSize * areaBound a ≤ length a
+pub size-long : (a : List ℕ) → areaSize (areaDimension a) (areaP a) (areaCount a) ≤ length a → wordsEnd (areaP a) + treeSize * areaCount a + coreSize * areaBound a ≤ length a
 unfolding areaSize areaBound
 size-long a h = omega (arith, ghosts-place-is (areaP a) (areaCount a))
 
@@ -79,7 +88,7 @@ module _ (a : List ℕ) {P middle end : ℕ} (is-P : P ≡ areaP a) (is-middle :
   sized-area d m r ok s h = record { ranksFit = rw (← is-P) (sym r ∙ ok); long = rw (← d, ← is-P, ← m, ← s) h; isOld = old-lent; isNew = new-lent }
 
 module _ {a old new : List ℕ} (s : SizedArea a old new) where
-  pub sized-long : 176 + 16 * areaP a + treeSize * areaCount a + coreSize * areaBound a ≤ length a
+  pub sized-long : wordsEnd (areaP a) + treeSize * areaCount a + coreSize * areaBound a ≤ length a
   sized-long = size-long a (s .long)
 
   pub sized-old : (ranks old ≡ areaP a) × (ranksOk old ≡ true)
@@ -194,5 +203,7 @@ module _ (a : List ℕ) where
         countIs = c;
         ranksHigh = ranks-within (areaP a) p .1;
         countHigh = rw c (count-high (range-fits (areaNew a) (areaRank a) bN f));
+        wordsHigh = words-few (areaP a) (ranks-within (areaP a) p .1);
+        wordsEnough = words-enough (areaP a) (ranks-within (areaP a) p .1);
         long = sized-long sized;
       }

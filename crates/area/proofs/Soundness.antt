@@ -33,8 +33,8 @@ module _ (a : List ℕ) (sound : areaSound a ≡ true) where
   sound-holds b = header-holds a b sound-header
 
   -- a heard sender is a rank of the receive set
-  pub heard-rank : (s : ℕ) → s < 1024 → heard a s ≡ true → (s < areaP a) × (getsFrom (areaOld a) (areaNew a) (areaRank a) s ≡ true)
-  unfolding heardWords bitSound
+  pub heard-rank : (s : ℕ) → s < 64 * heardWords (areaP a) → heard a s ≡ true → (s < areaP a) × (getsFrom (areaOld a) (areaNew a) (areaRank a) s ≡ true)
+  unfolding bitSound
   heard-rank s l h =
-      let e : (ltb s (areaP a) && getsFrom (areaOld a) (areaNew a) (areaRank a) s) ≡ true = rw h at (all-at 1024 (bitSound a) (sound-parts .1) s l) in
+      let e : (ltb s (areaP a) && getsFrom (areaOld a) (areaNew a) (areaRank a) s) ≡ true = rw h at (all-at (64 * heardWords (areaP a)) (bitSound a) (sound-parts .1) s l) in
       (ltb-true s (areaP a) (and-fst _ _ e), and-snd (ltb s (areaP a)) (getsFrom (areaOld a) (areaNew a) (areaRank a) s) e)

@@ -7,11 +7,18 @@ use lib.Dec.{ltb, eqb}
 use lib.ListN.{length}
 use Rattle.encoding.specs.Pieces.{piece}
 use Rattle.offsets.specs.Limits.{maxRanks, maxTrees, rankCountOk}
-use Rattle.offsets.specs.Table.{ranks, ranksOk, valid, trees, treeCount}
+use Rattle.offsets.specs.Table.{tableLength, ranks, ranksOk, valid, trees, treeCount}
 use Rattle.pattern.specs.Sender.{Tables, sentFirst, sentCount}
 use Rattle.records.specs.Record.{coreSize, treeSize}
-use Rattle.area.specs.Layout.{slotsPlace, areaSize}
+use Rattle.area.specs.Layout.{areaHeader, heardWords, slotsPlace, areaSize}
 use Rattle.area.specs.Area.{areaDimension, areaK, areaP, areaRank, areaCount, areaOld, areaNew, areaFirst, areaBound}
+
+-- where the tables of an area of P ranks end, and its words of heard senders
+abbrev pub tablesEnd : ℕ → ℕ
+tablesEnd P = areaHeader + tableLength P + tableLength P
+
+abbrev pub wordsEnd : ℕ → ℕ
+wordsEnd P = tablesEnd P + 8 * heardWords P
 
 -- a valid table and a rank of it
 pub record RankIn (t : List ℕ) (p : ℕ) : Type 0 where
@@ -47,7 +54,9 @@ pub record HeaderHolds (a : List ℕ) : Type 0 where
   pub countIs : areaCount a ≡ treeCount (areaNew a) (areaRank a)
   pub ranksHigh : areaP a ≤ maxRanks
   pub countHigh : areaCount a ≤ maxTrees
-  pub long : 176 + 16 * areaP a + treeSize * areaCount a + coreSize * areaBound a ≤ length a
+  pub wordsHigh : heardWords (areaP a) ≤ maxRanks
+  pub wordsEnough : areaP a ≤ 64 * heardWords (areaP a)
+  pub long : wordsEnd (areaP a) + treeSize * areaCount a + coreSize * areaBound a ≤ length a
 
 -- an area with a sound header, and its tables
 pub record Tabled (a old new : List ℕ) : Type 0 where

@@ -2,33 +2,44 @@
 ghost use mathlib.Core.Path.{_≡_};
 ghost use Prim.Native.Nat.{_+_, _*_, _≤_};
 ghost use Rattle.offsets.specs.Limits.{maxRanks};
+ghost use Rattle.offsets.specs.Table.{tableLength};
+ghost use Rattle.records.specs.Record.{treeSize};
 ghost use Rattle.records.specs.Shape.{facesIn};
-ghost use Rattle.area.specs.Layout.{ghostBound, newPlace, wordsPlace, slotsPlace, ghostSlotsPlace, areaSize};
+ghost use Rattle.area.specs.Layout.{areaHeader, heardWords, ghostBound, newPlace, wordsPlace, slotsPlace, ghostSlotsPlace, areaSize};
+ghost use Rattle.area.specs.Means.{tablesEnd, wordsEnd};
+
+// How many words of 64 bits hold the heard senders.
+pub fn heard_words(ranks: usize) -> usize
+    requires { ⌜ ranks ≤ maxRanks ⌝ }
+    ensures { λ r. ⌜ (r ≡ heardWords ranks) × (r ≤ maxRanks) ⌝ }
+{
+    16
+}
 
 pub fn new_place(ranks: usize) -> usize
     requires { ⌜ ranks ≤ maxRanks ⌝ }
-    ensures { λ r. ⌜ (r ≡ newPlace ranks) × (r ≡ 40 + 8 * ranks) ⌝ }
+    ensures { λ r. ⌜ (r ≡ newPlace ranks) × (r ≡ areaHeader + tableLength ranks) ⌝ }
 {
     32 + 8 * (ranks + 1)
 }
 
 pub fn words_place(ranks: usize) -> usize
     requires { ⌜ ranks ≤ maxRanks ⌝ }
-    ensures { λ r. ⌜ (r ≡ wordsPlace ranks) × (r ≡ 48 + 16 * ranks) ⌝ }
+    ensures { λ r. ⌜ (r ≡ wordsPlace ranks) × (r ≡ tablesEnd ranks) ⌝ }
 {
     new_place(ranks) + 8 * (ranks + 1)
 }
 
 pub fn slots_place(ranks: usize) -> usize
     requires { ⌜ ranks ≤ maxRanks ⌝ }
-    ensures { λ r. ⌜ (r ≡ slotsPlace ranks) × (r ≡ 176 + 16 * ranks) ⌝ }
+    ensures { λ r. ⌜ (r ≡ slotsPlace ranks) × ((r ≡ wordsEnd ranks) × (heardWords ranks ≤ maxRanks)) ⌝ }
 {
-    words_place(ranks) + 128
+    words_place(ranks) + 8 * heard_words(ranks)
 }
 
 pub fn ghost_slots_place(ranks: usize, count: u32) -> usize
     requires { ⌜ ranks ≤ maxRanks ⌝ }
-    ensures { λ r. ⌜ (r ≡ ghostSlotsPlace ranks count) × (r ≡ 176 + 16 * ranks + 64 * count) ⌝ }
+    ensures { λ r. ⌜ (r ≡ ghostSlotsPlace ranks count) × ((r ≡ wordsEnd ranks + treeSize * count) × (heardWords ranks ≤ maxRanks)) ⌝ }
 {
     slots_place(ranks) + 64 * (count as usize)
 }
@@ -42,7 +53,7 @@ pub fn ghost_bound(dimension: u32, count: u32) -> u64
 
 pub fn area_size(dimension: u32, ranks: usize, count: u32) -> usize
     requires { ⌜ ranks ≤ maxRanks ⌝ }
-    ensures { λ r. ⌜ (r ≡ areaSize dimension ranks count) × (r ≤ 176 + 16 * ranks + 304 * count) ⌝ }
+    ensures { λ r. ⌜ r ≡ areaSize dimension ranks count ⌝ }
 {
     ghost_slots_place(ranks, count) + 40 * (ghost_bound(dimension, count) as usize)
 }

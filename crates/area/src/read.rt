@@ -1,8 +1,8 @@
 // Reading an area: the numbers of its header, and whether a sender is heard.
 ghost use mathlib.Core.Path.{_≡_};
-ghost use Prim.Native.Nat.{_≤_, _<_};
+ghost use Prim.Native.Nat.{_*_, _≤_, _<_};
 ghost use lib.ListN.{length};
-ghost use Rattle.area.specs.Layout.{areaHeader};
+ghost use Rattle.area.specs.Layout.{areaHeader, heardWords};
 ghost use Rattle.area.specs.Area.{areaEpoch, areaDimension, areaK, areaP, areaRank, areaCount, areaGhosts, heard as isHeard};
 ghost use Rattle.area.specs.Means.{HeaderHolds};
 use crate::layout::words_place;
@@ -61,7 +61,7 @@ pub fn ghosts(area: &[u8]) -> u32
 
 // Whether sender s is heard.
 pub fn heard(area: &[u8], s: usize) -> bool
-    requires { ⌜ HeaderHolds (now area) × (s < 1024) ⌝ }
+    requires { ⌜ HeaderHolds (now area) × (s < 64 * heardWords (areaP (now area))) ⌝ }
     ensures { λ r. ⌜ r ≡ isHeard (now (area .entry)) s ⌝ }
 {
     let at = words_place(ranks(area)) + 8 * (s / 64);

@@ -47,6 +47,17 @@ module _ {a old new : List ℕ} (t : Tabled a old new) where
           let g = gets-sends (areaOld a) (areaNew a) (t .header .tables) s (areaRank a) (omega (arith, t .header .ranksAre)) (omega (arith, t .header .ranksAre, t .header .rankBelow)) in
           q ∙ rw (← is-h, ok, lt-ltb s (areaP a) (omega arith), g, e, t .isOld, t .isNew)
 
+-- all bits of the words
+module _ (a : List ℕ) {P words : ℕ} (is-P : P ≡ areaP a) (is-words : words ≡ heardWords P) where
+  bits-end : 64 * words ≡ 64 * heardWords (areaP a)
+  bits-end = rw (is-words, is-P)
+
+  pub bits-fail : {s : ℕ} → s < 64 * words → bitSound a s ≡ false → false ≡ allBelow (64 * heardWords (areaP a)) (bitSound a)
+  bits-fail {s} l f = sym (all-fails (64 * heardWords (areaP a)) (bitSound a) s (omega (arith, bits-end)) f)
+
+  pub bits-pass : {s : ℕ} → s ≤ 64 * words → 64 * words ≤ s → allBelow s (bitSound a) ≡ true → true ≡ allBelow (64 * heardWords (areaP a)) (bitSound a)
+  bits-pass {s} l m e = sym (all-to (64 * heardWords (areaP a)) (bitSound a) s (omega (arith, bits-end)) (omega (arith, bits-end)) e)
+
 -- ---- the tree slots
 
 pub slot-read : (a : List ℕ) (at k : ℕ) {f : Bool} {number : ℕ} → f ≡ inForm k (piece a at coreSize) → number ≡ numberOf (piece a at coreSize) → (f && eqb number k) ≡ slotHeld a at k
@@ -152,6 +163,7 @@ module _ {a old new : List ℕ} (t : Tabled a old new) {g n dimension bound : �
     pub ghosts-room : (at + coreSize * g ≤ length a) × (at + coreSize * bound ≤ length a)
     ghosts-room =
         let p = ghosts-place-is P n in
+        let w : heardWords P ≡ heardWords (areaP a) = ap heardWords is-P in
         (omega (arith, t .header .long, bound-is), omega (arith, t .header .long, bound-is))
 
     module _ {K rank first end : ℕ} {r : Bool} (is-K : K ≡ areaK a) (is-rank : rank ≡ areaRank a) (is-first : first ≡ firstTree new rank) (is-end : end ≡ endTree new rank) (is-r : r ≡ allBelow g (ghostHeldAt a at K first end)) where

@@ -14,6 +14,7 @@ ghost use Rattle.area.specs.Means.{Tabled, coreAt};
 ghost use Rattle.area_check.specs.Means.{slotHeld, rangeSound, ghostHeldAt};
 use area::layout::ghost_bound;
 use area::layout::ghost_slots_place;
+use area::layout::heard_words;
 use area::layout::new_place;
 use area::layout::slots_place;
 use area::layout::words_place;
@@ -31,7 +32,7 @@ use records::index::to_local;
 
 // A bit is set only for a rank of the receive set.
 fn bit_sound(area: &[u8], old: &[u8], new: &[u8], s: usize) -> bool
-    requires { ⌜ Tabled (now area) (now old) (now new) × (s < 1024) ⌝ }
+    requires { ⌜ Tabled (now area) (now old) (now new) × (s < 64 * heardWords (areaP (now area))) ⌝ }
     ensures { λ r. ⌜ r ≡ bitSound (now (area .entry)) s ⌝ }
 {
     if !heard(area, s) {
@@ -47,8 +48,9 @@ fn bits_sound(area: &[u8], old: &[u8], new: &[u8]) -> bool
     requires { ⌜ Tabled (now area) (now old) (now new) ⌝ }
     ensures { λ r. ⌜ r ≡ allBelow (64 * heardWords (areaP (now (area .entry)))) (bitSound (now (area .entry))) ⌝ }
 {
+    let end = 64 * heard_words(ranks(area));
     let mut s = 0;
-    while s < 1024 {
+    while s < end {
         if !bit_sound(area, old, new, s) {
             return false;
         }

@@ -27,7 +27,7 @@ use Rattle.mesh.specs.Mesh.{dimensionOk}
 use Rattle.area.specs.Layout.{heardWords, ghostBound, newPlace, wordsPlace, slotsPlace, ghostSlotsPlace, areaSize, areaHeaderBytes, wordOf, wordsOf, slotsOf, areaWith}
 use Rattle.area.specs.Open.{freshArea}
 use Rattle.area_open.specs.Calls.{openChecks, areaLengthOf, openAreaOf}
-use Rattle.area.specs.Means.{RankIn}
+use Rattle.area.specs.Means.{tablesEnd, RankIn}
 use Rattle.area_open.specs.Means.{AreaRoom}
 
 -- ---- lists of checks
@@ -73,7 +73,7 @@ module _ {old new : List ℕ} (T : Tables old new) where
 pub record OpenFits (old new out : List ℕ) (P size : ℕ) : Type 0 where
   pub oldLong : length old ≡ 8 * (P + 1)
   pub newLong : length new ≡ 8 * (P + 1)
-  pub zones : 48 + 16 * P ≤ size
+  pub zones : tablesEnd P ≤ size
   pub room : size ≤ length out
 
 pub open-fits : {old new out : List ℕ} {rank dimension P n size : ℕ} → AreaRoom old new rank dimension out → P ≡ ranks old → n ≡ treeCount new rank → size ≡ areaSize dimension P n → OpenFits old new out P size
@@ -158,16 +158,17 @@ module _ (old new : List ℕ) (rank dimension epoch : ℕ) where
 
   -- a fresh area is its header, both tables, and zeros
   pub fresh-is : freshArea old new rank dimension epoch ≡ areaHeaderBytes epoch dimension (trees old) (ranks old) rank (treeCount new rank) 0 ++ (old ++ (new ++ replicate zeros 0))
-  unfolding freshArea areaWith areaSize ghostSlotsPlace slotsPlace heardWords
+  unfolding freshArea areaWith areaSize ghostSlotsPlace slotsPlace
   fresh-is =
       let n : ℕ = treeCount new rank in
       let B : ℕ = ghostBound (facesIn dimension) n in
-      let e : 8 * 16 + (treeSize * n + coreSize * (B - 0)) ≡ zeros = omega arith in
+      let W : ℕ = heardWords (ranks old) in
+      let e : 8 * W + (treeSize * n + coreSize * (B - 0)) ≡ zeros = omega arith in
       let G : List ℕ = replicate (coreSize * (B - 0)) 0 in
-      let z : wordsOf (λ s. false) 16 ++ (slotsOf (λ i. replicate treeSize 0) n ++ G) ≡ replicate zeros 0 =
-      ap₂ (λ (a b : List ℕ). a ++ (b ++ G)) (words-none-heard 16) (slots-zero n)
-      ∙ ap (λ (b : List ℕ). replicate (8 * 16) 0 ++ b) (replicate-append-replicate (treeSize * n) (coreSize * (B - 0)) 0)
-      ∙ replicate-append-replicate (8 * 16) (treeSize * n + coreSize * (B - 0)) 0
+      let z : wordsOf (λ s. false) W ++ (slotsOf (λ i. replicate treeSize 0) n ++ G) ≡ replicate zeros 0 =
+      ap₂ (λ (a b : List ℕ). a ++ (b ++ G)) (words-none-heard W) (slots-zero n)
+      ∙ ap (λ (b : List ℕ). replicate (8 * W) 0 ++ b) (replicate-append-replicate (treeSize * n) (coreSize * (B - 0)) 0)
+      ∙ replicate-append-replicate (8 * W) (treeSize * n + coreSize * (B - 0)) 0
       ∙ ap (λ (m : ℕ). replicate m 0) e in
       ap (λ (x : List ℕ). areaHeaderBytes epoch dimension (trees old) (ranks old) rank n 0 ++ (old ++ (new ++ x))) z
 

@@ -14,7 +14,7 @@ use Rattle.pattern.specs.Sets.{receiveSet}
 use Rattle.pattern.proofs.Answers.{set-receives}
 use Rattle.bits.specs.Bits.{bitOf}
 use Rattle.bits.proofs.Bits.{count-add}
-use Rattle.area.specs.Layout.{wordsPlace}
+use Rattle.area.specs.Layout.{heardWords, wordsPlace}
 use Rattle.area.specs.Area.{areaP, areaRank, areaOld, areaNew, heard, areaSound}
 use Rattle.area_open.specs.Calls.{progressOf}
 use Rattle.area.proofs.Soundness.{heard-rank}
@@ -60,29 +60,30 @@ module _ (a : List ℕ) where
   unfolding heardOnes sumBelow
   ones-none = refl
 
-  pub ones-end : {h w : ℕ} → w ≤ 16 → 16 ≤ w → h ≡ heardOnes a w → h ≤ 64 * w → (h ≡ heardOnes a 16) × (h ≤ 1024)
-  ones-end {h} {w} l m e b =
-      let q : w ≡ 16 = omega arith in
-      (e ∙ ap (heardOnes a) q, omega arith)
+  pub ones-end : {h w words P : ℕ} → P ≡ areaP a → words ≡ heardWords P → w ≤ words → words ≤ w → h ≡ heardOnes a w → h ≡ heardOnes a (heardWords (areaP a))
+  ones-end {h} {w} {words} p q l m e =
+      let z : w ≡ words = omega arith in
+      e ∙ ap (heardOnes a) (z ∙ q ∙ ap heardWords p)
 
   -- ---- a sound area
 
   module _ (sound : areaSound a ≡ true) where
     -- no other bit is set
-    pub heard-count : areaP a ≤ 1024 → heardOnes a 16 ≡ countBelow (areaP a) (heard a)
+    pub heard-count : areaP a ≤ 64 * heardWords (areaP a) → heardOnes a (heardWords (areaP a)) ≡ countBelow (areaP a) (heard a)
     heard-count l =
-        let e : 64 * 16 ≡ areaP a + (1024 - areaP a) = omega arith in
-        let z : countBelow (1024 - areaP a) (λ i. heard a (areaP a + i)) ≡ 0 =
-        count-none (1024 - areaP a) (λ i. heard a (areaP a + i))
+        let more : ℕ = 64 * heardWords (areaP a) - areaP a in
+        let e : 64 * heardWords (areaP a) ≡ areaP a + more = omega arith in
+        let z : countBelow more (λ i. heard a (areaP a + i)) ≡ 0 =
+        count-none more (λ i. heard a (areaP a + i))
         (λ i m. either (heard a (areaP a + i)) (λ t. absurd (omega (arith, heard-rank a sound (areaP a + i) (omega arith) t .0))) (λ t. t)) in
-        ones-heard 16 ∙ ap (λ (m : ℕ). countBelow m (heard a)) e ∙ count-add (areaP a) (1024 - areaP a) (heard a) ∙ rw z (add-zero (countBelow (areaP a) (heard a)))
+        ones-heard (heardWords (areaP a)) ∙ ap (λ (m : ℕ). countBelow m (heard a)) e ∙ count-add (areaP a) more (heard a) ∙ rw z (add-zero (countBelow (areaP a) (heard a)))
 
-    pub progress-read : HeaderHolds a → {old new : List ℕ} {rank h d : ℕ} → Tabled a old new → rank ≡ areaRank a → h ≡ heardOnes a 16 → d ≡ length (rankSet old new rank false)
+    pub progress-read : HeaderHolds a → {old new : List ℕ} {rank h d : ℕ} → Tabled a old new → rank ≡ areaRank a → h ≡ heardOnes a (heardWords (areaP a)) → d ≡ length (rankSet old new rank false)
         → record { refusal = 0; heard = h; due = d } ≡ progressOf a
     unfolding progressOf
     progress-read H {old} {new} {rank} {h} {d} t r e q =
         let c : d ≡ length (receiveSet (areaOld a) (areaNew a) (areaRank a)) = q ∙ ap length (set-receives old new rank) ∙ rw (t .isOld, t .isNew, r) in
-        rw (sound, e, heard-count (H .ranksHigh), c)
+        rw (sound, e, heard-count (H .wordsEnough), c)
 
   pub progress-refused : areaSound a ≡ false → record { refusal = 10; heard = 0; due = 0 } ≡ progressOf a
   unfolding progressOf

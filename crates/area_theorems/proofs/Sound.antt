@@ -25,7 +25,8 @@ use Rattle.area.specs.Layout.{heardWords, ghostBound, areaSize, ghostSlotsPlace
 use Rattle.area.specs.Area.{ghostSlot, dueHeard, areaHeaderSound, bitSound, treeSlotSound, ghostHeldSound, areaBound, ghostSlotSound, areaSound}
 use Rattle.area.specs.Open.{freshArea}
 use Rattle.area_theorems.proofs.Kept.{ghostAt, Ghosts}
-use Rattle.area_theorems.proofs.Zones.{Zones, Reads, range-end, few-ranks, words-enough, area-reads}
+use Rattle.area_theorems.proofs.Zones.{Zones, Reads, range-end, few-ranks, area-reads}
+use Rattle.area.proofs.Headers.{words-enough}
 
 -- what the zones of a sound area hold: bits of the receive set, the trees of heard senders in form and in their slots, ghosts in form, below K, outside the new range, ascending
 pub record Held (old new : List ℕ) (rank : ℕ) (H : ℕ → Bool) (slot : ℕ → List ℕ) (g : ℕ) (ghosts : List ℕ) : Type 0 where

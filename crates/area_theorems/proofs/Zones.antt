@@ -28,11 +28,6 @@ use Rattle.area_theorems.proofs.Heard.{word-small, word-bit, words-slot
 
 -- ---- the limits
 
--- the words have a bit for each rank
-pub words-enough : (P : ℕ) → P ≤ maxRanks → P ≤ 64 * heardWords P
-unfolding heardWords
-words-enough P h = omega arith
-
 -- the ghost slots are fewer than 2 ^ 32
 pub bound-small : (d n : ℕ) → n ≤ maxTrees → ghostBound (facesIn d) n < 4294967296
 unfolding ghostBound

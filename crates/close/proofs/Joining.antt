@@ -30,7 +30,7 @@ use Rattle.part_laws.proofs.Views.{TreeView, view-trees, core-tree, tree-link-h
 use Rattle.area.specs.Layout.{ghostBound, slotsPlace, ghostSlotsPlace, slotsOf}
 use Rattle.area.specs.Area.{areaDimension, areaK, areaP, areaRank, areaCount, areaGhosts, areaNew, areaFirst, treeSlot, treeSlotCore, ghostSlot, areaBound, areaSound}
 use Rattle.area.specs.Close.{joinSound, joinIndex, joinedPart}
-use Rattle.area.specs.Means.{HeaderHolds}
+use Rattle.area.specs.Means.{wordsEnd, HeaderHolds}
 use Rattle.area.proofs.Headers.{slots-place-is, ghosts-place-is, size-long}
 use Rattle.area.proofs.Ranges.{bound-read, range-trees}
 use Rattle.area.proofs.Soundness.{sound-holds}
@@ -44,7 +44,7 @@ use Rattle.close.proofs.Slots.{renamed-length}
 -- ---- the slots
 
 module _ (a : List ℕ) (sound : areaSound a ≡ true) where
-  long : 176 + 16 * areaP a + treeSize * areaCount a + coreSize * areaBound a ≤ length a
+  long : wordsEnd (areaP a) + treeSize * areaCount a + coreSize * areaBound a ≤ length a
   long = size-long a (area-parts a sound .header .long)
 
   pub slot-long : (i : ℕ) → i < areaCount a → length (treeSlot a i) ≡ treeSize

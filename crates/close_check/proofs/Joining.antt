@@ -32,7 +32,7 @@ use Rattle.area_theorems.proofs.Kept.{Ghosts}
 use Rattle.area_theorems.proofs.Again.{area-parts, sound-ghosts}
 use Rattle.close_check.specs.Means.{treeFrom, ghostFrom, Slots, linkOfTree, linkOfGhost, treeJoins, ghostJoins, recordsJoin, Complete}
 use Rattle.close_check.proofs.Links.{tree-link-is, ghost-link-is}
-use Rattle.close_check.proofs.Quick.{records-quick}
+use Rattle.close_check.proofs.ByDimension.{records-by-dimension}
 
 module _ (a : List ℕ) (bytes : Bytes a) (sound : areaSound a ≡ true) where
   H : HeaderHolds a
@@ -153,7 +153,7 @@ module _ (a : List ℕ) (bytes : Bytes a) (sound : areaSound a ≡ true) where
         ∙ ap₂ (λ (x y : Bool). x && y)
         (all-same n (localSound first n g tree ghostly (areaDimension a)) (treeJoins linkBetween a at first n g (areaDimension a)) (tree-same (areaDimension a)))
         (all-same g (ghostSound first n g tree ghostly (areaDimension a) (areaK a)) (ghostJoins linkBetween a at first n g (areaDimension a) (areaK a)) (ghost-same (areaDimension a)))
-        ∙ sym (records-quick (areaDimension a) a at first n g (areaK a)
+        ∙ sym (records-by-dimension (areaDimension a) a at first n g (areaK a)
         (λ i h. form-shape (first + i) (tree i) (and-fst (inForm (first + i) (tree i)) (eqb (numberOf (tree i)) (first + i)) (tree-slot i h)))
         (λ j h. form-shape (numberOf (ghostly j)) (ghostly j) (held-ghosts .form j h)))
 

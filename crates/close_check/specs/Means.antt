@@ -1,4 +1,4 @@
--- What inner functions require, and values that mirror their code. The definition that they decide is assembly's Close; proofs/ says that they do.
+-- Means, no part of what is promised: what inner functions require, and values that mirror their code; proofs/ says that they decide area's Close.
 use Prim.Native.Nat.{ℕ, _+_, _-_, _*_, _≤_, _<_}
 use mathlib.Core.Path.{_≡_}
 use mathlib.Core.Bool.{Bool, true, false, cond, _&&_}
@@ -48,7 +48,7 @@ module _ (a : List ℕ) (at first n g : ℕ) where
       cond (inRange first (first + n) k) (at + treeSize * (k - first))
       (cond (anyBelow g (ghostHas (ghostFrom a at n) k)) (at + treeSize * n + coreSize * leastBelow g (ghostHas (ghostFrom a at n) k)) 0)
 
--- the tests of the records, by either rule of a link: part's linkBetween, or its linkQuick, which reads links by the dimension; proofs/Quick.antt: over all records both find the same
+-- the tests of the records, by either rule of a link: part's linkBetween, or its linkQuick, which reads links by the dimension; proofs/ByDimension.antt: over all records both find the same
 module _ (link : ℕ → List ℕ → ℕ → List ℕ → Bool) (a : List ℕ) (at first n g : ℕ) where
   -- the link of face f of tree i to tree k
   unfoldable pub treeTo : ℕ → ℕ → ℕ → Bool

@@ -26,10 +26,10 @@ use Rattle.area.specs.Layout.{heardWords, wordsPlace, slotsPlace, ghostSlotsPla
 use Rattle.area.specs.Area.{areaEpoch, areaDimension, areaK, areaP, areaRank, areaCount, areaGhosts, areaOld, areaNew, areaFirst, heard, treeSlot, ghostSlot, behindArea}
 use Rattle.area.specs.Deliver.{deliverChecks, slotAfter, ghostsAfter, delivered, deliverOf}
 use Rattle.area.specs.Means.{fromFirst, fromPlace, coreAt}
-use Rattle.area.proofs.Headers.{words-place-is, slots-place-is, ghosts-place-is}
+use Rattle.area.proofs.Headers.{words-place-is, slots-place-is, ghosts-place-is, words-enough}
 use Rattle.area.proofs.Ranges.{range-trees}
 use Rattle.area_theorems.proofs.Heard.{word-again, word-same}
-use Rattle.area_theorems.proofs.Zones.{Zones, words-enough}
+use Rattle.area_theorems.proofs.Zones.{Zones}
 use Rattle.area_theorems.proofs.Again.{old-ranks, sound-tables, sound-rank, sound-zones, area-again}
 use Rattle.area_theorems.proofs.Delivered.{Accepted, accepted-parts, after-length, delivered-zones}
 use Rattle.deliver.specs.Means.{merged, Ready, Placed}

@@ -1,5 +1,5 @@
 -- What the checks of a delivery find is what the definitions say.
-use Prim.Native.Nat.{ℕ, _+_, _≤_, _<_}
+use Prim.Native.Nat.{ℕ, _+_, _≤_, _<_, _*_}
 use native.Mathlib.Omega.{arith}
 use mathlib.Core.Path.{_≡_, sym, ap, ap₂, _∙_}
 use mathlib.Core.Bool.{Bool, true, false, _&&_}
@@ -18,7 +18,7 @@ use Rattle.records.specs.Shape.{facesIn}
 use Rattle.records.specs.Record.{coreSize, numberOf}
 use Rattle.message.specs.Layout.{messageHeader, messageTreePlace, messageGhostPlace, messageEpoch, messageDimension, messageK, messageP, messageSender, messageReceiver, messageTrees, messageGhosts, messageTree, inLayout}
 use Rattle.message.proofs.Layouts.{size-length, layout-size}
-use Rattle.area.specs.Layout.{ghostBound}
+use Rattle.area.specs.Layout.{heardWords, ghostBound}
 use Rattle.area.specs.Area.{areaEpoch, areaDimension, areaK, areaP, areaRank, areaCount, areaGhosts, areaOld, areaNew, areaBound, areaSound, heard}
 use Rattle.area.specs.Means.{Tabled}
 use Rattle.area.specs.Deliver.{sameRun, senderDue, treesDue, ghostDue, ghostNew, deliverChecks}
@@ -95,8 +95,8 @@ module _ {a m : List ℕ} (R : Ready a m) where
   ready-headed = record { area = omega (arith, R .header .long); message = layout-header m (R .laid) }
 
   -- the sender's bit is in the words
-  pub sender-low : {d : Bool} {s : ℕ} → d ≡ senderDue a m → d ≡ true → s ≡ messageSender m → s < 1024
-  sender-low e ok q = omega (arith, sender-rank a m (sym e ∙ ok), R .header .ranksHigh)
+  pub sender-low : {d : Bool} {s : ℕ} → d ≡ senderDue a m → d ≡ true → s ≡ messageSender m → s < 64 * heardWords (areaP a)
+  sender-low e ok q = omega (arith, sender-rank a m (sym e ∙ ok), R .header .wordsEnough)
 
 -- ---- the first check that fails
 

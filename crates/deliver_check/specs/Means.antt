@@ -1,4 +1,4 @@
--- What inner functions require, and values that mirror their code. Each value is proved equal to what the public definitions say.
+-- Means, no part of what is promised: what inner functions require, and values that mirror their code; proofs/ says that these are the definitions.
 use Prim.Native.Nat.{ℕ, _+_, _*_, _≤_, _<_}
 use mathlib.Core.Path.{_≡_}
 use mathlib.Core.Bool.{Bool, true, not, _&&_, _||_}

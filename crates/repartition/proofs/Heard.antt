@@ -28,7 +28,8 @@ use Rattle.area.specs.Area.{areaGhosts, heard, ghostSlot, areaSound}
 use Rattle.area.specs.Open.{freshArea}
 use Rattle.area.specs.Deliver.{among, oneOf}
 use Rattle.area_theorems.proofs.Joined.{piece-first, piece-last}
-use Rattle.area_theorems.proofs.Zones.{Zones, Reads, words-enough, few-ranks, range-end, area-reads, area-same}
+use Rattle.area_theorems.proofs.Zones.{Zones, Reads, few-ranks, range-end, area-reads, area-same}
+use Rattle.area.proofs.Headers.{words-enough}
 use Rattle.area_theorems.proofs.Kept.{ghostAt}
 use Rattle.area_theorems.proofs.Sound.{Held, zeros-zero, area-sound}
 use Rattle.repartition.specs.Canonical.{slotHeard, ghostHeard, ghostsHeard, canonical}

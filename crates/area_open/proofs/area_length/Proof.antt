@@ -33,7 +33,7 @@ returns-2 c =
     let if1 = c .before .before .before .if1 in
     let ranks = c .before .before .ranks in
     let tree-count = c .before .tree-count in
-    length-read _ _ _ _ (refusal .ensures) (if1 .left) (ranks .ensures .0) (tree-count .ensures .0) (c .area-size .ensures .0)
+    length-read _ _ _ _ (refusal .ensures) (if1 .left) (ranks .ensures .0) (tree-count .ensures .0) (c .area-size .ensures)
 
 pub area-length-spec : {M : Type 1} → statement M
 area-length-spec =

@@ -34,7 +34,7 @@ returns-2 c =
     let ranks = c .before .before .before .ranks in
     let tree-count = c .before .before .tree-count in
     let area-size = c .before .area-size in
-    open-short _ _ _ _ (refusal .ensures) (if1 .left) (ranks .ensures .0) (tree-count .ensures .0) (area-size .ensures .0) _ _ (c .if2 .taken)
+    open-short _ _ _ _ (refusal .ensures) (if1 .left) (ranks .ensures .0) (tree-count .ensures .0) (area-size .ensures) _ _ (c .if2 .taken)
 
 write-fresh-requires : tie.Need-write-fresh-requires
 write-fresh-requires c κs =
@@ -47,7 +47,7 @@ write-fresh-requires c κs =
     let shared-slice-known = c .before .before .before .before .before .before .before .before .before .shared-slice-known in
     let shared-slice-known2 = c .before .before .before .before .before .before .before .before .shared-slice-known2 in
     let if2 = c .before .if2 in
-    area-room _ _ _ _ (refusal .ensures) (if1 .left) (ranks .ensures .0) (tree-count .ensures .0) (area-size .ensures .0) (args .epoch) _ (λ i. shared-slice-known .given i .fits) (λ i. shared-slice-known2 .given i .fits) (if2 .left)
+    area-room _ _ _ _ (refusal .ensures) (if1 .left) (ranks .ensures .0) (tree-count .ensures .0) (area-size .ensures) (args .epoch) _ (λ i. shared-slice-known .given i .fits) (λ i. shared-slice-known2 .given i .fits) (if2 .left)
 
 same-length : tie.Need-same-length
 same-length c = search needs
@@ -63,7 +63,7 @@ returns-3 c =
     let shared-slice-known2 = c .before .before .before .before .before .before .before .before .before .before .before .shared-slice-known2 in
     let if2 = c .before .before .before .before .if2 in
     let write-fresh = c .before .before .write-fresh in
-    open-done _ _ _ _ (refusal .ensures) (if1 .left) (ranks .ensures .0) (tree-count .ensures .0) (area-size .ensures .0) _ _ (λ i. shared-slice-known .given i .fits) (λ i. shared-slice-known2 .given i .fits) (if2 .left) (write-fresh .ensures)
+    open-done _ _ _ _ (refusal .ensures) (if1 .left) (ranks .ensures .0) (tree-count .ensures .0) (area-size .ensures) _ _ (λ i. shared-slice-known .given i .fits) (λ i. shared-slice-known2 .given i .fits) (if2 .left) (write-fresh .ensures)
 
 pub open-area-spec : {M : Type 1} → statement M
 open-area-spec =

@@ -60,7 +60,7 @@ returns-4 c =
     let dimension2 = c .before .before .before .dimension2 in
     let count = c .before .before .count in
     let area-size = c .before .area-size in
-    header-size _ (if1 .left) (dimension .ensures) (dimension-ok .ensures) (not-false _ (if2 .left)) (ranks .ensures) (rank-count-ok .ensures) (not-false _ (if3 .left)) (dimension2 .ensures) (count .ensures) (area-size .ensures .0) (c .if4 .taken)
+    header-size _ (if1 .left) (dimension .ensures) (dimension-ok .ensures) (not-false _ (if2 .left)) (ranks .ensures) (rank-count-ok .ensures) (not-false _ (if3 .left)) (dimension2 .ensures) (count .ensures) (area-size .ensures) (c .if4 .taken)
 
 new-place-requires : tie.Need-new-place-requires
 new-place-requires c κs =
@@ -88,7 +88,7 @@ part-old-end c =
     let area-size = c .before .before .before .area-size in
     let if4 = c .before .before .if4 in
     let new-place = c .before .new-place in
-    omega (arith, size-low (dimension2 .result) (ranks .result) (count .result), area-size .ensures .0, if4 .left, new-place .ensures .1)
+    omega (arith, size-low (dimension2 .result) (ranks .result) (count .result), area-size .ensures, if4 .left, new-place .ensures .1)
 
 sub-new : tie.Need-sub-new
 sub-new c = search needs
@@ -104,7 +104,7 @@ part-new-end c =
     let area-size = c .before .before .before .before .area-size in
     let if4 = c .before .before .before .if4 in
     let words-place = c .before .words-place in
-    omega (arith, size-low (dimension2 .result) (ranks .result) (count .result), area-size .ensures .0, if4 .left, words-place .ensures .1)
+    omega (arith, size-low (dimension2 .result) (ranks .result) (count .result), area-size .ensures, if4 .left, words-place .ensures .1)
 
 tables-fit-requires : tie.Need-tables-fit-requires
 tables-fit-requires c κs =
@@ -117,7 +117,7 @@ tables-fit-requires c κs =
     let if3 = c .before .before .before .before .before .before .before .before .if3 in
     let area-size = c .before .before .before .before .before .area-size in
     let if4 = c .before .before .before .before .if4 in
-    sized-area _ (ranks .ensures) (new-place .ensures .0) (words-place .ensures .0) (dimension2 .ensures) (count .ensures) (rank-count-ok .ensures) (not-false _ (if3 .left)) (area-size .ensures .0) (if4 .left)
+    sized-area _ (ranks .ensures) (new-place .ensures .0) (words-place .ensures .0) (dimension2 .ensures) (count .ensures) (rank-count-ok .ensures) (not-false _ (if3 .left)) (area-size .ensures) (if4 .left)
 
 returns-5 : tie.Need-returns-5
 returns-5 c =
@@ -133,7 +133,7 @@ returns-5 c =
     let area-size = c .before .before .before .before .before .before .before .area-size in
     let if4 = c .before .before .before .before .before .before .if4 in
     let tables-fit = c .before .tables-fit in
-    header-tables _ (if1 .left) (dimension .ensures) (dimension-ok .ensures) (not-false _ (if2 .left)) (ranks .ensures) (rank-count-ok .ensures) (not-false _ (if3 .left)) (dimension2 .ensures) (count .ensures) (area-size .ensures .0) (if4 .left) (tables-fit .ensures) (not-true _ (c .if5 .taken))
+    header-tables _ (if1 .left) (dimension .ensures) (dimension-ok .ensures) (not-false _ (if2 .left)) (ranks .ensures) (rank-count-ok .ensures) (not-false _ (if3 .left)) (dimension2 .ensures) (count .ensures) (area-size .ensures) (if4 .left) (tables-fit .ensures) (not-true _ (c .if5 .taken))
 
 count-requires-2 : tie.Need-count-requires-2
 count-requires-2 c κs = search needs
@@ -154,7 +154,7 @@ tree-count-requires c κs =
     let if4 = c .before .before .before .before .before .before .before .before .if4 in
     let tables-fit = c .before .before .before .tables-fit in
     let if5 = c .before .before .if5 in
-    fit-rank (sized-area _ (ranks .ensures) (new-place .ensures .0) (words-place .ensures .0) (dimension2 .ensures) (count .ensures) (rank-count-ok .ensures) (not-false _ (if3 .left)) (area-size .ensures .0) (if4 .left)) (c .rank .ensures) (sym (tables-fit .ensures) ∙ not-false _ (if5 .left))
+    fit-rank (sized-area _ (ranks .ensures) (new-place .ensures .0) (words-place .ensures .0) (dimension2 .ensures) (count .ensures) (rank-count-ok .ensures) (not-false _ (if3 .left)) (area-size .ensures) (if4 .left)) (c .rank .ensures) (sym (tables-fit .ensures) ∙ not-false _ (if5 .left))
 
 read-u32-requires : tie.Need-read-u32-requires
 read-u32-requires c κs = search needs
@@ -179,7 +179,7 @@ returns-6 c =
     let rank = c .before .before .rank in
     let count2 = c .before .before .before .count2 in
     let tree-count = c .before .tree-count in
-    header-read _ (if1 .left) (dimension .ensures) (dimension-ok .ensures) (not-false _ (if2 .left)) (ranks .ensures) (rank-count-ok .ensures) (not-false _ (if3 .left)) (dimension2 .ensures) (count .ensures) (area-size .ensures .0) (if4 .left) (tables-fit .ensures) (not-false _ (if5 .left)) (sized-area _ (ranks .ensures) (new-place .ensures .0) (words-place .ensures .0) (dimension2 .ensures) (count .ensures) (rank-count-ok .ensures) (not-false _ (if3 .left)) (area-size .ensures .0) (if4 .left) .isNew) (rank .ensures) (count2 .ensures) (tree-count .ensures .0) (c .read-u32 .ensures)
+    header-read _ (if1 .left) (dimension .ensures) (dimension-ok .ensures) (not-false _ (if2 .left)) (ranks .ensures) (rank-count-ok .ensures) (not-false _ (if3 .left)) (dimension2 .ensures) (count .ensures) (area-size .ensures) (if4 .left) (tables-fit .ensures) (not-false _ (if5 .left)) (sized-area _ (ranks .ensures) (new-place .ensures .0) (words-place .ensures .0) (dimension2 .ensures) (count .ensures) (rank-count-ok .ensures) (not-false _ (if3 .left)) (area-size .ensures) (if4 .left) .isNew) (rank .ensures) (count2 .ensures) (tree-count .ensures .0) (c .read-u32 .ensures)
 
 pub header-sound-spec : {M : Type 1} → statement M
 header-sound-spec =

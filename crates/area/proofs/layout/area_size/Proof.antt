@@ -18,7 +18,7 @@ add-result c = search needs
 
 returns : tie.Need-returns
 unfolding areaSize
-returns c = (omega arith, omega arith)
+returns c = omega arith
 
 pub area-size-spec : {M : Type 1} → statement M
 area-size-spec =

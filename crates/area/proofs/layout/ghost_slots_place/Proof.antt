@@ -15,7 +15,7 @@ add-result c = search needs
 
 returns : tie.Need-returns
 unfolding ghostSlotsPlace
-returns c = (omega arith, omega arith)
+returns c = (omega arith, (omega arith, omega arith))
 
 pub ghost-slots-place-spec : {M : Type 1} → statement M
 ghost-slots-place-spec = tie.close (tie.spec slots-place-requires mul-result add-result returns)

@@ -1,3 +1,5 @@
+use mathlib.Core.Path.{ap}
+use Rattle.area.specs.Layout.{heardWords}
 use Rattle.area.proofs.Tabled.{tabled-pair, tabled-long}
 use Rattle.area_check.proofs.Checking.{range-none, due, range-held, range-zero}
 use native.Mathlib.Omega.{arith}
@@ -65,7 +67,7 @@ slots-held-requires c κs =
     let to-local = c .before .before .before .before .to-local in
     let slots-place = c .before .before .slots-place in
     let ranks = c .before .before .before .ranks in
-    let d = due (pre .0) (pre .1) (rank .ensures) (sent .ensures .0) (sent .ensures .1) (if1 .left) (first-tree .ensures) in (omega (arith, to-local .ensures, d .low, d .high, slots-place .ensures .1, ranks .ensures), d .most)
+    let d = due (pre .0) (pre .1) (rank .ensures) (sent .ensures .0) (sent .ensures .1) (if1 .left) (first-tree .ensures) in (omega (arith, to-local .ensures, d .low, d .high, slots-place .ensures .1, ranks .ensures, ap heardWords (ranks .ensures)), d .most)
 
 returns-2 : tie.Need-returns-2
 returns-2 c =
@@ -106,7 +108,7 @@ part-all-zero-end c =
     let first-tree = c .before .before .before .before .before .first-tree in
     let slots-place = c .before .before .slots-place in
     let ranks = c .before .before .before .ranks in
-    omega (arith, to-local .ensures, due (pre .0) (pre .1) (rank .ensures) (sent .ensures .0) (sent .ensures .1) (if1 .left) (first-tree .ensures), slots-place .ensures .1, ranks .ensures)
+    omega (arith, to-local .ensures, due (pre .0) (pre .1) (rank .ensures) (sent .ensures .0) (sent .ensures .1) (if1 .left) (first-tree .ensures), slots-place .ensures .1, ranks .ensures, ap heardWords (ranks .ensures))
 
 all-zero-requires : tie.Need-all-zero-requires
 all-zero-requires c κs = search needs

@@ -38,7 +38,7 @@ write-eight-requires c κs =
     let ranks = c .before .before .before .before .before .before .ranks in
     let tree-count = c .before .before .before .before .tree-count in
     let area-size = c .before .area-size in
-    omega (arith, open-fits pre (ranks .ensures .0) (tree-count .ensures .0) (area-size .ensures .0))
+    omega (arith, open-fits pre (ranks .ensures .0) (tree-count .ensures .0) (area-size .ensures))
 
 add-copy-words : tie.Need-add-copy-words
 add-copy-words c = search needs
@@ -49,7 +49,7 @@ copy-words-requires c κs =
     let ranks = c .before .before .before .before .before .before .before .before .before .before .ranks in
     let tree-count = c .before .before .before .before .before .before .before .before .tree-count in
     let area-size = c .before .before .before .before .before .area-size in
-    let f = open-fits pre (ranks .ensures .0) (tree-count .ensures .0) (area-size .ensures .0) in record { whole = f .oldLong; room = omega (arith, f .zones, f .room) }
+    let f = open-fits pre (ranks .ensures .0) (tree-count .ensures .0) (area-size .ensures) in record { whole = f .oldLong; room = omega (arith, f .zones, f .room) }
 
 add-copy-words-2 : tie.Need-add-copy-words-2
 add-copy-words-2 c = search needs
@@ -61,7 +61,7 @@ copy-words-requires-2 c κs =
     let tree-count = c .before .before .before .before .before .before .before .before .before .before .before .before .tree-count in
     let area-size = c .before .before .before .before .before .before .before .before .before .area-size in
     let new-place = c .before .before .before .before .before .before .before .before .before .before .before .new-place in
-    let f = open-fits pre (ranks .ensures .0) (tree-count .ensures .0) (area-size .ensures .0) in record { whole = f .newLong; room = omega (arith, f .zones, f .room, new-place .ensures .1) }
+    let f = open-fits pre (ranks .ensures .0) (tree-count .ensures .0) (area-size .ensures) in record { whole = f .newLong; room = omega (arith, f .zones, f .room, new-place .ensures .1) }
 
 clear-requires : tie.Need-clear-requires
 clear-requires c κs =
@@ -70,7 +70,7 @@ clear-requires c κs =
     let tree-count = c .before .before .before .before .before .before .before .before .before .before .before .before .before .before .before .before .tree-count in
     let area-size = c .before .before .before .before .before .before .before .before .before .before .before .before .before .area-size in
     let words-place = c .before .before .before .before .before .before .before .before .before .before .before .before .before .before .words-place in
-    let f = open-fits pre (ranks .ensures .0) (tree-count .ensures .0) (area-size .ensures .0) in (omega (arith, f .zones, words-place .ensures .1), omega (arith, f .room))
+    let f = open-fits pre (ranks .ensures .0) (tree-count .ensures .0) (area-size .ensures) in (omega (arith, f .zones, words-place .ensures .1), omega (arith, f .room))
 
 same-length : tie.Need-same-length
 same-length c = search needs
@@ -88,7 +88,7 @@ returns c =
     let copy-words = c .before .before .before .before .before .before .before .before .before .before .copy-words in
     let copy-words2 = c .before .before .before .before .before .before .copy-words2 in
     let clear = c .before .before .clear in
-    fresh-written _ _ _ _ _ (pre .tables) _ (pre .room) (ranks .ensures .0) (trees .ensures) (tree-count .ensures .0) (new-place .ensures .0) (words-place .ensures .0) (area-size .ensures .0) (write-eight .ensures) (copy-words .ensures) (copy-words2 .ensures) (clear .ensures)
+    fresh-written _ _ _ _ _ (pre .tables) _ (pre .room) (ranks .ensures .0) (trees .ensures) (tree-count .ensures .0) (new-place .ensures .0) (words-place .ensures .0) (area-size .ensures) (write-eight .ensures) (copy-words .ensures) (copy-words2 .ensures) (clear .ensures)
 
 pub write-fresh-spec : {M : Type 1} → statement M
 write-fresh-spec =

@@ -91,8 +91,8 @@ module _ (D : ℕ) where
           )
 
     -- the tests hold by the fast rule exactly where they do by the definition's
-    pub records-quick : recordsJoin (linkQuick D) a at first n g D K ≡ recordsJoin linkBetween a at first n g D K
-    records-quick =
+    pub records-by-dimension : recordsJoin (linkQuick D) a at first n g D K ≡ recordsJoin linkBetween a at first n g D K
+    records-by-dimension =
         iff-eq (recordsJoin (linkQuick D) a at first n g D K) (recordsJoin linkBetween a at first n g D K)
         (λ e. sym (records-same (tree-fits (linkQuick D) e) (ghost-fits (linkQuick D) e)) ∙ e)
         (λ e. records-same (tree-fits linkBetween e) (ghost-fits linkBetween e) ∙ e)

@@ -34,14 +34,10 @@ module _ (a : List ℕ) (off P : ℕ) (ok : rankCountOk P ≡ true) (fits : off 
 
 -- ---- how long an area is
 
--- the words have a bit for each rank, and are few
+-- the words have a bit for each rank
 pub words-enough : (P : ℕ) → P ≤ maxRanks → P ≤ 64 * heardWords P
 unfolding heardWords
 words-enough P h = omega arith
-
-pub words-few : (P : ℕ) → P ≤ maxRanks → heardWords P ≤ maxRanks
-unfolding heardWords
-words-few P h = omega arith
 
 pub words-place-is : (P : ℕ) → wordsPlace P ≡ tablesEnd P
 unfolding wordsPlace newPlace
@@ -203,7 +199,6 @@ module _ (a : List ℕ) where
         countIs = c;
         ranksHigh = ranks-within (areaP a) p .1;
         countHigh = rw c (count-high (range-fits (areaNew a) (areaRank a) bN f));
-        wordsHigh = words-few (areaP a) (ranks-within (areaP a) p .1);
         wordsEnough = words-enough (areaP a) (ranks-within (areaP a) p .1);
         long = sized-long sized;
       }

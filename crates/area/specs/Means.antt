@@ -54,7 +54,6 @@ pub record HeaderHolds (a : List ℕ) : Type 0 where
   pub countIs : areaCount a ≡ treeCount (areaNew a) (areaRank a)
   pub ranksHigh : areaP a ≤ maxRanks
   pub countHigh : areaCount a ≤ maxTrees
-  pub wordsHigh : heardWords (areaP a) ≤ maxRanks
   pub wordsEnough : areaP a ≤ 64 * heardWords (areaP a)
   pub long : wordsEnd (areaP a) + treeSize * areaCount a + coreSize * areaBound a ≤ length a
 

@@ -8,12 +8,11 @@ use lib.Dec.{leb, ltb, eqb}
 use lib.ListN.{length, replicate, length-append, length-replicate, replicate-append-replicate}
 use borrow.Author.Tests.{ltb-true, eqb-true, lt-ltb, le-ltb, le-leb, lt-leb, eq-eqb, ne-eqb}
 use Rattle.encoding.specs.Answer.{lengthRefused, lengthAnswer, written, writeAnswer}
-use Rattle.encoding.specs.Below.{sumBelow}
 use Rattle.encoding.specs.Header.{eightBytes}
 use Rattle.encoding.specs.Numbers.{leBytes}
 use Rattle.encoding.specs.Pieces.{splice, Bytes}
 use Rattle.encoding.specs.Refusal.{Check, check, firstFailed}
-use Rattle.encoding.proofs.Below.{either, clash, and-fst}
+use Rattle.encoding.proofs.Below.{either, clash, and-fst, sum-none}
 use Rattle.encoding.proofs.Numbers.{bytes-length}
 use Rattle.encoding.proofs.Pieces.{splice-then}
 use Rattle.offsets.specs.Table.{ranks, trees, treeCount}
@@ -125,11 +124,6 @@ module _ (old new : List ℕ) (rank dimension : ℕ) where
       }
 
 -- ---- the fresh area
-
-sum-none : (n : ℕ) → sumBelow n (λ b. 0) ≡ 0
-unfolding sumBelow
-sum-none zero = refl
-sum-none (suc n) = rw (sum-none n)
 
 -- with no sender heard the words are zeros
 pub words-none-heard : (n : ℕ) → wordsOf (λ s. false) n ≡ replicate (8 * n) 0

@@ -29,7 +29,7 @@ use Rattle.area.specs.Layout.{areaHeader, heardWords, ghostBound, oldPlace, new
 use Rattle.area.specs.Area.{areaEpoch, areaDimension, areaK, areaP, areaRank, areaCount, areaGhosts, areaOld, areaNew, areaFirst, heard, treeSlot, treeSlotCore, ghostSlot, dueHeard, areaHeaderSound, bitSound, treeSlotSound, ghostHeldSound, areaBound, ghostSlotSound, areaSound, behindArea}
 use Rattle.area_theorems.proofs.Joined.{slots-length, slots-at, slots-same, slots-piece, slots-replicate}
 use Rattle.area_theorems.proofs.Heard.{word-again, words-slots}
-use Rattle.area_theorems.proofs.Zones.{Zones, Reads, core-slot}
+use Rattle.area_theorems.proofs.Zones.{Zones, core-slot}
 use Rattle.area_theorems.proofs.Kept.{ghostAt, Ghosts}
 use Rattle.area_theorems.proofs.Sound.{Held}
 
@@ -258,31 +258,6 @@ module _ (a : List ℕ) (b : Bytes a) (sound : areaSound a ≡ true) where
   empty-at j l h =
       let z : allZero (ghostSlot a j) ≡ true = rw (le-ltb j g l) at (parts .ghost j h) in
       zero-replicate (ghostSlot a j) z ∙ ap (λ (m : ℕ). replicate m 0) (ghost-long j h)
-
-  -- what is read from it
-  pub sound-reads : Reads a (areaEpoch a) (areaDimension a) (areaOld a) (areaNew a) (areaRank a) (heard a) (treeSlot a) (areaGhosts a) (slotsOf (ghostSlot a) (areaGhosts a)) (behindArea a)
-  unfolding areaFirst
-  sound-reads =
-      record {
-        at-length = rw (old-ranks, ← parts .header .is-count) (parts .header .long);
-        at-epoch = refl;
-        at-dimension = refl;
-        at-K = sym (parts .header .old-trees);
-        at-P = sym old-ranks;
-        at-rank = refl;
-        at-count = parts .header .is-count;
-        at-ghosts = refl;
-        at-last = parts .header .is-last;
-        at-old = refl;
-        at-new = refl;
-        at-first = refl;
-        at-heard = λ s h. refl;
-        at-slot = λ i h. refl;
-        at-core = λ i h. core-slot a i;
-        at-ghost = λ j h. sym (held-at j h);
-        at-empty = λ j l h. empty-at j l (rw (← parts .header .is-count) at h);
-        at-behind = refl;
-      }
 
   -- ---- what its zones hold
 

@@ -7,7 +7,7 @@ use mathlib.Core.Bool.{Bool, true, false, cond, not, _&&_, _||_, or-false, or-tr
 use mathlib.Core.List.{List, [], _∷_, _++_}
 use lib.Dec.{ltb, eqb}
 use lib.ListN.{length}
-use borrow.Author.Tests.{ltb-true, leb-true, eqb-true, not-true, le-leb, eq-eqb, ne-eqb}
+use borrow.Author.Tests.{ltb-true, leb-true, eqb-true, not-true, ne-eqb}
 use Rattle.encoding.specs.Below.{allBelow, anyBelow}
 use Rattle.encoding.specs.Pieces.{piece, Bytes}
 use Rattle.encoding.specs.Refusal.{Check, firstFailed}
@@ -126,23 +126,6 @@ accepted-parts a m e =
       ghosts-new = p18 .0;
       ghosts-fit = leb-true (areaGhosts a + messageGhosts m) (areaBound a) (p19 .0);
     }
-
--- and where all that holds, no check fails
-pub accepted-intro : (a m : List ℕ) → Accepted a m → firstFailed (deliverChecks a m) ≡ 0
-unfolding deliverChecks firstFailed
-accepted-intro a m A =
-    rw (
-      A .area-ok,
-      A .layout-ok,
-      A .run-ok,
-      eq-eqb (messageReceiver m) (areaRank a) (A .receiver-ok),
-      A .sender-ok,
-      A .unheard,
-      A .trees-ok,
-      A .ghosts-ok,
-      A .ghosts-new,
-      le-leb (areaGhosts a + messageGhosts m) (areaBound a) (A .ghosts-fit),
-    )
 
 -- ---- the ghosts after it
 

@@ -6,3 +6,4 @@ pub mod Kept
 pub mod Sound
 pub mod Again
 pub mod Delivered
+pub mod Counting

@@ -128,12 +128,6 @@ module _ (a : List ℕ) (epoch dimension : ℕ) (old new : List ℕ) (rank : ℕ
         (rw (reads-bits, reads-trees, le-leb g bound (Z .ghosts-fit), reads-ghosts))
 
 module _ (epoch dimension : ℕ) (old new : List ℕ) (rank : ℕ) (H : ℕ → Bool) (slot : ℕ → List ℕ) (g : ℕ) (ghosts tail : List ℕ) (Z : Zones epoch dimension old new rank slot g ghosts) where
-  -- the header of an area is as its tables say
-  pub area-header-sound : areaHeaderSound (areaWith epoch dimension old new rank H slot g ghosts ++ tail) ≡ true
-  area-header-sound =
-      reads-header (areaWith epoch dimension old new rank H slot g ghosts ++ tail) epoch dimension old new rank H slot g ghosts tail Z
-      (area-reads epoch dimension old new rank H slot g ghosts tail Z)
-
   -- an area with such zones is sound
   pub area-sound : Held old new rank H slot g ghosts → areaSound (areaWith epoch dimension old new rank H slot g ghosts ++ tail) ≡ true
   area-sound held =

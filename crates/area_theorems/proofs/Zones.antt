@@ -344,12 +344,3 @@ area-same epoch dimension old new rank H₁ H₂ slot₁ slot₂ g ghosts eH eS 
     (λ (ws ts : List ℕ). areaHeaderBytes epoch dimension (trees old) (ranks old) rank (treeCount new rank) g
     ++ (old ++ (new ++ (ws ++ (ts ++ (ghosts ++ replicate (coreSize * (ghostBound (facesIn dimension) (treeCount new rank) - g)) 0))))))
     (words-same H₁ H₂ (heardWords (ranks old)) eH) (slots-same slot₁ slot₂ (treeCount new rank) eS)
-
--- equal areas have heard the same senders
-pub area-heard : (epoch dimension : ℕ) (old new : List ℕ) (rank : ℕ) (H₁ H₂ : ℕ → Bool) (slot₁ slot₂ : ℕ → List ℕ) (g₁ g₂ : ℕ) (ghosts₁ ghosts₂ : List ℕ)
-    → Zones epoch dimension old new rank slot₁ g₁ ghosts₁ → Zones epoch dimension old new rank slot₂ g₂ ghosts₂
-    → areaWith epoch dimension old new rank H₁ slot₁ g₁ ghosts₁ ≡ areaWith epoch dimension old new rank H₂ slot₂ g₂ ghosts₂
-    → (s : ℕ) → s < 64 * heardWords (ranks old) → H₁ s ≡ H₂ s
-area-heard epoch dimension old new rank H₁ H₂ slot₁ slot₂ g₁ g₂ ghosts₁ ghosts₂ Z₁ Z₂ e s h =
-    sym (read-heard epoch dimension old new rank H₁ slot₁ g₁ ghosts₁ [] Z₁ s h)
-    ∙ (ap (λ (a : List ℕ). heard (a ++ []) s) e ∙ read-heard epoch dimension old new rank H₂ slot₂ g₂ ghosts₂ [] Z₂ s h)

@@ -35,7 +35,8 @@ use Rattle.area_theorems.proofs.Zones.{Reads, dimension-small, area-same}
 use Rattle.repartition.specs.Canonical.{slotHeard, ghostHeard, ghostsHeard, canonical}
 use Rattle.repartition.specs.Lists.{deliver, Setting, Built, hears}
 use Rattle.repartition.proofs.Receive.{InReceive, built-due}
-use Rattle.repartition.proofs.Counting.{count-apart, neighbour-beside}
+use Rattle.area_theorems.proofs.Counting.{count-apart}
+use Rattle.repartition.proofs.Counting.{neighbour-beside}
 use Rattle.repartition.proofs.Heard.{Kept, among-kept, one-kept, record-core, heard-fit, canonical-reads, rank-bit, among-heard, one-heard, canonical-sound, canonical-agree}
 
 eqb-sym : (a b : ℕ) → eqb a b ≡ eqb b a

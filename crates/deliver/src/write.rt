@@ -57,12 +57,12 @@ fn places(area: &[u8], message: &[u8]) -> WritePlaces
     let count = assembly::area::count(area);
     WritePlaces {
         words: assembly::place::words_place(ranks),
-        sender: message::inner::sender(message) as usize,
+        sender: message::header::sender(message) as usize,
         slots: trees_place(area, message),
-        trees: message::inner::tree_count(message) as usize,
+        trees: message::header::tree_count(message) as usize,
         ghosts: assembly::place::ghost_slots_place(ranks, count),
         held: assembly::area::ghosts(area),
-        came: message::inner::ghost_count(message),
+        came: message::header::ghost_count(message),
     }
 }
 

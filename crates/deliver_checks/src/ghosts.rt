@@ -31,10 +31,10 @@ fn mark_trees(message: &[u8], marks: &mut [u64])
     requires { ⌜ TreesFit (now message) (now marks) ⌝ }
     ensures { λ u. ⌜ Marked (now (marks .entry)) (besideFirst (now (message .entry)) (messageTrees (now (message .entry)))) (now (marks .exit)) ⌝ }
 {
-    let count = message::inner::tree_count(message);
+    let count = message::header::tree_count(message);
     let mut i = 0;
     while i < count {
-        let at = message::inner::tree_at(i);
+        let at = message::layout::tree_at(i);
         let faces = records::shape::face_count(records::read::shape_of(message, at));
         mark_faces(message, at, faces, &mut *marks);
         i += 1;
@@ -54,7 +54,7 @@ fn ghost_beside(
     requires { ⌜ Beside (now new) (now message) (now marks) rank × (below ≡ messageK (now message)) × (count ≡ messageTrees (now message)) × (j < messageGhosts (now message)) ⌝ }
     ensures { λ r. ⌜ r ≡ ghostBeside (now (new .entry)) rank (now (message .entry)) j ⌝ }
 {
-    let number = records::read::number_of(message, message::inner::ghost_at(count, j));
+    let number = records::read::number_of(message, message::layout::ghost_at(count, j));
     if below <= number {
         return false;
     }
@@ -65,9 +65,9 @@ fn ghosts_beside(new: &[u8], rank: usize, message: &[u8], marks: &[u64]) -> bool
     requires { ⌜ Beside (now new) (now message) (now marks) rank ⌝ }
     ensures { λ r. ⌜ r ≡ allBelow (messageGhosts (now (message .entry))) (ghostBeside (now (new .entry)) rank (now (message .entry))) ⌝ }
 {
-    let below = message::inner::trees_below(message);
-    let count = message::inner::tree_count(message);
-    let ghosts = message::inner::ghost_count(message);
+    let below = message::header::trees_below(message);
+    let count = message::header::tree_count(message);
+    let ghosts = message::header::ghost_count(message);
     let mut j = 0;
     while j < ghosts {
         if !ghost_beside(new, rank, message, marks, below, count, j) {
@@ -113,11 +113,11 @@ pub fn ghosts_new(area: &[u8], message: &[u8]) -> bool
         assembly::area::ranks(area),
         assembly::area::count(area),
     );
-    let count = message::inner::tree_count(message);
-    let ghosts = message::inner::ghost_count(message);
+    let count = message::header::tree_count(message);
+    let ghosts = message::header::ghost_count(message);
     let mut j = 0;
     while j < ghosts {
-        let number = records::read::number_of(message, message::inner::ghost_at(count, j));
+        let number = records::read::number_of(message, message::layout::ghost_at(count, j));
         if is_held(area, at, held, GlobalIndex(number)) {
             return false;
         }

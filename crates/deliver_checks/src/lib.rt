@@ -20,10 +20,10 @@ fn same_run(area: &[u8], message: &[u8]) -> bool
     requires { ⌜ Headed (now area) (now message) ⌝ }
     ensures { λ r. ⌜ r ≡ sameRun (now (area .entry)) (now (message .entry)) ⌝ }
 {
-    (message::inner::epoch(message) == assembly::area::epoch(area))
-        & (message::inner::dimension(message) == assembly::area::dimension(area))
-        & (message::inner::trees_below(message) == assembly::area::trees(area))
-        & (message::inner::ranks(message) as usize == assembly::area::ranks(area))
+    (message::header::epoch(message) == assembly::area::epoch(area))
+        & (message::header::dimension(message) == assembly::area::dimension(area))
+        & (message::header::trees_below(message) == assembly::area::trees(area))
+        & (message::header::ranks(message) as usize == assembly::area::ranks(area))
 }
 
 // Whether the message is for the area's rank (13).
@@ -31,7 +31,7 @@ fn receiver_is(area: &[u8], message: &[u8]) -> bool
     requires { ⌜ Headed (now area) (now message) ⌝ }
     ensures { λ r. ⌜ r ≡ eqb (messageReceiver (now (message .entry))) (areaRank (now (area .entry))) ⌝ }
 {
-    message::inner::receiver(message) as usize == assembly::area::rank(area)
+    message::header::receiver(message) as usize == assembly::area::rank(area)
 }
 
 // Whether the sender is in the receive set (14).
@@ -39,7 +39,7 @@ fn sender_due(area: &[u8], old: &[u8], new: &[u8], message: &[u8]) -> bool
     requires { ⌜ Tabled (now area) (now old) (now new) × (messageHeader ≤ length (now message)) ⌝ }
     ensures { λ r. ⌜ r ≡ senderDue (now (area .entry)) (now (message .entry)) ⌝ }
 {
-    let sender = message::inner::sender(message) as usize;
+    let sender = message::header::sender(message) as usize;
     if assembly::area::ranks(area) <= sender {
         return false;
     }
@@ -53,7 +53,7 @@ fn trees_from(message: &[u8], first: u32, count: u32) -> bool
 {
     let mut i = 0;
     while i < count {
-        let number = records::read::number_of(message, message::inner::tree_at(i));
+        let number = records::read::number_of(message, message::layout::tree_at(i));
         if number as u64 != (first as u64) + (i as u64) {
             return false;
         }
@@ -67,11 +67,11 @@ fn trees_due(area: &[u8], old: &[u8], new: &[u8], message: &[u8]) -> bool
     requires { ⌜ Tabled (now area) (now old) (now new) × (inLayout (now message) ≡ true) × (messageSender (now message) < areaP (now area)) ⌝ }
     ensures { λ r. ⌜ r ≡ treesDue (now (area .entry)) (now (message .entry)) ⌝ }
 {
-    let sender = message::inner::sender(message) as usize;
+    let sender = message::header::sender(message) as usize;
     let sent = pattern::inner::sent(old, new, sender, assembly::area::rank(area));
     let first = sent.first;
     let count = sent.count;
-    if message::inner::tree_count(message) != count {
+    if message::header::tree_count(message) != count {
         return false;
     }
     trees_from(message, first, count)
@@ -83,7 +83,7 @@ fn has_room(area: &[u8], message: &[u8]) -> bool
     ensures { λ r. ⌜ r ≡ leb (areaGhosts (now (area .entry)) + messageGhosts (now (message .entry))) (areaBound (now (area .entry))) ⌝ }
 {
     let held = assembly::area::ghosts(area) as u64;
-    let ghosts = message::inner::ghost_count(message) as u64;
+    let ghosts = message::header::ghost_count(message) as u64;
     let count = assembly::area::count(area);
     held + ghosts <= assembly::place::ghost_bound(assembly::area::dimension(area), count)
 }
@@ -96,7 +96,7 @@ fn due_refusal(area: &[u8], old: &[u8], new: &[u8], message: &[u8]) -> u32
     if !sender_due(area, old, new, message) {
         return 14;
     }
-    if assembly::area::heard(area, message::inner::sender(message) as usize) {
+    if assembly::area::heard(area, message::header::sender(message) as usize) {
         return 15;
     }
     if !trees_due(area, old, new, message) {
@@ -121,7 +121,7 @@ pub fn refusal(area: &[u8], message: &[u8]) -> u32
     if !assembly::area::area_sound(area) {
         return 10;
     }
-    if !message::inner::in_layout(message) {
+    if !message::layout::in_layout(message) {
         return 11;
     }
     if !same_run(area, message) {

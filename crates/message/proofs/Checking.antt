@@ -14,7 +14,7 @@ use Rattle.records.specs.Shape.{dimensionOf, faceCount}
 use Rattle.records.specs.Record.{coreSize, treeSize, numberOf, shapeOf, neighbourOf, inForm}
 use Rattle.mesh.specs.Mesh.{dimensionOk}
 use Rattle.message.specs.Layout.{messageHeader, messageGhostPlace, messageSize, messageDimension, messageK, messageTrees, messageGhosts, messageTree, messageGhost, recordLaid, sizeLaid, afterLast, recordsLaid, inLayout}
-use Rattle.message.specs.Mirror.{coreAt, Row}
+use Rattle.message.specs.Means.{coreAt, Row}
 use Rattle.message.proofs.Layouts.{size-length}
 
 module _ (m : List ℕ) where

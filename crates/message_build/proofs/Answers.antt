@@ -25,8 +25,8 @@ use Rattle.part.specs.Mirror.{RankKnown}
 use Rattle.message.specs.Build.{partMessage}
 use Rattle.message.specs.Calls.{buildChecks, messageLengthOf, buildMessageOf}
 use Rattle.message.specs.Layout.{messageSize}
-use Rattle.message_marks.specs.Mirror.{Blank, Sending, Marks}
-use Rattle.message_build.specs.Mirror.{MessageRoom}
+use Rattle.message_ghosts.specs.Means.{Blank, Sending, Marks}
+use Rattle.message_build.specs.Means.{MessageRoom}
 use Rattle.message_build.proofs.Whole.{count-is, built-length}
 
 -- ---- the ghosts that go

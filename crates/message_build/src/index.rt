@@ -2,7 +2,7 @@
 ghost use mathlib.Core.Path.{_≡_};
 ghost use Rattle.part.specs.Part.{globalIndex};
 ghost use Rattle.part.specs.Mirror.{rowWith, rowsWith};
-ghost use Rattle.message_build.specs.Mirror.{Opened};
+ghost use Rattle.message_build.specs.Means.{Opened};
 use part::sound::ghost_at;
 use part::sound::tree_at;
 use records::index::GlobalIndex;

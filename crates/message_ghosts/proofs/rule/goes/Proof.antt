@@ -1,0 +1,70 @@
+use native.Mathlib.Omega.{arith}
+use mathlib.Core.Path.{sym, _∙_}
+use Rattle.message_ghosts.proofs.Reading.{faces-read, goes-held, goes-own, goes-read}
+use Rattle.message_ghosts.proofs.Records.{place-fits}
+use Rattle.pattern.proofs.Laws.{receiver-new-row}
+use borrow.Author.Needs.{needs}
+use Rattle.message_ghosts.proofs.rule.goes.Statement.{statement}
+use Rattle.message_ghosts.proofs.rule.goes.Tie as tie
+
+cast-holds : tie.Need-cast-holds
+cast-holds c = search needs
+
+holds-requires : tie.Need-holds-requires
+holds-requires c κs = receiver-new-row (c .before .before .before .pre .0 .known .sending .pair)
+
+returns : tie.Need-returns
+returns c =
+    let pre = c .before .before .before .before .before .pre in
+    let holds = c .before .holds in
+    goes-held _ _ _ _ _ _ _ (pre .0) _ (pre .1) (sym (holds .ensures) ∙ c .if1 .taken)
+
+returns-2 : tie.Need-returns-2
+returns-2 c =
+    let pre = c .before .before .before .before .before .before .pre in
+    let holds = c .before .before .holds in
+    let if1 = c .before .if1 in
+    goes-own _ _ _ _ _ _ _ (pre .0) _ (pre .1) (sym (holds .ensures) ∙ if1 .left) (c .if2 .taken)
+
+record-at-requires : tie.Need-record-at-requires
+record-at-requires c κs = search needs
+
+shape-of-requires : tie.Need-shape-of-requires
+shape-of-requires c κs =
+    let pre = c .before .before .before .before .before .before .before .pre in
+    omega (arith, c .record-at .ensures, place-fits _ _ _ _ _ _ (pre .0 .known) _ (pre .0 .within))
+
+face-count-requires : tie.Need-face-count-requires
+face-count-requires c κs = search needs
+
+beside-before-requires : tie.Need-beside-before-requires
+beside-before-requires c κs =
+    let pre = c .before .before .before .before .before .before .before .before .before .pre in
+    let record-at = c .before .before .record-at in
+    let shape-of = c .before .shape-of in
+    (pre .0, faces-read _ _ _ _ _ _ _ (pre .0) _ _ _ (record-at .ensures) (shape-of .ensures) (c .face-count .ensures .0))
+
+returns-3 : tie.Need-returns-3
+returns-3 c =
+    let pre = c .before .before .before .before .before .before .before .before .before .before .pre in
+    let holds = c .before .before .before .before .before .before .holds in
+    let if1 = c .before .before .before .before .before .if1 in
+    let if2 = c .before .before .before .before .if2 in
+    let record-at = c .before .before .before .record-at in
+    let shape-of = c .before .before .shape-of in
+    let face-count = c .before .face-count in
+    goes-read _ _ _ _ _ _ _ (pre .0) _ (pre .1) (sym (holds .ensures) ∙ if1 .left) (if2 .left) _ (faces-read _ _ _ _ _ _ _ (pre .0) _ _ _ (record-at .ensures) (shape-of .ensures) (face-count .ensures .0)) _ (c .beside-before .ensures)
+
+pub goes-spec : {M : Type 1} → statement M
+goes-spec =
+    tie.close
+    (tie.spec
+    cast-holds
+    holds-requires
+    returns
+    returns-2
+    record-at-requires
+    shape-of-requires
+    face-count-requires
+    beside-before-requires
+    returns-3)

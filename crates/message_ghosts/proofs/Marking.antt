@@ -96,19 +96,19 @@ module _ (part old new : List ℕ) (p q count i : ℕ) (a : AtTree part old new 
         pub number-fits : n < 64 * markWords
         number-fits = rw (← number) at (held-below part old new p q count (a .known) (numberAt part count j) (number-held part old new p q count (a .known) j (across-record .within)) .1)
 
-        module _ (b : Bool) (test : b ≡ goes part old new p q n) where
+        module _ (low : ℕ) (b : Bool) (test : b ≡ goes part old new p q low n) where
           -- it is marked where it goes
-          pub face-marked : (ws after : List ℕ) → length ws ≡ markWords → b ≡ true → after ≡ withMember ws n → Added ws after (goesAcross part old new p q (partFirst part + i) f)
+          pub face-marked : (ws after : List ℕ) → length ws ≡ markWords → b ≡ true → after ≡ withMember ws n → Added ws after (goesAcross part old new p q low (partFirst part + i) f)
           unfolding goesAcross
           face-marked ws after l e w =
-              added-one ws after n (λ k. eqb k (neighbourOf (partCore part t) f) && goes part old new p q k) (omega (arith, number-fits)) w
+              added-one ws after n (λ k. eqb k (neighbourOf (partCore part t) f) && goes part old new p q low k) (omega (arith, number-fits)) w
               (λ k. rw (← number-is) (either (eqb k n) (λ d. rw (d, eqb-true k n d) (sym test ∙ e)) (λ d. rw d)))
 
           -- and left out where it doesn't
-          pub face-left : (ws : List ℕ) → b ≡ false → Added ws ws (goesAcross part old new p q (partFirst part + i) f)
+          pub face-left : (ws : List ℕ) → b ≡ false → Added ws ws (goesAcross part old new p q low (partFirst part + i) f)
           unfolding goesAcross
           face-left ws e =
-              added-none ws (λ k. eqb k (neighbourOf (partCore part t) f) && goes part old new p q k)
+              added-none ws (λ k. eqb k (neighbourOf (partCore part t) f) && goes part old new p q low k)
               (λ k. rw (← number-is) (either (eqb k n) (λ d. rw (d, eqb-true k n d) (sym test ∙ e)) (λ d. rw d)))
 
 -- ---- the faces of a tree
@@ -116,20 +116,20 @@ module _ (part old new : List ℕ) (p q count i : ℕ) (a : AtTree part old new 
 pub face-under : (f faces n : ℕ) → faces ≡ n → f < faces → f < n
 face-under f faces n e l = rw e at l
 
-module _ (part old new : List ℕ) (p q t : ℕ) where
-  pub faces-start : (ws : List ℕ) → Added ws ws (goesBeside part old new p q t 0)
+module _ (part old new : List ℕ) (p q low t : ℕ) where
+  pub faces-start : (ws : List ℕ) → Added ws ws (goesBeside part old new p q low t 0)
   unfolding goesBeside anyBelow
   faces-start ws = added-none ws (λ k. false) (λ k. refl)
 
-  face-more : (f k : ℕ) → goesBeside part old new p q t (f + 1) k ≡ (goesBeside part old new p q t f k || goesAcross part old new p q t f k)
+  face-more : (f k : ℕ) → goesBeside part old new p q low t (f + 1) k ≡ (goesBeside part old new p q low t f k || goesAcross part old new p q low t f k)
   unfolding goesBeside anyBelow
   face-more f k = rw (add-one f)
 
-  pub faces-next : (ws mid after : List ℕ) (f : ℕ) → Added ws mid (goesBeside part old new p q t f) → Added mid after (goesAcross part old new p q t f) → Added ws after (goesBeside part old new p q t (f + 1))
+  pub faces-next : (ws mid after : List ℕ) (f : ℕ) → Added ws mid (goesBeside part old new p q low t f) → Added mid after (goesAcross part old new p q low t f) → Added ws after (goesBeside part old new p q low t (f + 1))
   faces-next ws mid after f x y =
-      added-both ws mid after (goesBeside part old new p q t f) (goesAcross part old new p q t f) (goesBeside part old new p q t (f + 1)) x y (face-more f)
+      added-both ws mid after (goesBeside part old new p q low t f) (goesAcross part old new p q low t f) (goesBeside part old new p q low t (f + 1)) x y (face-more f)
 
-  pub faces-end : (ws after : List ℕ) (f faces n : ℕ) → f ≤ faces → faces ≤ f → faces ≡ n → Added ws after (goesBeside part old new p q t f) → Added ws after (goesBeside part old new p q t n)
+  pub faces-end : (ws after : List ℕ) (f faces n : ℕ) → f ≤ faces → faces ≤ f → faces ≡ n → Added ws after (goesBeside part old new p q low t f) → Added ws after (goesBeside part old new p q low t n)
   faces-end ws after f faces n h l e x = let d : n ≡ f = omega arith in rw d x
 
 -- ---- the trees sent
@@ -142,32 +142,32 @@ module _ (part old new : List ℕ) (p q : ℕ) (s : Sending part old new p q) wh
   pub header-fits : partHeader ≤ length part
   header-fits = omega (arith, part-length part old p (s .sound))
 
-  pub trees-start : (ws : List ℕ) (first : ℕ) → Added ws ws (goesFrom part old new p q first 0)
+  pub trees-start : (ws : List ℕ) (low : ℕ) → Added ws ws (goesFrom part old new p q low 0)
   unfolding goesFrom anyBelow
-  trees-start ws first = added-none ws (λ k. false) (λ k. refl)
+  trees-start ws low = added-none ws (λ k. false) (λ k. refl)
 
-  tree-more : (first i k : ℕ) → goesFrom part old new p q first (i + 1) k
-      ≡ (goesFrom part old new p q first i k || goesBeside part old new p q (first + i) (faceCount (shapeOf (partCore part (first + i)))) k)
+  tree-more : (low i k : ℕ) → goesFrom part old new p q low (i + 1) k
+      ≡ (goesFrom part old new p q low i k || goesBeside part old new p q low (low + i) (faceCount (shapeOf (partCore part (low + i)))) k)
   unfolding goesFrom anyBelow
-  tree-more first i k = rw (add-one i)
+  tree-more low i k = rw (add-one i)
 
-  module _ (own count first n : ℕ) (starts : own ≡ partFirst part) (counted : count ≡ partCount part) (low : first ≡ sentFirst old new p q) (many : n ≡ sentCount old new p q) where
+  module _ (own count low n : ℕ) (starts : own ≡ partFirst part) (counted : count ≡ partCount part) (begins : low ≡ sentFirst old new p q) (many : n ≡ sentCount old new p q) where
     -- a tree sent is one of the part's
-    sent-range : (i : ℕ) → i < n → (partFirst part ≤ first + i) × (first + i < partFirst part + partCount part)
+    sent-range : (i : ℕ) → i < n → (partFirst part ≤ low + i) × (low + i < partFirst part + partCount part)
     sent-range i h =
         let e = part-header part old p (s .sound) in
         let f : partFirst part ≡ firstTree old p = e .first-tree in
         let m : partCount part ≡ treeCount old p = e .tree-count in
-        let r = holds-true old p (first + i) (sent-held part old new p q s (first + i) (sent-in old new T p q (s .pair .senderBelow) (s .pair .receiverBelow) (first + i) (omega arith) (omega arith))) in
+        let r = holds-true old p (low + i) (sent-held part old new p q s (low + i) (sent-in old new T p q (s .pair .senderBelow) (s .pair .receiverBelow) (low + i) (omega arith) (omega arith))) in
         (omega (arith, r .0), omega (arith, r .1, count-add old (T .oldBytes) (T .oldRanks) (T .oldValid) p (s .pair .senderBelow)))
 
-    pub sent-small : (i : ℕ) → i < n → first + i < 1048576
+    pub sent-small : (i : ℕ) → i < n → low + i < 1048576
     sent-small i h = omega (arith, sent-below old new T p q (s .pair .senderBelow) (s .pair .receiverBelow), trees-high old (T .oldBytes) (T .oldRanks) (T .oldValid))
 
-    pub sent-from : (i : ℕ) → i < n → own ≤ first + i
+    pub sent-from : (i : ℕ) → i < n → own ≤ low + i
     sent-from i h = omega (arith, sent-range i h .0)
 
-    module _ (i : ℕ) (h : i < n) (t : ℕ) (local : t + own ≡ first + i) where
+    module _ (i : ℕ) (h : i < n) (t : ℕ) (local : t + own ≡ low + i) where
       pub sent-tree : Bytes part → AtTree part old new p q count t
       sent-tree b =
           record {
@@ -175,17 +175,17 @@ module _ (part old new : List ℕ) (p q : ℕ) (s : Sending part old new p q) wh
             within = omega (arith, sent-range i h .0, sent-range i h .1);
           }
 
-      pub trees-next : (ws mid after : List ℕ) → Added ws mid (goesFrom part old new p q first i)
-          → Added mid after (goesBeside part old new p q (partFirst part + t) (faceCount (shapeOf (partCore part (partFirst part + t))))) → Added ws after (goesFrom part old new p q first (i + 1))
+      pub trees-next : (ws mid after : List ℕ) → Added ws mid (goesFrom part old new p q low i)
+          → Added mid after (goesBeside part old new p q low (partFirst part + t) (faceCount (shapeOf (partCore part (partFirst part + t))))) → Added ws after (goesFrom part old new p q low (i + 1))
       trees-next ws mid after x y =
-          let e : partFirst part + t ≡ first + i = omega arith in
-          added-both ws mid after (goesFrom part old new p q first i) (goesBeside part old new p q (first + i) (faceCount (shapeOf (partCore part (first + i))))) (goesFrom part old new p q first (i + 1)) x (rw e at y) (tree-more first i)
+          let e : partFirst part + t ≡ low + i = omega arith in
+          added-both ws mid after (goesFrom part old new p q low i) (goesBeside part old new p q low (low + i) (faceCount (shapeOf (partCore part (low + i))))) (goesFrom part old new p q low (i + 1)) x (rw e at y) (tree-more low i)
 
     -- all ghosts that go are marked, and no others
-    pub trees-end : (ws after : List ℕ) (i : ℕ) → Blank ws → i ≤ n → n ≤ i → Added ws after (goesFrom part old new p q first i) → Marks part old new p q after
+    pub trees-end : (ws after : List ℕ) (i : ℕ) → Blank ws → i ≤ n → n ≤ i → Added ws after (goesFrom part old new p q low i) → Marks part old new p q after
     trees-end ws after i z h l x =
         let e : i ≡ sentCount old new p q = omega arith in
         record {
           long = x .same-length ∙ z .long;
-          member = λ k. x .member k ∙ rw (z .none k, low, e) (goes-with part old new p q s k);
+          member = λ k. x .member k ∙ rw (z .none k, begins, e) (goes-with part old new p q s k);
         }

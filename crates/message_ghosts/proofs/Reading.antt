@@ -1,21 +1,20 @@
 -- What the code reads is what the definitions say.
 use Prim.Native.Nat.{ℕ, _+_, _-_, _≤_, _<_}
 use mathlib.Core.Path.{_≡_, sym, ap, _∙_}
-use mathlib.Core.Bool.{Bool, true, false, not, _||_}
+use mathlib.Core.Bool.{Bool, true, false, not, _&&_, _||_}
 use mathlib.Core.List.{List}
-use lib.Dec.{ltb, eqb}
+use lib.Dec.{ltb}
 use lib.ListN.{length}
 use borrow.Author.Tests.{lt-ltb, le-ltb, eq-eqb, ne-eqb}
 use Rattle.encoding.specs.Pieces.{piece}
-use Rattle.offsets.specs.Table.{ranks, holds}
-use Rattle.pattern.specs.Sender.{sender}
-use Rattle.pattern.specs.Mirror.{PairOf, TreeOf}
-use Rattle.pattern.proofs.Sets.{new-below}
+use Rattle.offsets.specs.Table.{tableLength, holds}
+use Rattle.pattern.specs.Mirror.{RankOf}
+use Rattle.pattern.proofs.Laws.{row-fits, receiver-in-new}
 use Rattle.records.specs.Shape.{faceCount}
 use Rattle.records.specs.Record.{coreSize, numberOf, shapeOf, neighbourOf}
 use Rattle.part.specs.Layout.{treePlace, ghostPlace}
 use Rattle.part.specs.Part.{partCore}
-use Rattle.message_ghosts.specs.Means.{numberAt, AtRecord, AtFace, recordPlace, recordAt, acrossAt, sentBefore, besideBefore, goes}
+use Rattle.message_ghosts.specs.Means.{numberAt, AtRecord, AtFace, Beside, recordPlace, recordAt, acrossAt, sentBefore, besideBefore, goes}
 use Rattle.message_ghosts.proofs.Records.{shape-is, across-is, at-face}
 
 -- ---- records by their local index
@@ -49,34 +48,35 @@ module _ (part : List ℕ) (n j at : ℕ) (place : at ≡ recordPlace n j) where
     unfolding acrossAt
     across-ghost h = rw (le-ltb j n h) next-is
 
--- ---- a tree that q gets
+-- ---- a tree that q gets before the trees of p
 
-module _ (old new : List ℕ) (p q : ℕ) (t : PairOf old new p q) (h : ℕ) where
-  pub before-none : holds new q h ≡ false → false ≡ sentBefore old new p q h
-  unfolding sentBefore
-  before-none e = rw e
+module _ {old new : List ℕ} {q : ℕ} (r : RankOf old new q) where
+  pub rank-row : tableLength (q + 1) ≤ length old
+  rank-row = row-fits old q (r .tables .oldRanks) (r .rankBelow)
 
-  pub tree-of : holds new q h ≡ true → TreeOf old h × (q < ranks old)
-  tree-of e =
-      let T = t .tables in
-      (record { ranksFit = T .oldRanks; isValid = T .oldValid; treeBelow = new-below old new T q h (t .receiverBelow) e }, t .receiverBelow)
+  pub rank-new-row : tableLength (q + 1) ≤ length new
+  rank-new-row = receiver-in-new old new (r .tables) q (r .rankBelow)
 
-  pub before-read : holds new q h ≡ true → (s : ℕ) → s ≡ sender old h q → (eqb s q || ltb s p) ≡ sentBefore old new p q h
-  unfolding sentBefore
-  before-read e s d = rw (e, d)
+pub before-read : (old new : List ℕ) (q low h : ℕ) {a b : Bool} → a ≡ holds new q h → b ≡ holds old q h → (a && (b || ltb h low)) ≡ sentBefore old new q low h
+unfolding sentBefore
+before-read old new q low h e d = rw (e, d)
+
+-- a neighbour as it is read
+pub neighbour-before : (part old new : List ℕ) (q low count j faces f : ℕ) → Beside part old new q count j faces → f < faces → {h : ℕ} {b : Bool}
+    → h ≡ acrossAt part count j f → b ≡ sentBefore old new q low h → sentBefore old new q low (neighbourOf (partCore part (numberAt part count j)) f) ≡ b
+neighbour-before part old new q low count j faces f k l d c = sym (c ∙ ap (sentBefore old new q low) (d ∙ k .across f l))
 
 -- ---- a record that may go
 
 module _ (part old new : List ℕ) (p q count j : ℕ) (a : AtRecord part old new p q count j) where
-  -- a neighbour as it is read
-  pub neighbour-before : (face faces h : ℕ) (b : Bool) → faces ≡ faceCount (shapeOf (partCore part (numberAt part count j))) → face < faces
-      → h ≡ acrossAt part count j face → b ≡ sentBefore old new p q h → sentBefore old new p q (neighbourOf (partCore part (numberAt part count j)) face) ≡ b
-  neighbour-before face faces h b e l d c =
-      let f : face < faceCount (shapeOf (partCore part (numberAt part count j))) = rw e at l in
-      sym (c ∙ ap (sentBefore old new p q) (d ∙ across-is part old new p q count (a .known) j face (a .within) f))
-
-  pub face-here : (face faces : ℕ) → faces ≡ faceCount (shapeOf (partCore part (numberAt part count j))) → face < faces → AtFace part count j face
-  face-here face faces e l = at-face part old new p q count (a .known) j face (a .within) (rw e at l)
+  -- its faces can be read, and lead to its neighbours
+  pub beside-known : (faces : ℕ) → faces ≡ faceCount (shapeOf (partCore part (numberAt part count j))) → Beside part old new q count j faces
+  beside-known faces e =
+      record {
+        receiver = record { tables = a .known .sending .pair .tables; rankBelow = a .known .sending .pair .receiverBelow };
+        there = λ f l. at-face part old new p q count (a .known) j f (a .within) (rw e at l);
+        across = λ f l. across-is part old new p q count (a .known) j f (a .within) (rw e at l);
+      }
 
   -- its faces as they are read
   pub faces-read : (at shape faces : ℕ) → at ≡ recordPlace count j → shape ≡ shapeOf (piece part at coreSize) → faces ≡ faceCount shape
@@ -84,16 +84,16 @@ module _ (part old new : List ℕ) (p q count j : ℕ) (a : AtRecord part old ne
   unfolding recordAt
   faces-read at shape faces e d c = c ∙ ap faceCount (d ∙ rw e (shape-is part old new p q count (a .known) j (a .within)))
 
-  module _ (number : ℕ) (e : number ≡ numberAt part count j) where
-    pub goes-held : holds new q number ≡ true → false ≡ goes part old new p q number
+  module _ (low number : ℕ) (e : number ≡ numberAt part count j) where
+    pub goes-held : holds new q number ≡ true → false ≡ goes part old new p q low number
     unfolding goes
     goes-held h = rw h
 
-    pub goes-own : holds new q number ≡ false → p ≡ q → true ≡ goes part old new p q number
+    pub goes-own : holds new q number ≡ false → p ≡ q → true ≡ goes part old new p q low number
     unfolding goes
     goes-own h d = rw (h, eq-eqb p q d)
 
     pub goes-read : holds new q number ≡ false → (p ≡ q → ⊥) → (faces : ℕ) → faces ≡ faceCount (shapeOf (partCore part (numberAt part count j)))
-        → (b : Bool) → b ≡ besideBefore part old new p q (numberAt part count j) faces → not b ≡ goes part old new p q number
+        → (b : Bool) → b ≡ besideBefore part old new q low (numberAt part count j) faces → not b ≡ goes part old new p q low number
     unfolding goes
     goes-read h n faces c b d = rw (h, ne-eqb p q n, d, c, e)

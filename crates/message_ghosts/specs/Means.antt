@@ -9,8 +9,7 @@ use Rattle.encoding.specs.Below.{anyBelow}
 use Rattle.encoding.specs.Pieces.{piece, Bytes}
 use Rattle.bits.specs.Bits.{inSet}
 use Rattle.offsets.specs.Table.{holds}
-use Rattle.pattern.specs.Sender.{sender}
-use Rattle.pattern.specs.Mirror.{PairOf}
+use Rattle.pattern.specs.Mirror.{RankOf, PairOf}
 use Rattle.records.specs.Shape.{faceCount}
 use Rattle.records.specs.Record.{coreSize, numberOf, shapeOf, neighbourOf}
 use Rattle.part.specs.Layout.{treePlace, ghostPlace}
@@ -87,20 +86,26 @@ pub record AtFace (part : List ℕ) (n j f : ℕ) : Type 0 where
   pub here : recordPlace n j + coreSize ≤ length part
   pub there : j < n → recordPlace n (neighbourOf (recordAt part n j) f) + coreSize ≤ length part
 
+-- a receiver, and a record whose first faces can be read and lead to the neighbours of the core with its number
+pub record Beside (part old new : List ℕ) (q count j faces : ℕ) : Type 0 where
+  pub receiver : RankOf old new q
+  pub there : (f : ℕ) → f < faces → AtFace part count j f
+  pub across : (f : ℕ) → f < faces → acrossAt part count j f ≡ neighbourOf (partCore part (numberAt part count j)) f
+
 -- ---- what goes
 
--- q gets tree h from itself or from a rank below p
+-- tree h is in f'(q), and in f(q) or below low: where low is the first tree from p to q, q gets h from itself or from a rank below p
 unfoldable pub sentBefore : List ℕ → List ℕ → ℕ → ℕ → ℕ → Bool
-sentBefore old new p q h = holds new q h && (eqb (sender old h q) q || ltb (sender old h q) p)
+sentBefore old new q low h = holds new q h && (holds old q h || ltb h low)
 
-module _ (part old new : List ℕ) (p q : ℕ) where
-  -- one of the first n face neighbours of g is such a tree
-  unfoldable pub besideBefore : ℕ → ℕ → Bool
-  besideBefore g n = anyBelow n (λ f. sentBefore old new p q (neighbourOf (partCore part g) f))
+-- one of the first n face neighbours of g is such a tree
+unfoldable pub besideBefore : List ℕ → List ℕ → List ℕ → ℕ → ℕ → ℕ → ℕ → Bool
+besideBefore part old new q low g n = anyBelow n (λ f. sentBefore old new q low (neighbourOf (partCore part g) f))
 
+module _ (part old new : List ℕ) (p q low : ℕ) where
   -- g, beside a tree that p sends q, goes with the message
   unfoldable pub goes : ℕ → Bool
-  goes g = not (holds new q g) && (eqb p q || not (besideBefore g (faceCount (shapeOf (partCore part g)))))
+  goes g = not (holds new q g) && (eqb p q || not (besideBefore part old new q low g (faceCount (shapeOf (partCore part g)))))
 
   -- k is across face f of tree t and goes
   unfoldable pub goesAcross : ℕ → ℕ → ℕ → Bool
@@ -110,6 +115,6 @@ module _ (part old new : List ℕ) (p q : ℕ) where
   unfoldable pub goesBeside : ℕ → ℕ → ℕ → Bool
   goesBeside t n k = anyBelow n (λ f. goesAcross t f k)
 
-  -- the same for all faces of one of the n trees from first on
-  unfoldable pub goesFrom : ℕ → ℕ → ℕ → Bool
-  goesFrom first n k = anyBelow n (λ i. goesBeside (first + i) (faceCount (shapeOf (partCore part (first + i)))) k)
+  -- the same for all faces of one of the n trees from low on
+  unfoldable pub goesFrom : ℕ → ℕ → Bool
+  goesFrom n k = anyBelow n (λ i. goesBeside (low + i) (faceCount (shapeOf (partCore part (low + i)))) k)

@@ -20,17 +20,18 @@ fn mark_face(
     p: usize,
     q: usize,
     count: u32,
+    low: u32,
     tree: LocalIndex,
     face: u32,
     marks: &mut [u64],
 )
     requires { ⌜ AtTree (now part) (now old) (now new) p q count (tree .0) × (face < faceCount (shapeOf (partCore (now part) (partFirst (now part) + tree .0)))) × (length (now marks) ≡ markWords) ⌝ }
-    ensures { λ u. ⌜ Added (now (marks .entry)) (now (marks .exit)) (goesAcross (now (part .entry)) (now (old .entry)) (now (new .entry)) p q (partFirst (now (part .entry)) + tree .0) face) ⌝ }
+    ensures { λ u. ⌜ Added (now (marks .entry)) (now (marks .exit)) (goesAcross (now (part .entry)) (now (old .entry)) (now (new .entry)) p q low (partFirst (now (part .entry)) + tree .0) face) ⌝ }
 {
     let j = records::read::neighbour_of(part, part::sound::tree_at(tree), face);
     let number = number_at(part, count, LocalIndex(j));
     let k = number.0;
-    if goes(part, old, new, p, q, count, LocalIndex(j), GlobalIndex(k)) {
+    if goes(part, old, new, p, q, count, low, LocalIndex(j), GlobalIndex(k)) {
         bits::set::add_member(&mut *marks, k);
     }
 }
@@ -43,11 +44,12 @@ fn mark_tree(
     p: usize,
     q: usize,
     count: u32,
+    low: u32,
     tree: LocalIndex,
     marks: &mut [u64],
 )
     requires { ⌜ AtTree (now part) (now old) (now new) p q count (tree .0) × (length (now marks) ≡ markWords) ⌝ }
-    ensures { λ u. ⌜ Added (now (marks .entry)) (now (marks .exit)) (goesBeside (now (part .entry)) (now (old .entry)) (now (new .entry)) p q (partFirst (now (part .entry)) + tree .0) (faceCount (shapeOf (partCore (now (part .entry)) (partFirst (now (part .entry)) + tree .0))))) ⌝ }
+    ensures { λ u. ⌜ Added (now (marks .entry)) (now (marks .exit)) (goesBeside (now (part .entry)) (now (old .entry)) (now (new .entry)) p q low (partFirst (now (part .entry)) + tree .0) (faceCount (shapeOf (partCore (now (part .entry)) (partFirst (now (part .entry)) + tree .0))))) ⌝ }
 {
     let i = tree.0;
     let faces = records::shape::face_count(records::read::shape_of(
@@ -63,6 +65,7 @@ fn mark_tree(
             p,
             q,
             count,
+            low,
             LocalIndex(i),
             face,
             &mut *marks,
@@ -81,12 +84,12 @@ pub fn mark_ghosts(part: &[u8], old: &[u8], new: &[u8], p: u32, q: u32, marks: &
     let own = part::sound::first_tree(part);
     let count = part::sound::tree_count(part);
     let sent = pattern::inner::sent(old, new, from, to);
-    let first = sent.first;
+    let low = sent.first;
     let n = sent.count;
     let mut i = 0;
     while i < n {
-        let tree = to_local(GlobalIndex(first + i), own);
-        mark_tree(part, old, new, from, to, count, tree, &mut *marks);
+        let tree = to_local(GlobalIndex(low + i), own);
+        mark_tree(part, old, new, from, to, count, low, tree, &mut *marks);
         i += 1;
     }
 }

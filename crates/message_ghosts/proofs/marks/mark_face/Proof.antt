@@ -45,7 +45,7 @@ returns c =
     let goes = c .before .before .before .before .before .goes in
     let if1 = c .before .before .before .before .if1 in
     let add-member = c .before .before .add-member in
-    face-marked _ _ _ _ _ _ _ (pre .0) _ (pre .1) _ _ (tree-at .ensures) (neighbour-of .ensures) _ (number-at .ensures) _ (goes .ensures) _ _ (pre .2) (if1 .taken) (add-member .ensures)
+    face-marked _ _ _ _ _ _ _ (pre .0) _ (pre .1) _ _ (tree-at .ensures) (neighbour-of .ensures) _ (number-at .ensures) _ _ (goes .ensures) _ _ (pre .2) (if1 .taken) (add-member .ensures)
 
 returns-2 : tie.Need-returns-2
 returns-2 c =
@@ -54,7 +54,7 @@ returns-2 c =
     let neighbour-of = c .before .before .before .neighbour-of in
     let number-at = c .before .before .number-at in
     let goes = c .before .goes in
-    face-left _ _ _ _ _ _ _ (pre .0) _ (pre .1) _ _ (tree-at .ensures) (neighbour-of .ensures) _ (number-at .ensures) _ (goes .ensures) _ (c .if1 .left)
+    face-left _ _ _ _ _ _ _ (pre .0) _ (pre .1) _ _ (tree-at .ensures) (neighbour-of .ensures) _ (number-at .ensures) _ _ (goes .ensures) _ (c .if1 .left)
 
 pub mark-face-spec : {M : Type 1} → statement M
 mark-face-spec =

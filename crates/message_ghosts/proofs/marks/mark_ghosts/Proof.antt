@@ -8,10 +8,10 @@ use Rattle.message_ghosts.proofs.marks.mark_ghosts.Statement.{statement
 use Rattle.message_ghosts.proofs.marks.mark_ghosts.Tie as tie
 
 abbrev Inv-loop : tie.InvT-loop
-Inv-loop part old new p q marks₀ from to own count first n i₀ marks i = (i ≤ n) × Added marks₀ marks (goesFrom part old new p q first i)
+Inv-loop part old new p q marks₀ from to own count low n i₀ marks i = (i ≤ n) × Added marks₀ marks (goesFrom part old new p q low i)
 
 abbrev μ-loop : tie.MeasureT-loop
-μ-loop part old new p q marks₀ from to own count first n i₀ marks i = n - i
+μ-loop part old new p q marks₀ from to own count low n i₀ marks i = n - i
 
 first-tree-requires : tie.Need-first-tree-requires Inv-loop μ-loop
 first-tree-requires c κs = header-fits _ _ _ _ _ (c .before .before .before .before .pre .0)

@@ -9,10 +9,10 @@ use Rattle.message_ghosts.proofs.marks.mark_tree.Statement.{statement}
 use Rattle.message_ghosts.proofs.marks.mark_tree.Tie as tie
 
 abbrev Inv-loop : tie.InvT-loop
-Inv-loop part old new p q count marks₀ i faces face₀ marks face = (face ≤ faces) × Added marks₀ marks (goesBeside part old new p q (partFirst part + i) face)
+Inv-loop part old new p q count low marks₀ i faces face₀ marks face = (face ≤ faces) × Added marks₀ marks (goesBeside part old new p q low (partFirst part + i) face)
 
 abbrev μ-loop : tie.MeasureT-loop
-μ-loop part old new p q count marks₀ i faces face₀ marks face = faces - face
+μ-loop part old new p q count low marks₀ i faces face₀ marks face = faces - face
 
 tree-at-requires : tie.Need-tree-at-requires Inv-loop μ-loop
 tree-at-requires c κs = search needs
@@ -24,7 +24,7 @@ face-count-requires : tie.Need-face-count-requires Inv-loop μ-loop
 face-count-requires c κs = search needs
 
 loop-holds : tie.Need-loop-holds Inv-loop μ-loop
-loop-holds c = (omega arith, faces-start _ _ _ _ _ _ _)
+loop-holds c = (omega arith, faces-start _ _ _ _ _ _ _ _)
 
 mark-face-requires : tie.Need-mark-face-requires Inv-loop μ-loop
 mark-face-requires c κs =
@@ -43,7 +43,7 @@ loop-less : tie.Need-loop-less Inv-loop μ-loop
 loop-less c = search needs
 
 loop-again : tie.Need-loop-again Inv-loop μ-loop
-loop-again c = (omega arith, faces-next _ _ _ _ _ _ _ _ _ _ (c .before .before .before .before .before .loop .inv .1) (c .before .before .mark-face .ensures))
+loop-again c = (omega arith, faces-next _ _ _ _ _ _ _ _ _ _ _ (c .before .before .before .before .before .loop .inv .1) (c .before .before .mark-face .ensures))
 
 same-length : tie.Need-same-length Inv-loop μ-loop
 same-length c = c .before .loop .inv .1 .same-length
@@ -55,7 +55,7 @@ returns c =
     let tree-at = c .before .before .before .before .tree-at in
     let shape-of = c .before .before .before .shape-of in
     let face-count = c .before .before .face-count in
-    faces-end _ _ _ _ _ _ _ _ _ _ _ (loop .inv .0) (omega arith) (faces-tree _ _ _ _ _ _ _ (pre .0) _ _ _ (tree-at .ensures) (shape-of .ensures) (face-count .ensures .0)) (loop .inv .1)
+    faces-end _ _ _ _ _ _ _ _ _ _ _ _ (loop .inv .0) (omega arith) (faces-tree _ _ _ _ _ _ _ (pre .0) _ _ _ (tree-at .ensures) (shape-of .ensures) (face-count .ensures .0)) (loop .inv .1)
 
 pub mark-tree-spec : {M : Type 1} → statement M
 mark-tree-spec =

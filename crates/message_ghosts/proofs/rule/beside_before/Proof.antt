@@ -1,4 +1,4 @@
-use Rattle.message_ghosts.proofs.Reading.{neighbour-before, face-here}
+use Rattle.message_ghosts.proofs.Reading.{neighbour-before}
 use Rattle.message_ghosts.specs.Means.{numberAt, besideBefore}
 use Rattle.part.proofs.Finding.{none-next, none-to}
 use Rattle.encoding.proofs.Below.{any-intro}
@@ -12,22 +12,20 @@ use Rattle.message_ghosts.proofs.rule.beside_before.Statement.{statemen
 use Rattle.message_ghosts.proofs.rule.beside_before.Tie as tie
 
 abbrev Inv-loop : tie.InvT-loop
-Inv-loop part old new p q count faces j face₀ face = (face ≤ faces) × (besideBefore part old new p q (numberAt part count j) face ≡ false)
+Inv-loop part old new q count low faces j face₀ face = (face ≤ faces) × (besideBefore part old new q low (numberAt part count j) face ≡ false)
 
 abbrev μ-loop : tie.MeasureT-loop
-μ-loop part old new p q count faces j face₀ face = faces - face
+μ-loop part old new q count low faces j face₀ face = faces - face
 
 loop-holds : tie.Need-loop-holds Inv-loop μ-loop
 unfolding besideBefore anyBelow
 loop-holds c = (omega arith, refl)
 
 across-requires : tie.Need-across-requires Inv-loop μ-loop
-across-requires c κs =
-    let pre = c .before .before .before .before .before .pre in
-    face-here _ _ _ _ _ _ _ (pre .0) _ _ (pre .1) (c .loop-test .taken)
+across-requires c κs = c .before .before .before .before .before .pre .there _ (c .loop-test .taken)
 
 sent-before-requires : tie.Need-sent-before-requires Inv-loop μ-loop
-sent-before-requires c κs = c .before .before .before .before .before .before .pre .0 .known .sending .pair
+sent-before-requires c κs = c .before .before .before .before .before .before .pre .receiver
 
 returns : tie.Need-returns Inv-loop μ-loop
 unfolding besideBefore
@@ -36,7 +34,7 @@ returns c =
     let pre = c .before .before .before .before .before .before .before .before .pre in
     let across = c .before .before .across in
     let sent-before = c .before .sent-before in
-    sym (any-intro _ _ _ (loop-test .taken) (neighbour-before _ _ _ _ _ _ _ (pre .0) _ _ _ _ (pre .1) (loop-test .taken) (across .ensures) (sent-before .ensures) ∙ c .if1 .taken))
+    sym (any-intro _ _ _ (loop-test .taken) (neighbour-before _ _ _ _ _ _ _ _ _ pre (loop-test .taken) (across .ensures) (sent-before .ensures) ∙ c .if1 .taken))
 
 add-face : tie.Need-add-face Inv-loop μ-loop
 add-face c = search needs
@@ -52,7 +50,7 @@ loop-again c =
     let loop-test = c .before .before .before .loop-test in
     let across = c .before .before .across in
     let sent-before = c .before .sent-before in
-    (omega arith, none-next _ _ (loop .inv .1) (neighbour-before _ _ _ _ _ _ _ (pre .0) _ _ _ _ (pre .1) (loop-test .taken) (across .ensures) (sent-before .ensures) ∙ c .if1 .left))
+    (omega arith, none-next _ _ (loop .inv .1) (neighbour-before _ _ _ _ _ _ _ _ _ pre (loop-test .taken) (across .ensures) (sent-before .ensures) ∙ c .if1 .left))
 
 returns-2 : tie.Need-returns-2 Inv-loop μ-loop
 unfolding besideBefore

@@ -1,6 +1,6 @@
 use native.Mathlib.Omega.{arith}
 use mathlib.Core.Path.{sym, _∙_}
-use Rattle.message_ghosts.proofs.Reading.{faces-read, goes-held, goes-own, goes-read}
+use Rattle.message_ghosts.proofs.Reading.{faces-read, beside-known, goes-held, goes-own, goes-read}
 use Rattle.message_ghosts.proofs.Records.{place-fits}
 use Rattle.pattern.proofs.Laws.{receiver-new-row}
 use borrow.Author.Needs.{needs}
@@ -17,14 +17,14 @@ returns : tie.Need-returns
 returns c =
     let pre = c .before .before .before .before .before .pre in
     let holds = c .before .holds in
-    goes-held _ _ _ _ _ _ _ (pre .0) _ (pre .1) (sym (holds .ensures) ∙ c .if1 .taken)
+    goes-held _ _ _ _ _ _ _ (pre .0) _ _ (pre .1) (sym (holds .ensures) ∙ c .if1 .taken)
 
 returns-2 : tie.Need-returns-2
 returns-2 c =
     let pre = c .before .before .before .before .before .before .pre in
     let holds = c .before .before .holds in
     let if1 = c .before .if1 in
-    goes-own _ _ _ _ _ _ _ (pre .0) _ (pre .1) (sym (holds .ensures) ∙ if1 .left) (c .if2 .taken)
+    goes-own _ _ _ _ _ _ _ (pre .0) _ _ (pre .1) (sym (holds .ensures) ∙ if1 .left) (c .if2 .taken)
 
 record-at-requires : tie.Need-record-at-requires
 record-at-requires c κs = search needs
@@ -42,7 +42,7 @@ beside-before-requires c κs =
     let pre = c .before .before .before .before .before .before .before .before .before .pre in
     let record-at = c .before .before .record-at in
     let shape-of = c .before .shape-of in
-    (pre .0, faces-read _ _ _ _ _ _ _ (pre .0) _ _ _ (record-at .ensures) (shape-of .ensures) (c .face-count .ensures .0))
+    beside-known _ _ _ _ _ _ _ (pre .0) _ (faces-read _ _ _ _ _ _ _ (pre .0) _ _ _ (record-at .ensures) (shape-of .ensures) (c .face-count .ensures .0))
 
 returns-3 : tie.Need-returns-3
 returns-3 c =
@@ -53,7 +53,7 @@ returns-3 c =
     let record-at = c .before .before .before .record-at in
     let shape-of = c .before .before .shape-of in
     let face-count = c .before .face-count in
-    goes-read _ _ _ _ _ _ _ (pre .0) _ (pre .1) (sym (holds .ensures) ∙ if1 .left) (if2 .left) _ (faces-read _ _ _ _ _ _ _ (pre .0) _ _ _ (record-at .ensures) (shape-of .ensures) (face-count .ensures .0)) _ (c .beside-before .ensures)
+    goes-read _ _ _ _ _ _ _ (pre .0) _ _ (pre .1) (sym (holds .ensures) ∙ if1 .left) (if2 .left) _ (faces-read _ _ _ _ _ _ _ (pre .0) _ _ _ (record-at .ensures) (shape-of .ensures) (face-count .ensures .0)) _ (c .beside-before .ensures)
 
 pub goes-spec : {M : Type 1} → statement M
 goes-spec =

@@ -53,7 +53,7 @@ module _ (m : List ℕ) where
     next-read l p q = rw (← l, p, q)
 
   -- the trees are one row
-  pub trees-row : (n : ℕ) → recordsLaid m n (coreAt m messageHeader treeSize) ≡ recordsLaid m n (messageTree m)
+  trees-row : (n : ℕ) → recordsLaid m n (coreAt m messageHeader treeSize) ≡ recordsLaid m n (messageTree m)
   unfolding coreAt messageTree
   trees-row n = refl
 
@@ -64,7 +64,7 @@ module _ (m : List ℕ) where
       rw e
 
   -- and so are the ghosts
-  pub ghosts-row : (g : ℕ) → recordsLaid m g (coreAt m (messageGhostPlace (messageTrees m) 0) coreSize) ≡ recordsLaid m g (messageGhost m)
+  ghosts-row : (g : ℕ) → recordsLaid m g (coreAt m (messageGhostPlace (messageTrees m) 0) coreSize) ≡ recordsLaid m g (messageGhost m)
   unfolding recordsLaid afterLast
   ghosts-row g = simp ghost-core
 

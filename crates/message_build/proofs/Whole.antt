@@ -87,7 +87,7 @@ module _ (part old new : List ℕ) (p q : ℕ) (from : Sending part old new p q)
       let e : ghostPlace (partCount part) 0 + coreSize * i ≡ ghostPlace (partCount part) i = omega arith in
       ap (u32At part) e ∙ sym (number-at part (ghostPlace (partCount part) i))
 
-  pub searchable : Searchable part (partCount part) (partGhostCount part) (facesIn (partDimension part)) (partFirst part)
+  searchable : Searchable part (partCount part) (partGhostCount part) (facesIn (partDimension part)) (partFirst part)
   searchable =
       record {
         opened = record { isCount = refl; isGhosts = refl; long = part-length part old p (from .sound) };
@@ -110,7 +110,7 @@ module _ (part old new : List ℕ) (p q : ℕ) (from : Sending part old new p q)
       let r = holds-true old p k h in
       (omega (arith, r .0, says .first-tree), omega (arith, r .1, range-end))
 
-  pub sent-inside : (k : ℕ) → sentFirst old new p q ≤ k → k < sentFirst old new p q + sentCount old new p q → (partFirst part ≤ k) × (k < partFirst part + partCount part)
+  sent-inside : (k : ℕ) → sentFirst old new p q ≤ k → k < sentFirst old new p q + sentCount old new p q → (partFirst part ≤ k) × (k < partFirst part + partCount part)
   sent-inside k h l = sent-here k (sent-in old new T p q (from .pair .senderBelow) (from .pair .receiverBelow) k h l)
 
   abbrev goes : ℕ → Bool

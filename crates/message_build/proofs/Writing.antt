@@ -60,7 +60,7 @@ module _ (part : List ℕ) (from F : ℕ) where
 
   module _ (size : ℕ) (wide : coreSize ≤ size) (same : rowsOf (piece part from size) F ≡ rowsOf (piece part from coreSize) F) (out : List ℕ) (to : ℕ) (source : from + size ≤ length part) (target : to + size ≤ length out) where
     -- copied, and its links put over
-    pub record-written : {mid last : List ℕ} → mid ≡ splice out to (piece part from size) → last ≡ splice mid to (globalLinks part F from (piece mid to coreSize))
+    record-written : {mid last : List ℕ} → mid ≡ splice out to (piece part from size) → last ≡ splice mid to (globalLinks part F from (piece mid to coreSize))
         → last ≡ splice out to (renamed (globalIndex part) F (piece part from size))
     unfolding globalLinks withRows renamed
     record-written {mid} {last} q w =

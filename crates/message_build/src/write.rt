@@ -1,7 +1,7 @@
 // Writing a message: the header, the trees, the ghosts.
 ghost use mathlib.Core.Path.{_≡_};
 ghost use mathlib.Core.List.{_++_};
-ghost use Prim.Native.Nat.{_*_, _≤_};
+ghost use Prim.Native.Nat.{_*_};
 ghost use lib.ListN.{length};
 ghost use Rattle.encoding.specs.Pieces.{piece, splice};
 ghost use Rattle.records.specs.Record.{coreSize, treeSize};

@@ -163,7 +163,7 @@ module _ (part old new : List ℕ) (p q : ℕ) (s : Sending part old new p q) wh
         rw (any-intro faces (λ f. holds new q (neighbourOf (core g) f)) (a .0) (a .1) h, and-true)
 
     -- p sends it where the test says so
-    pub goes-is : sendsGhost core old new p q g ≡ goes part old new p q low g
+    goes-is : sendsGhost core old new p q g ≡ goes part old new p q low g
     unfolding goes
     goes-is =
         either (holds new q g)

@@ -31,7 +31,7 @@ use Rattle.message_ghosts.proofs.Records.{held-below, place-fits, tree-
 -- ---- sets
 
 -- nothing is added
-pub added-none : (ws : List ℕ) (f : ℕ → Bool) → ((k : ℕ) → f k ≡ false) → Added ws ws f
+added-none : (ws : List ℕ) (f : ℕ → Bool) → ((k : ℕ) → f k ≡ false) → Added ws ws f
 added-none ws f h = record { same-length = refl; member = λ k. rw (h k, or-false) }
 
 -- one number is added

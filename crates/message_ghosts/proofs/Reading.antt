@@ -1,20 +1,19 @@
 -- What the code reads is what the definitions say.
 use Prim.Native.Nat.{ℕ, _+_, _-_, _≤_, _<_}
 use mathlib.Core.Path.{_≡_, sym, ap, _∙_}
-use mathlib.Core.Bool.{Bool, true, false, not, _&&_, _||_}
+use mathlib.Core.Bool.{Bool}
 use mathlib.Core.List.{List}
-use lib.Dec.{ltb}
 use lib.ListN.{length}
-use borrow.Author.Tests.{lt-ltb, le-ltb, eq-eqb, ne-eqb}
+use borrow.Author.Tests.{lt-ltb, le-ltb}
 use Rattle.encoding.specs.Pieces.{piece}
-use Rattle.offsets.specs.Table.{tableLength, holds}
+use Rattle.offsets.specs.Table.{tableLength}
 use Rattle.pattern.specs.Mirror.{RankOf}
 use Rattle.pattern.proofs.Laws.{row-fits, receiver-in-new}
 use Rattle.records.specs.Shape.{faceCount}
 use Rattle.records.specs.Record.{coreSize, numberOf, shapeOf, neighbourOf}
 use Rattle.part.specs.Layout.{treePlace, ghostPlace}
 use Rattle.part.specs.Part.{partCore}
-use Rattle.message_ghosts.specs.Means.{numberAt, AtRecord, AtFace, Beside, recordPlace, recordAt, acrossAt, sentBefore, besideBefore, goes}
+use Rattle.message_ghosts.specs.Means.{numberAt, AtRecord, AtFace, Beside, recordPlace, recordAt, acrossAt, sentBefore}
 use Rattle.message_ghosts.proofs.Records.{shape-is, across-is, at-face}
 
 -- ---- records by their local index
@@ -57,10 +56,6 @@ module _ {old new : List ℕ} {q : ℕ} (r : RankOf old new q) where
   pub rank-new-row : tableLength (q + 1) ≤ length new
   rank-new-row = receiver-in-new old new (r .tables) q (r .rankBelow)
 
-pub before-read : (old new : List ℕ) (q low h : ℕ) {a b : Bool} → a ≡ holds new q h → b ≡ holds old q h → (a && (b || ltb h low)) ≡ sentBefore old new q low h
-unfolding sentBefore
-before-read old new q low h e d = rw (e, d)
-
 -- a neighbour as it is read
 pub neighbour-before : (part old new : List ℕ) (q low count j faces f : ℕ) → Beside part old new q count j faces → f < faces → {h : ℕ} {b : Bool}
     → h ≡ acrossAt part count j f → b ≡ sentBefore old new q low h → sentBefore old new q low (neighbourOf (partCore part (numberAt part count j)) f) ≡ b
@@ -83,17 +78,3 @@ module _ (part old new : List ℕ) (p q count j : ℕ) (a : AtRecord part old ne
       → faces ≡ faceCount (shapeOf (partCore part (numberAt part count j)))
   unfolding recordAt
   faces-read at shape faces e d c = c ∙ ap faceCount (d ∙ rw e (shape-is part old new p q count (a .known) j (a .within)))
-
-  module _ (low number : ℕ) (e : number ≡ numberAt part count j) where
-    pub goes-held : holds new q number ≡ true → false ≡ goes part old new p q low number
-    unfolding goes
-    goes-held h = rw h
-
-    pub goes-own : holds new q number ≡ false → p ≡ q → true ≡ goes part old new p q low number
-    unfolding goes
-    goes-own h d = rw (h, eq-eqb p q d)
-
-    pub goes-read : holds new q number ≡ false → (p ≡ q → ⊥) → (faces : ℕ) → faces ≡ faceCount (shapeOf (partCore part (numberAt part count j)))
-        → (b : Bool) → b ≡ besideBefore part old new q low (numberAt part count j) faces → not b ≡ goes part old new p q low number
-    unfolding goes
-    goes-read h n faces c b d = rw (h, ne-eqb p q n, d, c, e)

@@ -1,8 +1,10 @@
 use native.Mathlib.Omega.{arith}
 use mathlib.Core.Path.{sym, _∙_}
-use Rattle.message_ghosts.proofs.Reading.{faces-read, beside-known, goes-held, goes-own, goes-read}
+use Rattle.message_ghosts.proofs.Reading.{faces-read, beside-known}
 use Rattle.message_ghosts.proofs.Records.{place-fits}
 use Rattle.pattern.proofs.Laws.{receiver-new-row}
+use borrow.Author.Tests.{eq-eqb, ne-eqb}
+use Rattle.message_ghosts.specs.Means.{goes}
 use borrow.Author.Needs.{needs}
 use Rattle.message_ghosts.proofs.rule.goes.Statement.{statement}
 use Rattle.message_ghosts.proofs.rule.goes.Tie as tie
@@ -14,17 +16,12 @@ holds-requires : tie.Need-holds-requires
 holds-requires c κs = receiver-new-row (c .before .before .before .pre .0 .known .sending .pair)
 
 returns : tie.Need-returns
-returns c =
-    let pre = c .before .before .before .before .before .pre in
-    let holds = c .before .holds in
-    goes-held _ _ _ _ _ _ _ (pre .0) _ _ (pre .1) (sym (holds .ensures) ∙ c .if1 .taken)
+unfolding goes
+returns c = rw (sym (c .before .holds .ensures) ∙ c .if1 .taken)
 
 returns-2 : tie.Need-returns-2
-returns-2 c =
-    let pre = c .before .before .before .before .before .before .pre in
-    let holds = c .before .before .holds in
-    let if1 = c .before .if1 in
-    goes-own _ _ _ _ _ _ _ (pre .0) _ _ (pre .1) (sym (holds .ensures) ∙ if1 .left) (c .if2 .taken)
+unfolding goes
+returns-2 c = rw (sym (c .before .before .holds .ensures) ∙ c .before .if1 .left, eq-eqb _ _ (c .if2 .taken))
 
 record-at-requires : tie.Need-record-at-requires
 record-at-requires c κs = search needs
@@ -45,6 +42,7 @@ beside-before-requires c κs =
     beside-known _ _ _ _ _ _ _ (pre .0) _ (faces-read _ _ _ _ _ _ _ (pre .0) _ _ _ (record-at .ensures) (shape-of .ensures) (c .face-count .ensures .0))
 
 returns-3 : tie.Need-returns-3
+unfolding goes
 returns-3 c =
     let pre = c .before .before .before .before .before .before .before .before .before .before .pre in
     let holds = c .before .before .before .before .before .before .holds in
@@ -53,7 +51,8 @@ returns-3 c =
     let record-at = c .before .before .before .record-at in
     let shape-of = c .before .before .shape-of in
     let face-count = c .before .face-count in
-    goes-read _ _ _ _ _ _ _ (pre .0) _ _ (pre .1) (sym (holds .ensures) ∙ if1 .left) (if2 .left) _ (faces-read _ _ _ _ _ _ _ (pre .0) _ _ _ (record-at .ensures) (shape-of .ensures) (face-count .ensures .0)) _ (c .beside-before .ensures)
+    let faces = faces-read _ _ _ _ _ _ _ (pre .0) _ _ _ (record-at .ensures) (shape-of .ensures) (face-count .ensures .0) in
+    rw (sym (holds .ensures) ∙ if1 .left, ne-eqb _ _ (if2 .left), c .beside-before .ensures, faces, pre .1)
 
 pub goes-spec : {M : Type 1} → statement M
 goes-spec =

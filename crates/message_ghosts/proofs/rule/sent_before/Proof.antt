@@ -1,4 +1,5 @@
-use Rattle.message_ghosts.proofs.Reading.{rank-row, rank-new-row, before-read}
+use Rattle.message_ghosts.proofs.Reading.{rank-row, rank-new-row}
+use Rattle.message_ghosts.specs.Means.{sentBefore}
 use borrow.Author.Needs.{needs}
 use Rattle.message_ghosts.proofs.rule.sent_before.Statement.{statement}
 use Rattle.message_ghosts.proofs.rule.sent_before.Tie as tie
@@ -16,7 +17,8 @@ holds-requires-2 : tie.Need-holds-requires-2
 holds-requires-2 c κs = rank-row (c .before .before .before .pre)
 
 returns : tie.Need-returns
-returns c = before-read _ _ _ _ _ (c .before .holds .ensures) (c .holds2 .ensures)
+unfolding sentBefore
+returns c = rw (c .before .holds .ensures, c .holds2 .ensures)
 
 pub sent-before-spec : {M : Type 1} → statement M
 sent-before-spec = tie.close (tie.spec cast-holds holds-requires cast-holds-2 holds-requires-2 returns)

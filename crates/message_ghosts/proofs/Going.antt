@@ -88,11 +88,12 @@ module _ (part old new : List ℕ) (p q : ℕ) (s : Sending part old new p q) wh
     unfolding sentBefore
     before-at h e =
         let has : holds new q h ≡ true = and-fst (holds new q h) _ e in
-        let rest : (holds old q h || ltb h low) ≡ true = and-snd (holds new q h) _ e in
-        (sends-in old new T q h has,
-        either (holds old q h)
-        (λ o. rw (sender-self old new T h q o, eq-eqb q q refl))
-        (λ o. rw (lt-ltb (sender old h q) p (first-above h has (ltb-true h low (rw o at rest))), or-true)))
+        let rest : (holds old q h || ltb h low) ≡ true = and-snd (holds new q h) _ e in (
+          sends-in old new T q h has,
+          either (holds old q h)
+              (λ o. rw (sender-self old new T h q o, eq-eqb q q refl))
+              (λ o. rw (lt-ltb (sender old h q) p (first-above h has (ltb-true h low (rw o at rest))), or-true)),
+        )
 
   module _ (g : ℕ) (beside : sendsBeside core old new p q g ≡ true) where
     abbrev faces : ℕ

@@ -31,7 +31,17 @@ fn mark_face(
     let j = records::read::neighbour_of(part, part::sound::tree_at(tree), face);
     let number = number_at(part, count, LocalIndex(j));
     let k = number.0;
-    if goes(part, old, new, p, q, count, low, LocalIndex(j), GlobalIndex(k)) {
+    if goes(
+        part,
+        old,
+        new,
+        p,
+        q,
+        count,
+        low,
+        LocalIndex(j),
+        GlobalIndex(k),
+    ) {
         bits::set::add_member(&mut *marks, k);
     }
 }

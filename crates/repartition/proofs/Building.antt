@@ -35,7 +35,8 @@ use Rattle.part_laws.proofs.CutSound.{holds-range, local-below, cut-global, cut
 use Rattle.message.specs.Build.{partRecord, partMessage, meshMessage}
 use Rattle.message.specs.Calls.{buildChecks, buildMessageOf}
 use Rattle.message.proofs.Messages.{HasPart, rule-from-part}
-use Rattle.repartition.specs.Lists.{Setting, messageOf}
+use Rattle.repartition.specs.Run.{Run, Setting}
+use Rattle.repartition.specs.Lists.{messageOf}
 
 -- ---- renaming the neighbours of a tree record
 
@@ -158,38 +159,38 @@ module _ (mesh old : List ℕ) (p : ℕ) (ok : Cuttable mesh old p) (mesh-bytes 
 
 -- ---- the message
 
-module _ (mesh old new : List ℕ) (rank epoch : ℕ) (S : Setting mesh old new rank epoch) where
+module _ (run : Run) (S : Setting run) where
   -- an old rank has a part
-  pub old-cuttable : (p : ℕ) → p < ranks old → Cuttable mesh old p
+  pub old-cuttable : (p : ℕ) → p < ranks (run .old) → Cuttable (run .mesh) (run .old) p
   old-cuttable p l =
       record { table-ranks = S .tables .oldRanks; table-valid = S .tables .oldValid; rank-below = l; mesh-sound = S .mesh-sound; same-trees = S .same-trees }
 
-  module _ (p q : ℕ) (l : p < ranks old) (r : q < ranks old) where
+  module _ (p q : ℕ) (l : p < ranks (run .old)) (r : q < ranks (run .old)) where
     abbrev here : List ℕ
-    here = cutPart mesh old p
+    here = cutPart (run .mesh) (run .old) p
 
     -- building from the cut of the mesh is the rule applied to the mesh
-    pub build-is-rule : partMessage (cutPart mesh old p) old new p q epoch ≡ meshMessage mesh old new p q epoch
+    pub build-is-rule : partMessage (cutPart (run .mesh) (run .old) p) (run .old) (run .new) p q (run .epoch) ≡ meshMessage (run .mesh) (run .old) (run .new) p q (run .epoch)
     unfolding partMessage
     build-is-rule =
-        rw (cut-dimension mesh old p (old-cuttable p l) (S .tables .oldBytes))
-        (rule-from-part (partCore here) (partHolds here) (partRecord here) mesh old p new q (S .tables) l r (S .same-trees) (has-part mesh old p (old-cuttable p l) (S .mesh-bytes) (S .tables .oldBytes) (S .same-trees)) epoch)
+        rw (cut-dimension (run .mesh) (run .old) p (old-cuttable p l) (S .tables .oldBytes))
+        (rule-from-part (partCore here) (partHolds here) (partRecord here) (run .mesh) (run .old) p (run .new) q (S .tables) l r (S .same-trees) (has-part (run .mesh) (run .old) p (old-cuttable p l) (S .mesh-bytes) (S .tables .oldBytes) (S .same-trees)) (run .epoch))
 
-    pub message-of : messageOf mesh old new rank epoch p q ≡ meshMessage mesh old new p q epoch
+    pub message-of : messageOf run p q ≡ meshMessage (run .mesh) (run .old) (run .new) p q (run .epoch)
     unfolding messageOf
     message-of = build-is-rule
 
     -- for parts of a sound mesh, the build call answers 9 exactly where p sends q no tree
-    pub build-refusal : firstFailed (buildChecks (cutPart mesh old p) old new p q) ≡ cond (sendsTo old new p q) 0 9
+    pub build-refusal : firstFailed (buildChecks (cutPart (run .mesh) (run .old) p) (run .old) (run .new) p q) ≡ cond (sendsTo (run .old) (run .new) p q) 0 9
     unfolding buildChecks tableChecks firstFailed
     build-refusal =
         let T = S .tables in
-        rw (T .oldRanks, T .newRanks, T .oldValid, T .newValid, eq-eqb (ranks old) (ranks new) (sym (T .sameRanks)), eq-eqb (trees old) (trees new) (sym (T .sameTrees)), lt-ltb p (ranks old) l, lt-ltb q (ranks old) r, cut-sound mesh old p (old-cuttable p l) (S .mesh-bytes) (T .oldBytes))
+        rw (T .oldRanks, T .newRanks, T .oldValid, T .newValid, eq-eqb (ranks (run .old)) (ranks (run .new)) (sym (T .sameRanks)), eq-eqb (trees (run .old)) (trees (run .new)) (sym (T .sameTrees)), lt-ltb p (ranks (run .old)) l, lt-ltb q (ranks (run .old)) r, cut-sound (run .mesh) (run .old) p (old-cuttable p l) (S .mesh-bytes) (T .oldBytes))
 
     -- where p sends q a tree, it writes that message into any buffer that is long enough
-    pub built-bytes : sendsTo old new p q ≡ true → (out : List ℕ) → length (messageOf mesh old new rank epoch p q) ≤ length out
-        → buildMessageOf (cutPart mesh old p) old new p q epoch out ≡ writeAnswer 0 (messageOf mesh old new rank epoch p q) out
+    pub built-bytes : sendsTo (run .old) (run .new) p q ≡ true → (out : List ℕ) → length (messageOf run p q) ≤ length out
+        → buildMessageOf (cutPart (run .mesh) (run .old) p) (run .old) (run .new) p q (run .epoch) out ≡ writeAnswer 0 (messageOf run p q) out
     unfolding buildMessageOf buildChecks tableChecks firstFailed messageOf
     built-bytes sent out room =
         let T = S .tables in
-        rw (T .oldRanks, T .newRanks, T .oldValid, T .newValid, eq-eqb (ranks old) (ranks new) (sym (T .sameRanks)), eq-eqb (trees old) (trees new) (sym (T .sameTrees)), lt-ltb p (ranks old) l, lt-ltb q (ranks old) r, cut-sound mesh old p (old-cuttable p l) (S .mesh-bytes) (T .oldBytes), sent, le-leb (length (messageOf mesh old new rank epoch p q)) (length out) room)
+        rw (T .oldRanks, T .newRanks, T .oldValid, T .newValid, eq-eqb (ranks (run .old)) (ranks (run .new)) (sym (T .sameRanks)), eq-eqb (trees (run .old)) (trees (run .new)) (sym (T .sameTrees)), lt-ltb p (ranks (run .old)) l, lt-ltb q (ranks (run .old)) r, cut-sound (run .mesh) (run .old) p (old-cuttable p l) (S .mesh-bytes) (T .oldBytes), sent, le-leb (length (messageOf run p q)) (length out) room)

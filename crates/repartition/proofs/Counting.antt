@@ -25,7 +25,7 @@ use Rattle.assembly.specs.Layout.{ghostBound}
 use Rattle.assembly.specs.Area.{areaRank, areaNew}
 use Rattle.assembly.specs.Deliver.{besideTrees, ghostDue}
 use Rattle.assembly_laws.proofs.Zones.{range-end}
-use Rattle.repartition.specs.Lists.{Setting}
+use Rattle.repartition.specs.Run.{Run, Setting}
 
 -- ---- any tests
 
@@ -83,43 +83,43 @@ neighbour-beside mesh sound k f h a =
     any-intro (faceCount (shapeOf (meshCore mesh k))) (λ e. eqb (neighbourOf (meshCore mesh k) e) n) f a (eq-eqb n n refl) in
     neighbours-both mesh sound n k (neighbour-below mesh sound k h f a) h ∙ t
 
-module _ (mesh old new : List ℕ) (rank epoch : ℕ) (S : Setting mesh old new rank epoch) where
+module _ (run : Run) (S : Setting run) where
   abbrev core : ℕ → List ℕ
-  core = meshCore mesh
+  core = meshCore (run .mesh)
 
-  abbrev T : Tables old new
+  abbrev T : Tables (run .old) (run .new)
   T = S .tables
 
   abbrev beside : ℕ → Bool
-  beside k = anyBelow (treeCount new rank) (λ i. anyBelow (faceCount (shapeOf (core (firstTree new rank + i)))) (λ f. eqb (neighbourOf (core (firstTree new rank + i)) f) k))
+  beside k = anyBelow (treeCount (run .new) (run .rank)) (λ i. anyBelow (faceCount (shapeOf (core (firstTree (run .new) (run .rank) + i)))) (λ f. eqb (neighbourOf (core (firstTree (run .new) (run .rank) + i)) f) k))
 
   -- a ghost is across a face of a tree of the rank
-  ghost-beside : (k : ℕ) → k < meshTrees mesh → isGhost core new rank k ≡ true → beside k ≡ true
+  ghost-beside : (k : ℕ) → k < meshTrees (run .mesh) → isGhost core (run .new) (run .rank) k ≡ true → beside k ≡ true
   unfolding isGhost
   ghost-beside k h e =
-      let a = any-at (faceCount (shapeOf (core k))) (λ f. holds new rank (neighbourOf (core k) f)) (and-snd (not (holds new rank k)) _ e) in
+      let a = any-at (faceCount (shapeOf (core k))) (λ f. holds (run .new) (run .rank) (neighbourOf (core k) f)) (and-snd (not (holds (run .new) (run .rank) k)) _ e) in
       let n : ℕ = neighbourOf (core k) (a .0) in
-      let r = holds-true new rank n (a .2) in
+      let r = holds-true (run .new) (run .rank) n (a .2) in
       let s = T .sameRanks in
       let l = S .rank-below in
-      let c = count-add new (T .newBytes) (T .newRanks) (T .newValid) rank (omega arith) in
-      let i : ℕ = n - firstTree new rank in
-      let same : firstTree new rank + i ≡ n = omega arith in
-      any-intro (treeCount new rank) (λ i. anyBelow (faceCount (shapeOf (core (firstTree new rank + i)))) (λ f. eqb (neighbourOf (core (firstTree new rank + i)) f) k))
-      i (omega arith) (rw same (neighbour-beside mesh (S .mesh-sound) k (a .0) h (a .1)))
+      let c = count-add (run .new) (T .newBytes) (T .newRanks) (T .newValid) (run .rank) (omega arith) in
+      let i : ℕ = n - firstTree (run .new) (run .rank) in
+      let same : firstTree (run .new) (run .rank) + i ≡ n = omega arith in
+      any-intro (treeCount (run .new) (run .rank)) (λ i. anyBelow (faceCount (shapeOf (core (firstTree (run .new) (run .rank) + i)))) (λ f. eqb (neighbourOf (core (firstTree (run .new) (run .rank) + i)) f) k))
+      i (omega arith) (rw same (neighbour-beside (run .mesh) (S .mesh-sound) k (a .0) h (a .1)))
 
   -- the ghosts of a rank are at most as many as the ghost slots of its area
-  pub ghosts-fit : countBelow (meshTrees mesh) (isGhost (meshCore mesh) new rank) ≤ ghostBound (facesIn (meshDimension mesh)) (treeCount new rank)
+  pub ghosts-fit : countBelow (meshTrees (run .mesh)) (isGhost (meshCore (run .mesh)) (run .new) (run .rank)) ≤ ghostBound (facesIn (meshDimension (run .mesh))) (treeCount (run .new) (run .rank))
   unfolding ghostBound
   ghosts-fit =
-      let K : ℕ = meshTrees mesh in
+      let K : ℕ = meshTrees (run .mesh) in
       let e = S .same-trees in
-      let c = range-end old new rank T (S .rank-below) in
+      let c = range-end (run .old) (run .new) (run .rank) T (S .rank-below) in
       omega (
         arith,
-        count-imp K (isGhost core new rank) beside ghost-beside,
-        count-beside K (treeCount new rank) (facesIn (meshDimension mesh)) (λ i. faceCount (shapeOf (core (firstTree new rank + i)))) (λ i f. neighbourOf (core (firstTree new rank + i)) f)
-            (λ i h. rw (← sound-shape mesh (S .mesh-sound) (firstTree new rank + i) (omega arith)) (count-faces (shapeOf (core (firstTree new rank + i))))),
+        count-imp K (isGhost core (run .new) (run .rank)) beside ghost-beside,
+        count-beside K (treeCount (run .new) (run .rank)) (facesIn (meshDimension (run .mesh))) (λ i. faceCount (shapeOf (core (firstTree (run .new) (run .rank) + i)))) (λ i f. neighbourOf (core (firstTree (run .new) (run .rank) + i)) f)
+            (λ i h. rw (← sound-shape (run .mesh) (S .mesh-sound) (firstTree (run .new) (run .rank) + i) (omega arith)) (count-faces (shapeOf (core (firstTree (run .new) (run .rank) + i))))),
       )
 
 -- ---- the ghosts of a message

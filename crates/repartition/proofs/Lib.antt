@@ -1,4 +1,5 @@
 -- Laws and theorems.
+pub mod Canonical
 pub mod Receive
 pub mod Sequences
 pub mod Counting
@@ -7,5 +8,5 @@ pub mod Delivering
 pub mod Building
 pub mod PartMessages
 pub mod Closing
+pub mod Records
 pub mod Demand
-pub mod Examples

@@ -1,4 +1,4 @@
 -- Demand 3: lists of deliver and close calls on an area.
-pub mod Canonical
+pub mod Run
 pub mod Lists
 pub mod Demand

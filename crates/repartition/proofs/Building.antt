@@ -5,7 +5,7 @@ use native.Mathlib.Omega.{arith}
 use mathlib.Core.Path.{_≡_, refl, sym, ap, ap₂, _∙_}
 use mathlib.Core.Bool.{Bool, true, false, cond, _&&_, _||_}
 use mathlib.Core.List.{List, [], _∷_, _++_, map}
-use lib.Dec.{ltb, eqb}
+use lib.Dec.{leb, ltb, eqb}
 use lib.ListN.{length}
 use lib.Seq.{take-add, take-all}
 use borrow.Author.Tests.{lt-ltb, eq-eqb, le-leb}
@@ -187,10 +187,15 @@ module _ (run : Run) (S : Setting run) where
         let T = S .tables in
         rw (T .oldRanks, T .newRanks, T .oldValid, T .newValid, eq-eqb (ranks (run .old)) (ranks (run .new)) (sym (T .sameRanks)), eq-eqb (trees (run .old)) (trees (run .new)) (sym (T .sameTrees)), lt-ltb p (ranks (run .old)) l, lt-ltb q (ranks (run .old)) r, cut-sound (run .mesh) (run .old) p (old-cuttable p l) (S .mesh-bytes) (T .oldBytes))
 
+    -- its whole answer: 9 where p sends q no tree, 22 where the buffer is shorter than the message, else the message
+    pub build-answer : (out : List ℕ) → buildMessageOf (cutPart (run .mesh) (run .old) p) (run .old) (run .new) p q (run .epoch) out
+        ≡ writeAnswer (cond (sendsTo (run .old) (run .new) p q) (cond (leb (length (messageOf run p q)) (length out)) 0 22) 9) (messageOf run p q) out
+    unfolding buildMessageOf buildChecks tableChecks firstFailed messageOf
+    build-answer out =
+        let T = S .tables in
+        rw (T .oldRanks, T .newRanks, T .oldValid, T .newValid, eq-eqb (ranks (run .old)) (ranks (run .new)) (sym (T .sameRanks)), eq-eqb (trees (run .old)) (trees (run .new)) (sym (T .sameTrees)), lt-ltb p (ranks (run .old)) l, lt-ltb q (ranks (run .old)) r, cut-sound (run .mesh) (run .old) p (old-cuttable p l) (S .mesh-bytes) (T .oldBytes))
+
     -- where p sends q a tree, it writes that message into any buffer that is long enough
     pub built-bytes : sendsTo (run .old) (run .new) p q ≡ true → (out : List ℕ) → length (messageOf run p q) ≤ length out
         → buildMessageOf (cutPart (run .mesh) (run .old) p) (run .old) (run .new) p q (run .epoch) out ≡ writeAnswer 0 (messageOf run p q) out
-    unfolding buildMessageOf buildChecks tableChecks firstFailed messageOf
-    built-bytes sent out room =
-        let T = S .tables in
-        rw (T .oldRanks, T .newRanks, T .oldValid, T .newValid, eq-eqb (ranks (run .old)) (ranks (run .new)) (sym (T .sameRanks)), eq-eqb (trees (run .old)) (trees (run .new)) (sym (T .sameTrees)), lt-ltb p (ranks (run .old)) l, lt-ltb q (ranks (run .old)) r, cut-sound (run .mesh) (run .old) p (old-cuttable p l) (S .mesh-bytes) (T .oldBytes), sent, le-leb (length (messageOf run p q)) (length out) room)
+    built-bytes sent out room = build-answer out ∙ rw (sent, le-leb (length (messageOf run p q)) (length out) room)

@@ -10,3 +10,4 @@ pub mod PartMessages
 pub mod Closing
 pub mod Records
 pub mod Demand
+pub mod Examples

@@ -2,3 +2,4 @@
 pub mod Run
 pub mod Lists
 pub mod Demand
+pub mod Examples

@@ -61,7 +61,7 @@ module _ (run : Run) (S : Setting run) where
 
   -- ---- who is heard
 
-  receive-all : (cs : List Call) → AllBuilt run cs → (H : ℕ → Bool) → InReceive run H → InReceive run (hearsAll run H cs)
+  pub receive-all : (cs : List Call) → AllBuilt run cs → (H : ℕ → Bool) → InReceive run H → InReceive run (hearsAll run H cs)
   unfolding AllBuilt hearsAll hears
   receive-all [] b H r = r
   receive-all (deliver p q ∷ cs) b H r = receive-all cs (b .1) (hears run H (deliver p q)) (hears-receive run S H r p q (b .0))

@@ -10,4 +10,5 @@ pub mod PartMessages
 pub mod Closing
 pub mod Records
 pub mod Demand
+pub mod AfterList
 pub mod Examples

@@ -2,4 +2,5 @@
 pub mod Run
 pub mod Lists
 pub mod Demand
+pub mod AfterList
 pub mod Examples

@@ -132,18 +132,20 @@ module _ (run : Run) (S : Setting run) where
       -- how often the test passes
       pub accepted-times : (cs : List Call) → AllBuilt run cs → (H : ℕ → Bool) → InReceive run H → (tail : List ℕ)
           → countIn test (acceptedBy run (canonical run H ++ tail) cs) ≡ times H cs
-      unfolding AllBuilt acceptedBy areaAfter countIn hearsAll hears
+      unfolding AllBuilt acceptedBy countIn hearsAll hears
       accepted-times [] b H r tail = sym (either (H s) (λ h. rw h) (λ h. rw h))
       accepted-times (deliver p q ∷ cs) b H r tail =
           let m : List ℕ = messageOf run p q in
           let H' : ℕ → Bool = hears run H (deliver p q) in
           let rest : List (List ℕ) = acceptedBy run (canonical run H' ++ tail) cs in
           let more : countIn test rest ≡ times H' cs = accepted-times cs (b .1) H' (hears-receive run S H r p q (b .0)) tail in
-          ap (λ (x : ℕ × List ℕ). countIn test (cond (eqb (x .0) 0) (m ∷ acceptedBy run (x .1) cs) (acceptedBy run (x .1) cs))) (steps .delivers H r tail p q (b .0))
+          ap₂ (λ (x : ℕ) (a : List ℕ). countIn test (cond (eqb x 0) (m ∷ acceptedBy run a cs) (acceptedBy run a cs)))
+          (ap (λ (x : ℕ × List ℕ). x .0) (steps .delivers H r tail p q (b .0))) (one-delivery H r tail p q (b .0))
           ∙ either (eqb q (run .rank) && not (H p))
           (λ t. let e : eqb q (run .rank) ≡ true = and-fst (eqb q (run .rank)) (not (H p)) t in
           let f : H p ≡ false = not-true (H p) (and-snd (eqb q (run .rank)) (not (H p)) t) in
           ap₂ (λ (x y : Bool). countIn test (cond (eqb (cond x (cond y 15 0) 13) 0) (m ∷ rest) rest)) e f
           ∙ ap (cond (test m) 1 0 +_) more ∙ first-time p q cs H (eqb-true q (run .rank) e) (b .0) f)
           (λ t. refused-none q (H p) m rest t ∙ more ∙ other-time p q cs H t)
-      accepted-times (close out ∷ cs) b H r tail = accepted-times cs b H r tail
+      accepted-times (close out ∷ cs) b H r tail =
+          ap (λ (a : List ℕ). countIn test (acceptedBy run a cs)) (one-close H tail out) ∙ accepted-times cs b H r tail

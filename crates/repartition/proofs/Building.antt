@@ -140,7 +140,7 @@ module _ (mesh old : List ℕ) (p : ℕ) (ok : Cuttable mesh old p) (mesh-bytes 
         rw (cut-dimension mesh old p ok bytes, index-back) at g
 
     -- with neighbours as global numbers it is the mesh's
-    own-record : partRecord part k ≡ meshRecord mesh k
+    pub own-record : partRecord (cutPart mesh old p) k ≡ meshRecord mesh k
     unfolding partRecord
     own-record =
         rw (cut-dimension mesh old p ok bytes, cut-first mesh old p ok bytes)

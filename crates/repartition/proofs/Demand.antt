@@ -47,6 +47,7 @@ use Rattle.repartition.proofs.Sequences.{Steps, after-all, answers-all,
 use Rattle.repartition.proofs.Building.{message-of}
 use Rattle.repartition.proofs.Heard.{among-kept, canonical-zones, canonical-agree, canonical-apart, fresh-canonical}
 use Rattle.repartition.proofs.Delivering.{built-trees, built-number, built-kept, deliver-step}
+use Rattle.repartition.proofs.RuleMessages.{trees-in, goes-in}
 use Rattle.repartition.proofs.Records.{front-count, front-ghosts, front-tree, front-ghost}
 use Rattle.repartition.proofs.Closing.{close-step, new-cuttable}
 
@@ -144,43 +145,6 @@ module _ (run : Run) (S : Setting run) where
           ∙ accepted-times run S steps p test at only cs built none (nobody-receive run) rest
           ∙ rw (sender-heard p l e)
 
-  -- the trees and the ghosts of a message for the rank
-  module _ (p : ℕ) (b : Built run p (run .rank)) (k : ℕ) where
-    abbrev m : List ℕ
-    m = meshMessage (run .mesh) (run .old) (run .new) p (run .rank) (run .epoch)
-
-    is-message : messageOf run p (run .rank) ≡ m
-    is-message = message-of run S p (run .rank) (b .sender-below) (S .rank-below)
-
-    trees-in : treeIn k (messageOf run p (run .rank)) ≡ sends (run .old) (run .new) p (run .rank) k
-    unfolding treeIn among
-    trees-in =
-        let T = S .tables in
-        let c : messageTrees m ≡ sentCount (run .old) (run .new) p (run .rank) = built-trees run S p (run .rank) b in
-        let f : ℕ → Bool = λ i. eqb (numberOf (messageTree m i)) k in
-        rw (is-message, c)
-        (iff-eq (anyBelow (sentCount (run .old) (run .new) p (run .rank)) f) (sends (run .old) (run .new) p (run .rank) k)
-        (λ e. let a = any-at (sentCount (run .old) (run .new) p (run .rank)) f e in
-        let q : sentFirst (run .old) (run .new) p (run .rank) + a .0 ≡ k = sym (built-number run S p (run .rank) b (a .0) (a .1)) ∙ eqb-true _ _ (a .2) in
-        sent-in (run .old) (run .new) T p (run .rank) (b .sender-below) (S .rank-below) k (omega arith) (omega arith))
-        (λ e. let w = sends-true (run .old) (run .new) T p (run .rank) k e in
-        let l : k < trees (run .old) = new-below (run .old) (run .new) T (run .rank) k (S .rank-below) (w .0) in
-        let r : (leb (sentFirst (run .old) (run .new) p (run .rank)) k && ltb k (sentFirst (run .old) (run .new) p (run .rank) + sentCount (run .old) (run .new) p (run .rank))) ≡ true = sym (one-range (run .old) (run .new) T p (run .rank) (b .sender-below) (S .rank-below) k l) ∙ e in
-        let low = leb-true (sentFirst (run .old) (run .new) p (run .rank)) k (and-fst (leb (sentFirst (run .old) (run .new) p (run .rank)) k) _ r) in
-        let high = ltb-true k (sentFirst (run .old) (run .new) p (run .rank) + sentCount (run .old) (run .new) p (run .rank)) (and-snd (leb (sentFirst (run .old) (run .new) p (run .rank)) k) _ r) in
-        let i : k - sentFirst (run .old) (run .new) p (run .rank) < sentCount (run .old) (run .new) p (run .rank) = omega arith in
-        any-intro (sentCount (run .old) (run .new) p (run .rank)) f (k - sentFirst (run .old) (run .new) p (run .rank)) i
-        (eq-eqb _ _ (built-number run S p (run .rank) b (k - sentFirst (run .old) (run .new) p (run .rank)) i ∙ omega arith))))
-
-    abbrev goes : Bool
-    goes = ghostGoes (meshCore (run .mesh)) (run .old) (run .new) (λ k. ltb k (meshTrees (run .mesh))) (meshRecord (run .mesh)) p (run .rank) k
-
-    ghosts-in : k < trees (run .old) → ghostWith k (messageOf run p (run .rank)) ≡ goes
-    unfolding ghostWith
-    ghosts-in h =
-        rw is-message
-        (among-kept (trees (run .old)) (ghostGoes (meshCore (run .mesh)) (run .old) (run .new) (λ k. ltb k (meshTrees (run .mesh))) (meshRecord (run .mesh)) p (run .rank)) (meshCore (run .mesh)) (messageGhosts m) (messageGhost m) (built-kept run S p (run .rank) b) k h)
-
   -- ---- what the parts of demand 3 rest on
 
   module _ (b : List ℕ) (long : size run ≤ length b) (cs : List Call) (built : AllBuilt run cs) where
@@ -191,16 +155,16 @@ module _ (run : Run) (S : Setting run) where
     trees-once full k h =
         let w = tree-one-message (run .old) (run .new) (S .tables) (run .rank) k (S .rank-below) h in
         let from : Built run (w .0) (run .rank) = record { sender-below = w .1; receiver-below = S .rank-below; sends-tree = w .3 } in
-        once b long cs built full (treeIn k) (w .0) (w .1) (w .3) (trees-in (w .0) from k ∙ w .2)
-        (λ r br ne. trees-in r br k ∙ either (sends (run .old) (run .new) r (run .rank) k) (λ e. absurd (ne (w .4 r e))) (λ e. e))
+        once b long cs built full (treeIn k) (w .0) (w .1) (w .3) (trees-in run S (w .0) (run .rank) from k ∙ w .2)
+        (λ r br ne. trees-in run S r (run .rank) br k ∙ either (sends (run .old) (run .new) r (run .rank) k) (λ e. absurd (ne (w .4 r e))) (λ e. e))
 
     ghosts-once : allDue run (heardBy run cs) ≡ true → (k : ℕ) → k < meshTrees (run .mesh) → isGhost (meshCore (run .mesh)) (run .new) (run .rank) k ≡ true → countIn (ghostWith k) (cameIn run b cs) ≡ 1
     ghosts-once full k l h =
         let w = ghost-one-message (run .mesh) (run .old) (run .new) (S .tables) (run .rank) k (S .rank-below) l h in
         let from : Built run (w .0) (run .rank) = record { sender-below = w .1; receiver-below = S .rank-below; sends-tree = w .3 } in
         let t : k < trees (run .old) = rw (S .same-trees) at l in
-        once b long cs built full (ghostWith k) (w .0) (w .1) (w .3) (ghosts-in (w .0) from k t ∙ w .2)
-        (λ r br ne. ghosts-in r br k t ∙ either (goes r br k) (λ e. absurd (ne (w .4 r e))) (λ e. e))
+        once b long cs built full (ghostWith k) (w .0) (w .1) (w .3) (goes-in run S (w .0) (run .rank) from k t ∙ w .2)
+        (λ r br ne. goes-in run S r (run .rank) br k t ∙ either (ghostGoes (meshCore (run .mesh)) (run .old) (run .new) (λ k. ltb k (meshTrees (run .mesh))) (meshRecord (run .mesh)) r (run .rank) k) (λ e. absurd (ne (w .4 r e))) (λ e. e))
 
     -- a close after the list
     close-is : (out : List ℕ) → closeAfter run b cs out ≡ writeAnswer (cond (allDue run H) (cond (leb (length (newPart run)) (length out)) 0 22) 20) (newPart run) out

@@ -7,8 +7,10 @@ pub mod Heard
 pub mod Delivering
 pub mod Building
 pub mod PartMessages
+pub mod RuleMessages
 pub mod Closing
 pub mod Records
 pub mod Demand
 pub mod AfterList
 pub mod Examples
+pub mod Promises

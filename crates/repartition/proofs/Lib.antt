@@ -14,3 +14,4 @@ pub mod Demand
 pub mod AfterList
 pub mod Examples
 pub mod Promises
+pub mod Refusals

@@ -1,4 +1,4 @@
--- The promises of demand 2, and what a refused call leaves.
+-- The promises of demand 2.
 use Prim.Native.Nat.{ℕ, suc, _+_, _≤_, _<_}
 use native.Mathlib.Omega.{arith}
 use mathlib.Core.Path.{_≡_, refl, sym, ap, _∙_}
@@ -7,7 +7,7 @@ use mathlib.Core.List.{List, [], _∷_}
 use lib.Dec.{leb, ltb, eqb}
 use lib.ListN.{length}
 use borrow.Author.Tests.{lt-ltb, le-leb, eq-eqb, eqb-true}
-use Rattle.encoding.specs.Answer.{lengthAnswer, written, writeAnswer}
+use Rattle.encoding.specs.Answer.{writeAnswer}
 use Rattle.encoding.specs.Pieces.{Bytes}
 use Rattle.encoding.specs.Refusal.{check, firstFailed}
 use Rattle.encoding.proofs.Below.{either, and-fst, and-snd, and-intro}
@@ -21,22 +21,18 @@ use Rattle.offsets.proofs.Partitions.{trees-are, table-of, table-unique, table-
 use Rattle.offsets.proofs.LeafCounts.{leaf-table-holds}
 use Rattle.pattern.specs.Sender.{sentFirst, sentCount}
 use Rattle.pattern.specs.Sets.{sendSet, receiveSet}
-use Rattle.pattern.specs.Calls.{setRefusal, ranksAnswer, setAnswer, sendSetOf, receiveSetOf}
 use Rattle.pattern.proofs.Counting.{range-true, range-in}
 use Rattle.pattern.proofs.Sets.{send-ascends, receive-ascends, symmetric, one-sender, one-range, received-disjoint, received-covers, received-only}
 use Rattle.mesh.specs.Mesh.{meshTrees, meshSound, meshRefusal}
 use Rattle.part.specs.Cut.{cutPart}
 use Rattle.part.specs.Calls.{rankChecks, cutChecks, cutPartOf, partRefusal}
 use Rattle.part.proofs.Cutting.{Cuttable}
+use Rattle.part_laws.proofs.CutLinks.{cut-answer}
 use Rattle.part_laws.proofs.CutSound.{cut-holds, cut-core, cut-sound}
-use Rattle.message.specs.Calls.{buildMessageOf}
 use Rattle.message.proofs.Ghosts.{tree-one-message, ghost-one-message}
-use Rattle.assembly.specs.Calls.{openAreaOf}
-use Rattle.assembly.specs.Deliver.{deliverChecks, delivered, deliverOf}
-use Rattle.assembly.specs.Close.{closeOf}
 use Rattle.repartition.specs.Run.{Run, Setting}
 use Rattle.repartition.specs.Lists.{Built}
-use Rattle.repartition.specs.Promises.{BecomesTable, OneTable, TableAgain, SharedFirst, LeafTables, Symmetric, OneSender, OneRange, Received, SetsAscend, CutParts, Messages, TreeOneMessage, GhostOneMessage, Demand2, Unchanged, RefusedUnchanged}
+use Rattle.repartition.specs.Promises.{BecomesTable, OneTable, TableAgain, SharedFirst, LeafTables, Symmetric, OneSender, OneRange, Received, SetsAscend, CutParts, Messages, TreeOneMessage, GhostOneMessage, Demand2}
 use Rattle.repartition.proofs.Building.{own-record, build-answer}
 use Rattle.repartition.proofs.RuleMessages.{trees-in, goes-in, follows-rule}
 
@@ -181,6 +177,7 @@ cut-parts mesh table rank mb tb passes below sound same =
       held = cut-holds mesh table rank ok mb tb;
       cores = cut-core mesh table rank ok mb tb;
       records = own-record mesh table rank ok mb tb;
+      links = λ i f h l. cut-answer mesh table rank ok mb tb i h f l;
     }
 
 -- ---- messages
@@ -218,43 +215,4 @@ demand-2 =
       messages = messages;
       tree-one-message = tree-in-one;
       ghost-one-message = ghost-in-one;
-    }
-
--- ---- what a refused call leaves
-
--- a call that writes an object
-refused-writes : (refusal : ℕ) (object out : List ℕ) → Unchanged (writeAnswer refusal object out) out
-unfolding writeAnswer lengthAnswer written
-refused-writes refusal object out declined =
-    either (eqb refusal 0)
-    (λ e. absurd (declined (rw e)))
-    (λ e. rw e (refl, refl))
-
-refused-set : (refusal : ℕ) (set out : List ℕ) → (setAnswer refusal set out .0 .refusal ≡ 0 → ⊥) → setAnswer refusal set out .1 ≡ out
-unfolding setAnswer ranksAnswer written
-refused-set refusal set out declined =
-    either (eqb refusal 0)
-    (λ e. absurd (declined (rw e)))
-    (λ e. rw e)
-
-refused-deliver : (area m : List ℕ) → (deliverOf area m .0 ≡ 0 → ⊥) → deliverOf area m .1 ≡ area
-unfolding deliverOf
-refused-deliver area m declined =
-    either (eqb (firstFailed (deliverChecks area m)) 0)
-    (λ e. absurd (declined (eqb-true _ _ e)))
-    (λ e. rw e)
-
-pub refused-unchanged : RefusedUnchanged
-unfolding writeTable tableFromLeaves cutPartOf buildMessageOf openAreaOf closeOf sendSetOf receiveSetOf
-refused-unchanged =
-    record {
-      write-table = λ P first count out. refused-writes _ _ out;
-      table-from-leaves = λ P ls out. refused-writes _ _ out;
-      cut-part = λ mesh table rank out. refused-writes _ _ out;
-      build-message = λ part old new p q epoch out. refused-writes _ _ out;
-      open-area = λ old new rank dimension epoch out. refused-writes _ _ out;
-      close-area = λ area out. refused-writes _ _ out;
-      deliver = refused-deliver;
-      send-set = λ old new p out. refused-set _ _ out;
-      receive-set = λ old new q out. refused-set _ _ out;
     }

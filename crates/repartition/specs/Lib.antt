@@ -4,4 +4,5 @@ pub mod Lists
 pub mod Demand
 pub mod AfterList
 pub mod Promises
+pub mod Refusals
 pub mod Examples

@@ -1,4 +1,4 @@
--- Demand 2: it follows the published rule. One named proposition for each sentence; and of demand 1, what a refused call leaves.
+-- Demand 2: it follows the published rule. One named proposition for each sentence, over the values in the calls' contracts.
 use Prim.Native.Nat.{ℕ, _+_, _≤_, _<_}
 use mathlib.Core.Path.{_≡_}
 use mathlib.Core.Bool.{Bool, true, cond, _&&_, _||_}
@@ -8,29 +8,25 @@ use lib.ListN.{length, getD}
 use Rattle.encoding.specs.Answer.{writeAnswer}
 use Rattle.encoding.specs.Below.{member}
 use Rattle.encoding.specs.Pieces.{piece, Bytes}
-use Rattle.encoding.specs.declared.answer.Length.{Length}
 use Rattle.offsets.specs.Limits.{rankCountOk, treeCountOk}
-use Rattle.offsets.specs.Table.{tableLength, ranks, trees, entry, negative, holds}
+use Rattle.offsets.specs.Table.{tableLength, ranks, trees, entry, negative, firstTree, treeCount, holds}
 use Rattle.offsets.specs.Partition.{validPartition, IsTable}
 use Rattle.offsets.specs.Sharing.{sharesWithLower}
 use Rattle.offsets.specs.Leaves.{leavesOk, leafHolds, equalShares, leafTable}
 use Rattle.offsets.specs.Calls.{tableRefusal, tableRange, each, writeTable, tableFromLeaves}
 use Rattle.pattern.specs.Sender.{Tables, sends, sentFirst, sentCount}
 use Rattle.pattern.specs.Sets.{sendsTo, sendSet, receiveSet}
-use Rattle.pattern.specs.Calls.{sendSetOf, receiveSetOf}
-use Rattle.records.specs.Record.{treeSize, numberOf}
+use Rattle.records.specs.Record.{treeSize, numberOf, shapeOf}
 use Rattle.mesh.specs.Mesh.{meshDimension, meshTrees, meshCore, meshRecord, meshRefusal}
 use Rattle.part.specs.Ghosts.{isGhost}
 use Rattle.part.specs.Cut.{cutPart}
 use Rattle.part.specs.Part.{partHolds, partCore}
-use Rattle.part.specs.Calls.{cutPartOf, partRefusal}
+use Rattle.part.specs.Neighbour.{meshLink}
+use Rattle.part.specs.Calls.{cutPartOf, partRefusal, neighbourAnswer}
 use Rattle.message.specs.Layout.{messageTreePlace, messageEpoch, messageDimension, messageK, messageP, messageSender, messageReceiver, messageTrees, messageGhosts, messageTree, messageGhost, inLayout}
 use Rattle.message.specs.Rule.{sendsGhost}
 use Rattle.message.specs.Build.{partRecord}
 use Rattle.message.specs.Calls.{buildMessageOf}
-use Rattle.assembly.specs.Calls.{openAreaOf}
-use Rattle.assembly.specs.Deliver.{deliverOf}
-use Rattle.assembly.specs.Close.{closeOf}
 use Rattle.repartition.specs.Run.{Run, Setting}
 use Rattle.repartition.specs.Lists.{treeIn, ghostWith, Built, messageOf}
 
@@ -119,6 +115,9 @@ pub record PartOf (mesh table : List ℕ) (rank : ℕ) (part : List ℕ) : Type 
   -- each with the mesh's core, and each tree with the mesh's data
   pub cores : (k : ℕ) → partHolds part k ≡ true → partCore part k ≡ meshCore mesh k
   pub records : (k : ℕ) → holds table rank k ≡ true → partRecord part k ≡ meshRecord mesh k
+  -- for a local index and a face, the neighbour call answers with the mesh's link
+  pub links : (i f : ℕ) → i < treeCount table rank → f < 6
+      → neighbourAnswer part table rank i f ≡ record { refusal = 0; shape = shapeOf (meshCore mesh (firstTree table rank + i)); link = meshLink mesh table rank i f }
 
 abbrev pub CutParts : Type 0
 CutParts =
@@ -177,20 +176,3 @@ pub record Demand2 : Type 0 where
   pub messages : Messages
   pub tree-one-message : TreeOneMessage
   pub ghost-one-message : GhostOneMessage
-
--- ---- of demand 1: what is refused leaves every lent buffer as it was, and the other fields are 0
-
--- of a call that writes into out
-abbrev pub Unchanged : Length × List ℕ → List ℕ → Type 0
-Unchanged answer out = (answer .0 .refusal ≡ 0 → ⊥) → (answer .0 .length ≡ 0) × (answer .1 ≡ out)
-
-pub record RefusedUnchanged : Type 0 where
-  pub write-table : (P : ℕ) (first count out : List ℕ) → Unchanged (writeTable P first count out) out
-  pub table-from-leaves : (P : ℕ) (ls out : List ℕ) → Unchanged (tableFromLeaves P ls out) out
-  pub cut-part : (mesh table : List ℕ) (rank : ℕ) (out : List ℕ) → Unchanged (cutPartOf mesh table rank out) out
-  pub build-message : (part old new : List ℕ) (p q epoch : ℕ) (out : List ℕ) → Unchanged (buildMessageOf part old new p q epoch out) out
-  pub open-area : (old new : List ℕ) (rank dimension epoch : ℕ) (out : List ℕ) → Unchanged (openAreaOf old new rank dimension epoch out) out
-  pub close-area : (area out : List ℕ) → Unchanged (closeOf area out) out
-  pub deliver : (area m : List ℕ) → (deliverOf area m .0 ≡ 0 → ⊥) → deliverOf area m .1 ≡ area
-  pub send-set : (old new : List ℕ) (p : ℕ) (out : List ℕ) → (sendSetOf old new p out .0 .refusal ≡ 0 → ⊥) → sendSetOf old new p out .1 ≡ out
-  pub receive-set : (old new : List ℕ) (q : ℕ) (out : List ℕ) → (receiveSetOf old new q out .0 .refusal ≡ 0 → ⊥) → receiveSetOf old new q out .1 ≡ out

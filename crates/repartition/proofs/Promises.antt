@@ -25,6 +25,7 @@ use Rattle.pattern.proofs.Counting.{range-true, range-in}
 use Rattle.pattern.proofs.Sets.{send-ascends, receive-ascends, symmetric, one-sender, one-range, received-disjoint, received-covers, received-only}
 use Rattle.mesh.specs.Mesh.{meshTrees, meshSound, meshRefusal}
 use Rattle.part.specs.Cut.{cutPart}
+use Rattle.part.specs.Part.{partSound}
 use Rattle.part.specs.Calls.{rankChecks, cutChecks, cutPartOf, partRefusal}
 use Rattle.part.proofs.Cutting.{Cuttable}
 use Rattle.part_laws.proofs.CutLinks.{cut-answer}
@@ -32,8 +33,9 @@ use Rattle.part_laws.proofs.CutSound.{cut-holds, cut-core, cut-sound}
 use Rattle.message.proofs.Ghosts.{tree-one-message, ghost-one-message}
 use Rattle.repartition.specs.Run.{Run, Setting}
 use Rattle.repartition.specs.Lists.{Built}
-use Rattle.repartition.specs.Promises.{BecomesTable, OneTable, TableAgain, SharedFirst, LeafTables, Symmetric, OneSender, OneRange, Received, SetsAscend, CutParts, Messages, TreeOneMessage, GhostOneMessage, Demand2}
+use Rattle.repartition.specs.Promises.{BecomesTable, OneTable, OnlyValid, TableAgain, SharedFirst, LeafTables, Symmetric, OneSender, OneRange, Received, SetsAscend, CutParts, Messages, BuiltInLayout, TreeOneMessage, GhostOneMessage, Demand2}
 use Rattle.repartition.proofs.Building.{own-record, build-answer}
+use Rattle.repartition.proofs.PartMessages.{part-in-layout}
 use Rattle.repartition.proofs.RuleMessages.{trees-in, goes-in, follows-rule}
 
 -- ---- tables
@@ -100,6 +102,9 @@ module _ (P K : ℕ) (first count : List ℕ) (ro : rankCountOk P ≡ true) (ko 
 
 pub one-table-written : OneTable
 one-table-written P K first count ro ko lf lc v = (tableOf (each first) (each count) P, becomes P K first count ro ko lf lc v)
+
+pub only-valid : OnlyValid
+only-valid P K first count ro t i = table-fits first count P ro K t i
 
 pub table-written-again : TableAgain
 table-written-again t b passes first count lf lc agree out room =
@@ -185,6 +190,18 @@ cut-parts mesh table rank mb tb passes below sound same =
 pub messages : Messages
 messages run S p q l r = (build-answer run S p q l r, λ e. follows-rule run S p q (record { sender-below = l; receiver-below = r; sends-tree = e }))
 
+part-passes : (part table : List ℕ) (rank : ℕ) → ranksOk table ≡ true → valid table ≡ true → rank < ranks table → partRefusal part table rank ≡ 0 → partSound part table rank ≡ true
+unfolding partRefusal rankChecks firstFailed
+part-passes part table rank ok v below e =
+    let f = rw (ok, v, lt-ltb rank (ranks table) below) at e in
+    either (partSound part table rank) (λ t. t) (λ t. absurd (eight (rw t at f)))
+  where
+    eight : _≡_ {A = ℕ} 8 0 → ⊥
+    eight z = omega arith
+
+pub built-in-layout : BuiltInLayout
+built-in-layout part old new p q epoch T l r e = part-in-layout part old new p q T l r (part-passes part old p (T .oldRanks) (T .oldValid) l e) epoch
+
 pub tree-in-one : TreeOneMessage
 tree-in-one run S q k l h =
     let w = tree-one-message (run .old) (run .new) (S .tables) q k l h in
@@ -203,6 +220,7 @@ pub demand-2 : Demand2
 demand-2 =
     record {
       one-table = one-table-written;
+      only-valid = only-valid;
       table-again = table-written-again;
       shared-first = shared-first;
       leaf-tables = leaf-tables;
@@ -213,6 +231,7 @@ demand-2 =
       sets-ascend = sets-ascend;
       cut-parts = cut-parts;
       messages = messages;
+      built-in-layout = built-in-layout;
       tree-one-message = tree-in-one;
       ghost-one-message = ghost-in-one;
     }

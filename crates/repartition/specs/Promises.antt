@@ -25,7 +25,7 @@ use Rattle.part.specs.Neighbour.{meshLink}
 use Rattle.part.specs.Calls.{cutPartOf, partRefusal, neighbourAnswer}
 use Rattle.message.specs.Layout.{messageTreePlace, messageEpoch, messageDimension, messageK, messageP, messageSender, messageReceiver, messageTrees, messageGhosts, messageTree, messageGhost, inLayout}
 use Rattle.message.specs.Rule.{sendsGhost}
-use Rattle.message.specs.Build.{partRecord}
+use Rattle.message.specs.Build.{partRecord, partMessage}
 use Rattle.message.specs.Calls.{buildMessageOf}
 use Rattle.repartition.specs.Run.{Run, Setting}
 use Rattle.repartition.specs.Lists.{treeIn, ghostWith, Built, messageOf}
@@ -45,6 +45,11 @@ abbrev pub OneTable : Type 0
 OneTable =
     (P K : ℕ) (first count : List ℕ) → rankCountOk P ≡ true → treeCountOk K ≡ true → length first ≡ P → length count ≡ P
     → validPartition (each first) (each count) P K ≡ true → (t : List ℕ) × BecomesTable P K first count t
+
+-- only a valid partition has a table
+abbrev pub OnlyValid : Type 0
+OnlyValid =
+    (P K : ℕ) (first count : ℕ → ℕ) → rankCountOk P ≡ true → (t : List ℕ) → IsTable first count P K t → validPartition first count P K ≡ true
 
 -- and back: where the check call accepts a table, writing the ranges that are read from it gives its bytes
 abbrev pub TableAgain : Type 0
@@ -150,6 +155,12 @@ Messages =
     ≡ writeAnswer (cond (sendsTo (run .old) (run .new) p q) (cond (leb (length (messageOf run p q)) (length out)) 0 22) 9) (messageOf run p q) out)
     × (sendsTo (run .old) (run .new) p q ≡ true → FollowsRule run p q (messageOf run p q))
 
+-- what p builds from any part that the check call accepts is in layout
+abbrev pub BuiltInLayout : Type 0
+BuiltInLayout =
+    (part old new : List ℕ) (p q epoch : ℕ) → Tables old new → p < ranks old → q < ranks old → partRefusal part old p ≡ 0
+    → inLayout (partMessage part old new p q epoch) ≡ true
+
 -- each tree of f'(q), and each ghost of q under f', is in exactly one message to q
 abbrev pub TreeOneMessage : Type 0
 TreeOneMessage =
@@ -164,6 +175,7 @@ GhostOneMessage =
 -- demand 2 in one piece
 pub record Demand2 : Type 0 where
   pub one-table : OneTable
+  pub only-valid : OnlyValid
   pub table-again : TableAgain
   pub shared-first : SharedFirst
   pub leaf-tables : LeafTables
@@ -174,5 +186,6 @@ pub record Demand2 : Type 0 where
   pub sets-ascend : SetsAscend
   pub cut-parts : CutParts
   pub messages : Messages
+  pub built-in-layout : BuiltInLayout
   pub tree-one-message : TreeOneMessage
   pub ghost-one-message : GhostOneMessage

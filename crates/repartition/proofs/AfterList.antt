@@ -1,7 +1,7 @@
 -- What progress_of and part_of_area_length answer after a list.
-use Prim.Native.Nat.{ℕ, _≤_}
+use Prim.Native.Nat.{ℕ}
 use mathlib.Core.Path.{_≡_, ap, _∙_}
-use mathlib.Core.Bool.{Bool, true, false, cond}
+use mathlib.Core.Bool.{Bool, cond}
 use mathlib.Core.List.{List, _++_}
 use lib.ListN.{length, drop}
 use Rattle.encoding.specs.Answer.{lengthAnswer}
@@ -14,8 +14,8 @@ use Rattle.assembly.specs.Area.{heard}
 use Rattle.assembly.specs.Calls.{progressOf}
 use Rattle.assembly.specs.Close.{closeChecks, closeLengthOf}
 use Rattle.repartition.specs.Run.{Run, Setting}
-use Rattle.repartition.specs.Lists.{Call, nobody, AllBuilt, allDue, newPart}
-use Rattle.repartition.specs.Demand.{size, heardBy, bytesAfter}
+use Rattle.repartition.specs.Lists.{nobody, allDue, newPart}
+use Rattle.repartition.specs.Demand.{size, heardBy}
 use Rattle.repartition.specs.AfterList.{ProgressAfter, PartLengthAfter}
 use Rattle.repartition.proofs.Canonical.{canonical}
 use Rattle.repartition.proofs.Receive.{InReceive, nobody-receive}

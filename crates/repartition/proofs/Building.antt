@@ -2,32 +2,30 @@
 use Prim.Native.Nat.{ℕ, _+_, _-_, _*_, _≤_, _<_}
 use native.Mathlib.Nat.{zero-add, add-zero}
 use native.Mathlib.Omega.{arith}
-use mathlib.Core.Path.{_≡_, refl, sym, ap, ap₂, _∙_}
-use mathlib.Core.Bool.{Bool, true, false, cond, _&&_, _||_}
-use mathlib.Core.List.{List, [], _∷_, _++_, map}
-use lib.Dec.{leb, ltb, eqb}
+use mathlib.Core.Path.{_≡_, sym, ap, ap₂, _∙_}
+use mathlib.Core.Bool.{true, cond}
+use mathlib.Core.List.{List, _++_, map}
+use lib.Dec.{leb}
 use lib.ListN.{length}
 use lib.Seq.{take-add, take-all}
 use borrow.Author.Tests.{lt-ltb, eq-eqb, le-leb}
 use Rattle.encoding.specs.Pieces.{piece, splice, Bytes}
 use Rattle.encoding.specs.Answer.{writeAnswer}
-use Rattle.encoding.specs.Refusal.{check, firstFailed}
+use Rattle.encoding.specs.Refusal.{firstFailed}
 use Rattle.encoding.proofs.Pieces.{piece-length, piece-same, piece-above, length-splice}
-use Rattle.offsets.specs.Table.{ranks, trees, firstTree, treeCount, endTree, holds}
-use Rattle.pattern.specs.Sender.{Tables}
+use Rattle.offsets.specs.Table.{ranks, trees, firstTree, treeCount, holds}
 use Rattle.pattern.specs.Sets.{sendsTo}
 use Rattle.pattern.specs.Calls.{tableChecks}
 use Rattle.records.specs.Links.{rowsOf, neighbourBytes, codeBytes, withRows}
-use Rattle.records.specs.Record.{coreSize, treeSize, neighbourOf}
+use Rattle.records.specs.Record.{coreSize, treeSize}
 use Rattle.records.specs.Shape.{facesIn}
 use Rattle.records.proofs.Forms.{piece-piece}
 use Rattle.records.proofs.Rows.{splice-inside}
-use Rattle.mesh.specs.Mesh.{meshHeader, meshDimension, meshTrees, meshCore, meshRecord, meshSound}
+use Rattle.mesh.specs.Mesh.{meshHeader, meshDimension, meshTrees, meshCore, meshRecord}
 use Rattle.mesh.proofs.Soundness.{sound-fits}
 use Rattle.part.specs.Layout.{treePlace}
-use Rattle.part.specs.Ghosts.{isGhost}
 use Rattle.part.specs.Cut.{renameRow, renamed, localIndex, partTree, cutPart}
-use Rattle.part.specs.Part.{partDimension, partFirst, storedTree, globalIndex, globalTree, partHolds, partCore, partSound}
+use Rattle.part.specs.Part.{storedTree, globalIndex, globalTree, partHolds, partCore}
 use Rattle.part.proofs.Cutting.{Cuttable, links-length, rows-length}
 use Rattle.part.proofs.Trees.{rows-core}
 use Rattle.part_laws.proofs.CutRead.{cut-dimension, cut-first, cut-end, cut-record, cut-stored, cut-data}

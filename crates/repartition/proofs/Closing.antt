@@ -1,20 +1,20 @@
 -- A close on the canonical area.
-use Prim.Native.Nat.{ℕ, zero, suc, _+_, _-_, _*_, _≤_, _<_}
-use native.Mathlib.Nat.{le-refl, mul-suc}
+use Prim.Native.Nat.{ℕ, zero, suc, _+_, _*_, _≤_, _<_}
+use native.Mathlib.Nat.{le-refl}
 use native.Mathlib.Omega.{arith}
 use mathlib.Core.Path.{_≡_, refl, sym, ap, ap₂, _∙_}
-use mathlib.Core.Bool.{Bool, true, false, cond, _&&_}
-use mathlib.Core.List.{List, [], _∷_, _++_, map}
-use lib.Dec.{leb, ltb, eqb}
-use lib.ListN.{length, getD, take, drop}
+use mathlib.Core.Bool.{Bool, true, cond}
+use mathlib.Core.List.{List, [], _++_}
+use lib.Dec.{leb, eqb}
+use lib.ListN.{length, getD, take}
 use lib.Seq.{take-add, take-all}
 use borrow.Author.Tests.{eq-eqb, ne-eqb}
 use Rattle.encoding.specs.Answer.{lengthAnswer, written, writeAnswer}
 use Rattle.encoding.specs.Below.{allBelow, countBelow, leastBelow, keptBelow}
-use Rattle.encoding.specs.Pieces.{piece, Bytes}
+use Rattle.encoding.specs.Pieces.{piece}
 use Rattle.encoding.specs.Refusal.{firstFailed}
 use Rattle.encoding.proofs.Below.{either, all-at, all-same, count-same, count-lt, least-is, kept-same, kept-at, kept-found, kept-ascends}
-use Rattle.offsets.specs.Table.{ranks, trees, firstTree, treeCount, holds}
+use Rattle.offsets.specs.Table.{ranks, firstTree, treeCount}
 use Rattle.pattern.specs.Sender.{sender, sends}
 use Rattle.pattern.specs.Sets.{sendsTo, getsFrom}
 use Rattle.pattern.proofs.Senders.{sends-in}
@@ -23,7 +23,7 @@ use Rattle.records.specs.Links.{rowOf, rowsOf}
 use Rattle.records.specs.Record.{coreSize, treeSize, unused, numberOf, neighbourOf}
 use Rattle.records.specs.Shape.{facesIn}
 use Rattle.records.proofs.Forms.{at-piece}
-use Rattle.mesh.specs.Mesh.{meshHeader, meshDimension, meshTrees, meshCore, meshRecord, meshSound}
+use Rattle.mesh.specs.Mesh.{meshHeader, meshDimension, meshTrees, meshCore, meshRecord}
 use Rattle.part.specs.Ghosts.{isGhost, ghostsOf, ghostPosition}
 use Rattle.part.specs.Cut.{renameRow, renamed, localIndex, partTree, partTrees, partGhosts, ghostCount, cutPart}
 use Rattle.part.specs.Part.{partDimension, partK, partFirst, partCount, partGhostCount, globalTree, storedGhost}
@@ -36,14 +36,14 @@ use Rattle.part_laws.proofs.Views.{view-same}
 use Rattle.message.specs.Rule.{ghostSender}
 use Rattle.message.proofs.Ghosts.{sender-below, sends-some, ghost-sender-lt, ghost-sender-sends}
 use Rattle.assembly.specs.Layout.{slotsOf}
-use Rattle.assembly.specs.Area.{areaDimension, areaK, areaP, areaRank, areaCount, areaGhosts, areaOld, areaNew, areaFirst, heard, treeSlot, treeSlotCore, ghostSlot, areaSound}
+use Rattle.assembly.specs.Area.{areaDimension, areaRank, areaGhosts, areaOld, areaNew, heard, treeSlot, treeSlotCore, ghostSlot}
 use Rattle.assembly.specs.Close.{allHeard, joinSound, joinIndex, joinedPart, closeChecks, closeOf}
 use Rattle.assembly_laws.proofs.Zones.{Reads}
 use Rattle.repartition.proofs.Canonical.{slotHeard, ghostHeard, ghostsHeard, canonical}
 use Rattle.repartition.specs.Run.{Run, Setting}
 use Rattle.repartition.specs.Lists.{allDue}
 use Rattle.repartition.proofs.Receive.{InReceive}
-use Rattle.repartition.proofs.Heard.{Kept, record-core, rank-bit, canonical-reads, heard-kept, canonical-sound}
+use Rattle.repartition.proofs.Heard.{record-core, rank-bit, canonical-reads, heard-kept, canonical-sound}
 
 -- records whose neighbours get the same names
 same-names : (a b : ℕ → ℕ) (F : ℕ) (r : List ℕ) → ((f : ℕ) → f < 6 → a (neighbourOf r f) ≡ b (neighbourOf r f)) → renamed a F r ≡ renamed b F r

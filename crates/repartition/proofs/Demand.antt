@@ -1,34 +1,29 @@
 -- The theorem of demand 3.
-use Prim.Native.Nat.{ℕ, _+_, _-_, _<_, suc, _≤_}
+use Prim.Native.Nat.{ℕ, _+_, _<_, suc, _≤_}
 use native.Mathlib.Nat.{zero-add}
 use native.Mathlib.Omega.{arith}
-use mathlib.Core.Path.{_≡_, refl, sym, ap, ap₂, _∙_}
-use mathlib.Core.Bool.{Bool, true, false, cond, not, _&&_}
+use mathlib.Core.Path.{_≡_, sym, ap, ap₂, _∙_}
+use mathlib.Core.Bool.{Bool, true, false, cond}
 use mathlib.Core.List.{List, [], _∷_, _++_}
 use lib.Dec.{leb, ltb, eqb}
 use lib.ListN.{length, take, drop}
 use lib.Seq.{take-at, drop-at}
-use borrow.Author.Tests.{ltb-true, eq-eqb, eqb-true, leb-true, lt-ltb, le-leb}
+use borrow.Author.Tests.{ltb-true, eq-eqb, lt-ltb, le-leb}
 use Rattle.encoding.specs.Answer.{lengthAnswer, written, writeAnswer}
-use Rattle.encoding.specs.Below.{anyBelow, countBelow}
+use Rattle.encoding.specs.Below.{countBelow}
 use Rattle.encoding.specs.Pieces.{splice}
 use Rattle.encoding.specs.Refusal.{check, firstFailed}
-use Rattle.encoding.proofs.Below.{either, clash, tests, and-fst, and-snd, iff-eq, all-at, any-at, any-intro}
+use Rattle.encoding.proofs.Below.{either, clash, tests, all-at}
 use Rattle.offsets.specs.Table.{ranks, trees, treeCount, holds, firstTree}
-use Rattle.pattern.specs.Sender.{sends, sentFirst, sentCount, Tables}
+use Rattle.pattern.specs.Sender.{sends, Tables}
 use Rattle.pattern.specs.Sets.{sendsTo, getsFrom}
-use Rattle.pattern.proofs.Senders.{sends-true}
-use Rattle.pattern.proofs.Sets.{gets-sends, one-range, sent-in, new-below}
+use Rattle.pattern.proofs.Sets.{gets-sends}
 use Rattle.records.specs.Record.{numberOf}
 use Rattle.mesh.specs.Mesh.{meshDimension, meshTrees, meshCore, meshRecord}
 use Rattle.part.specs.Ghosts.{isGhost}
-use Rattle.message.specs.Layout.{messageTrees, messageTree, messageGhosts, messageGhost}
-use Rattle.message.specs.Build.{meshMessage}
 use Rattle.message.specs.Rule.{ghostGoes}
 use Rattle.message.proofs.Ghosts.{tree-one-message, ghost-one-message}
 use Rattle.assembly.specs.Calls.{openChecks, openAreaOf}
-use Rattle.assembly.specs.Deliver.{among}
-use Rattle.assembly.specs.Layout.{areaSize}
 use Rattle.assembly.specs.Open.{freshArea}
 use Rattle.assembly_laws.proofs.Zones.{area-length}
 use Rattle.repartition.proofs.Canonical.{slotHeard, ghostHeard, ghostsHeard, canonical}
@@ -45,8 +40,8 @@ use Rattle.repartition.specs.Demand.{Demand3, size, heardBy, bytesAfter,
 use Rattle.repartition.proofs.Receive.{InReceive, nobody-receive, hears-receive}
 use Rattle.repartition.proofs.Sequences.{Steps, after-all, answers-all, accepted-times}
 use Rattle.repartition.proofs.Building.{message-of}
-use Rattle.repartition.proofs.Heard.{among-kept, canonical-zones, canonical-agree, canonical-apart, fresh-canonical}
-use Rattle.repartition.proofs.Delivering.{built-trees, built-number, built-kept, deliver-step}
+use Rattle.repartition.proofs.Heard.{canonical-zones, canonical-agree, canonical-apart, fresh-canonical}
+use Rattle.repartition.proofs.Delivering.{deliver-step}
 use Rattle.repartition.proofs.RuleMessages.{trees-in, goes-in}
 use Rattle.repartition.proofs.Records.{front-count, front-ghosts, front-tree, front-ghost}
 use Rattle.repartition.proofs.Closing.{close-step, new-cuttable}

@@ -1,11 +1,11 @@
 -- Document 01's examples in one theorem, and demand 3 applied to the three triangles.
-use Prim.Native.Nat.{ℕ, _+_, _≤_, _<_}
+use Prim.Native.Nat.{ℕ, _+_, _<_}
 use native.Mathlib.Omega.{arith}
-use mathlib.Core.Path.{_≡_, refl, sym, ap, _∙_}
-use mathlib.Core.Bool.{Bool, true, false, cond, _&&_, _||_}
+use mathlib.Core.Path.{_≡_, refl, _∙_}
+use mathlib.Core.Bool.{true, false, cond, _&&_}
 use mathlib.Core.List.{List, [], _∷_, _++_, map}
 use lib.Dec.{leb, ltb, eqb}
-use lib.ListN.{length, getD, take, replicate, List·getD-eq-default}
+use lib.ListN.{length, getD, replicate, List·getD-eq-default}
 use borrow.Author.Tests.{ltb-true, leb-true}
 use Rattle.encoding.specs.Answer.{lengthAnswer, written, writeAnswer}
 use Rattle.encoding.specs.Below.{allBelow, anyBelow, countBelow, leastBelow, sumBelow}
@@ -22,7 +22,7 @@ use Rattle.offsets.specs.Calls.{tableRefusal, rangeRefusal, rangeAnswer, tableR
 use Rattle.pattern.specs.Sender.{leastHolder, sender, sends, sentFirst, sentCount, Tables}
 use Rattle.pattern.specs.Sets.{sendsTo, getsFrom}
 use Rattle.records.specs.Shape.{shapeOk, dimensionOf, faceCount, facesIn, cornersOf, corners}
-use Rattle.records.specs.Record.{unused, numberOf, shapeOf, neighbourOf, codeOf, facesOf, faceOf, orientationOf, tailOk, zerosOk, unusedOk, toItself, boundaryOk, inForm}
+use Rattle.records.specs.Record.{numberOf, shapeOf, neighbourOf, codeOf, facesOf, faceOf, orientationOf, tailOk, zerosOk, unusedOk, toItself, boundaryOk, inForm}
 use Rattle.records.specs.Links.{rowOf, rowsOf, neighbourBytes, codeBytes, withRows}
 use Rattle.mesh.specs.Link.{orientationOk, sameCorners, answered, linkOk}
 use Rattle.mesh.specs.Mesh.{meshDimension, meshTrees, dimensionOk, meshCore, meshRecord, faceSound, treeSound, headerSound, meshSound, meshRefusal}
@@ -34,9 +34,9 @@ use Rattle.message.specs.Layout.{messageHeaderBytes}
 use Rattle.message.specs.Rule.{sendsBeside, considers, sendsGhost, treesFrom, ghostGoes, ghostsGoing, ruleMessage}
 use Rattle.message.specs.Build.{meshMessage}
 use Rattle.assembly.specs.Layout.{heardWords, ghostBound, newPlace, wordsPlace, slotsPlace, ghostSlotsPlace, areaSize}
-use Rattle.repartition.specs.Run.{Run, Setting}
-use Rattle.repartition.specs.Demand.{size, heardBy, bytesAfter, TwoLists}
-use Rattle.repartition.specs.Lists.{Call, deliver, close, nobody, Built, AllBuilt, opened, messageOf, hears, hearsAll, allDue, due, dueAll}
+use Rattle.repartition.specs.Run.{Setting}
+use Rattle.repartition.specs.Demand.{size, heardBy, TwoLists}
+use Rattle.repartition.specs.Lists.{nobody, Built, AllBuilt, hears, hearsAll, allDue, due, dueAll}
 use Rattle.repartition.specs.Examples.{accepted, refused, minus, header, nineTables, sharedTable, words, coreBytes, treeBytes, triangle, three, triangles, oldThree, newThree, builds, partTwo, partOne, solids, Examples, runOne, sevenCalls, sevenAnswers, twoCalls, SevenCalls}
 use Rattle.repartition.proofs.Building.{message-of, build-answer}
 use Rattle.repartition.proofs.Demand.{demand-3}

@@ -2,25 +2,24 @@
 use Prim.Native.Nat.{ℕ, suc, _+_, _≤_, _<_}
 use native.Mathlib.Omega.{arith}
 use mathlib.Core.Path.{_≡_, refl, sym, ap, _∙_}
-use mathlib.Core.Bool.{Bool, true, false, cond, _&&_}
+use mathlib.Core.Bool.{Bool, true, false}
 use mathlib.Core.List.{List, [], _∷_}
-use lib.Dec.{leb, ltb, eqb}
+use lib.Dec.{eqb}
 use lib.ListN.{length}
-use borrow.Author.Tests.{lt-ltb, le-leb, eq-eqb, eqb-true}
+use borrow.Author.Tests.{lt-ltb, le-leb, eq-eqb}
 use Rattle.encoding.specs.Answer.{writeAnswer}
 use Rattle.encoding.specs.Pieces.{Bytes}
 use Rattle.encoding.specs.Refusal.{check, firstFailed}
 use Rattle.encoding.proofs.Below.{either, and-fst, and-snd, and-intro}
 use Rattle.offsets.specs.Limits.{rankCountOk, treeCountOk}
 use Rattle.offsets.specs.Table.{tableLength, ranks, ranksOk, trees, firstTree, treeCount, entriesWithin, countsOk, valid, entry}
-use Rattle.offsets.specs.Partition.{validPartition, endBelow, rangesFit, tableOf, IsTable}
+use Rattle.offsets.specs.Partition.{validPartition, rangesFit, tableOf, IsTable}
 use Rattle.offsets.specs.Leaves.{leavesOk, leafTable}
 use Rattle.offsets.specs.Calls.{tableRefusal, rangeRefusal, rangeAnswer, tableRange, each, partitionOk, writeRefusal, writeTable, leavesRefusal, tableFromLeaves}
 use Rattle.offsets.proofs.Tables.{size}
 use Rattle.offsets.proofs.Partitions.{trees-are, table-of, table-unique, table-fits, shared-means}
 use Rattle.offsets.proofs.LeafCounts.{leaf-table-holds}
 use Rattle.pattern.specs.Sender.{sentFirst, sentCount}
-use Rattle.pattern.specs.Sets.{sendSet, receiveSet}
 use Rattle.pattern.proofs.Counting.{range-true, range-in}
 use Rattle.pattern.proofs.Sets.{send-ascends, receive-ascends, symmetric, one-sender, one-range, received-disjoint, received-covers, received-only}
 use Rattle.mesh.specs.Mesh.{meshTrees, meshSound, meshRefusal}
@@ -31,9 +30,8 @@ use Rattle.part.proofs.Cutting.{Cuttable}
 use Rattle.part_laws.proofs.CutLinks.{cut-answer}
 use Rattle.part_laws.proofs.CutSound.{cut-holds, cut-core, cut-sound}
 use Rattle.message.proofs.Ghosts.{tree-one-message, ghost-one-message}
-use Rattle.repartition.specs.Run.{Run, Setting}
 use Rattle.repartition.specs.Lists.{Built}
-use Rattle.repartition.specs.Promises.{BecomesTable, OneTable, OnlyValid, TableAgain, SharedFirst, LeafTables, Symmetric, OneSender, OneRange, Received, SetsAscend, CutParts, Messages, BuiltInLayout, TreeOneMessage, GhostOneMessage, Demand2}
+use Rattle.repartition.specs.Promises.{BecomesTable, OneTable, OnlyValid, TableAgain, SharedFirst, LeafTables, Received, SetsAscend, CutParts, Messages, BuiltInLayout, TreeOneMessage, GhostOneMessage, Demand2}
 use Rattle.repartition.proofs.Building.{own-record, build-answer}
 use Rattle.repartition.proofs.PartMessages.{part-in-layout}
 use Rattle.repartition.proofs.RuleMessages.{trees-in, goes-in, follows-rule}

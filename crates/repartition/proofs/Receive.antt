@@ -1,8 +1,7 @@
 -- Heard sets within the receive set.
 use Prim.Native.Nat.{ℕ, _<_}
 use mathlib.Core.Path.{_≡_, refl, sym, ap, _∙_}
-use mathlib.Core.Bool.{Bool, true, false, _&&_, _||_}
-use mathlib.Core.List.{List}
+use mathlib.Core.Bool.{Bool, true, _&&_}
 use lib.Dec.{eqb}
 use borrow.Author.Tests.{eqb-true}
 use Rattle.encoding.proofs.Below.{either, clash, and-fst, and-snd}
@@ -10,7 +9,7 @@ use Rattle.offsets.specs.Table.{ranks}
 use Rattle.pattern.specs.Sets.{sendsTo, getsFrom}
 use Rattle.pattern.proofs.Sets.{gets-sends}
 use Rattle.repartition.specs.Run.{Run, Setting}
-use Rattle.repartition.specs.Lists.{Call, deliver, close, Built, hears, nobody}
+use Rattle.repartition.specs.Lists.{deliver, Built, hears, nobody}
 
 -- only ranks of the receive set are heard
 pub record InReceive (run : Run) (H : ℕ → Bool) : Type 0 where

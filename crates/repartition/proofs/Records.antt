@@ -1,5 +1,5 @@
 -- The records of a cut part that stand at the front of a buffer.
-use Prim.Native.Nat.{ℕ, _+_, _*_, _≤_, _<_}
+use Prim.Native.Nat.{ℕ, _+_, _≤_, _<_}
 use native.Mathlib.Omega.{arith}
 use mathlib.Core.Path.{_≡_, sym, ap, _∙_}
 use mathlib.Core.Bool.{true}
@@ -11,7 +11,7 @@ use Rattle.encoding.specs.Pieces.{piece, Bytes}
 use Rattle.encoding.proofs.Below.{kept-found}
 use Rattle.offsets.specs.Table.{firstTree, treeCount}
 use Rattle.records.specs.Shape.{facesIn}
-use Rattle.records.specs.Record.{coreSize, treeSize, numberOf}
+use Rattle.records.specs.Record.{coreSize, numberOf}
 use Rattle.mesh.specs.Mesh.{meshDimension, meshTrees, meshCore}
 use Rattle.mesh.proofs.Soundness.{sound-core, sound-number}
 use Rattle.part.specs.Layout.{treePlace, ghostPlace, partSize}

@@ -2,21 +2,20 @@
 use Prim.Native.Nat.{ℕ, _+_, _-_, _<_}
 use native.Mathlib.Omega.{arith}
 use mathlib.Core.Path.{_≡_, sym, ap, _∙_}
-use mathlib.Core.Bool.{Bool, true, false, _&&_}
+use mathlib.Core.Bool.{Bool, true, _&&_}
 use mathlib.Core.List.{List}
 use lib.Dec.{leb, ltb, eqb}
 use lib.ListN.{getD}
 use borrow.Author.Tests.{ltb-true, leb-true, lt-ltb, eqb-true, eq-eqb}
 use Rattle.encoding.specs.Below.{anyBelow, countBelow, keptBelow}
-use Rattle.encoding.specs.Pieces.{piece}
-use Rattle.encoding.proofs.Below.{either, clash, tests, and-fst, and-snd, iff-eq, any-at, any-intro, kept-found}
-use Rattle.offsets.specs.Table.{ranks, trees}
+use Rattle.encoding.proofs.Below.{either, clash, and-fst, and-snd, iff-eq, any-at, any-intro, kept-found}
+use Rattle.offsets.specs.Table.{trees}
 use Rattle.pattern.specs.Sender.{sends, sentFirst, sentCount}
 use Rattle.pattern.proofs.Senders.{sends-true}
 use Rattle.pattern.proofs.Sets.{one-range, sent-in, new-below}
-use Rattle.records.specs.Record.{treeSize, numberOf}
+use Rattle.records.specs.Record.{numberOf}
 use Rattle.mesh.specs.Mesh.{meshTrees, meshCore, meshRecord}
-use Rattle.message.specs.Layout.{messageTreePlace, messageTrees, messageTree, messageGhosts, messageGhost}
+use Rattle.message.specs.Layout.{messageTrees, messageTree, messageGhosts, messageGhost}
 use Rattle.message.specs.Rule.{sendsGhost, ghostGoes}
 use Rattle.message.specs.Build.{meshMessage}
 use Rattle.assembly.specs.Deliver.{among}

@@ -1,5 +1,5 @@
 -- From one step to every list of calls. What a step does is given here; Delivering and Closing show it.
-use Prim.Native.Nat.{ℕ, _+_, _<_}
+use Prim.Native.Nat.{ℕ, _+_}
 use native.Mathlib.Nat.{zero-add}
 use mathlib.Core.Path.{_≡_, refl, sym, ap, ap₂, _∙_}
 use mathlib.Core.Bool.{Bool, true, false, cond, not, _&&_, _||_}
@@ -8,14 +8,13 @@ use lib.Dec.{leb, eqb}
 use lib.ListN.{length}
 use borrow.Author.Tests.{eqb-true, eq-eqb, not-true}
 use Rattle.encoding.specs.Answer.{writeAnswer}
-use Rattle.encoding.specs.declared.answer.Length.{Length}
 use Rattle.encoding.proofs.Below.{either, clash, and-fst, and-snd, and-intro}
 use Rattle.part.specs.Cut.{cutPart}
 use Rattle.assembly.specs.Deliver.{deliverOf}
 use Rattle.assembly.specs.Close.{closeOf}
 use Rattle.repartition.proofs.Canonical.{canonical}
 use Rattle.repartition.specs.Run.{Run, Setting}
-use Rattle.repartition.specs.Lists.{Call, deliver, close, Answer, delivery, closing, countIn, Built, AllBuilt, messageOf, areaAfter, answerOf, areaAfterAll, answersOf, acceptedBy, hears, hearsAll, allDue, due, dueAll}
+use Rattle.repartition.specs.Lists.{Call, deliver, close, Answer, countIn, Built, AllBuilt, messageOf, areaAfter, answerOf, areaAfterAll, answersOf, acceptedBy, hears, hearsAll, allDue, due, dueAll}
 use Rattle.repartition.proofs.Receive.{InReceive, hears-receive}
 
 module _ (run : Run) (S : Setting run) where

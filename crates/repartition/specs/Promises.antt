@@ -83,20 +83,20 @@ OneSender =
     → (p : ℕ) × (p < ranks old) × (sends old new p q k ≡ true) × (holds old p k ≡ true) × ((r : ℕ) → sends old new r q k ≡ true → r ≡ p)
 
 -- tree k is in the range from p to q that the call trees_sent gives
-abbrev pub inRange : List ℕ → List ℕ → ℕ → ℕ → ℕ → Bool
-inRange old new p q k = leb (sentFirst old new p q) k && ltb k (sentFirst old new p q + sentCount old new p q)
+abbrev pub inSentRange : List ℕ → List ℕ → ℕ → ℕ → ℕ → Bool
+inSentRange old new p q k = leb (sentFirst old new p q) k && ltb k (sentFirst old new p q + sentCount old new p q)
 
 -- the trees from p to q form that one range
 abbrev pub OneRange : Type 0
 OneRange =
     (old new : List ℕ) → Tables old new → (p q : ℕ) → p < ranks old → q < ranks old → (k : ℕ) → k < trees old
-    → sends old new p q k ≡ inRange old new p q k
+    → sends old new p q k ≡ inSentRange old new p q k
 
 -- the ranges that q receives are disjoint and cover f'(q)
 pub record RangesReceived (old new : List ℕ) (q : ℕ) : Type 0 where
-  pub disjoint : (p r k : ℕ) → p < ranks old → r < ranks old → inRange old new p q k ≡ true → inRange old new r q k ≡ true → p ≡ r
-  pub covers : (k : ℕ) → holds new q k ≡ true → (p : ℕ) × (member p (receiveSet old new q) ≡ true) × (inRange old new p q k ≡ true)
-  pub no-more : (p k : ℕ) → p < ranks old → inRange old new p q k ≡ true → holds new q k ≡ true
+  pub disjoint : (p r k : ℕ) → p < ranks old → r < ranks old → inSentRange old new p q k ≡ true → inSentRange old new r q k ≡ true → p ≡ r
+  pub covers : (k : ℕ) → holds new q k ≡ true → (p : ℕ) × (member p (receiveSet old new q) ≡ true) × (inSentRange old new p q k ≡ true)
+  pub no-more : (p k : ℕ) → p < ranks old → inSentRange old new p q k ≡ true → holds new q k ≡ true
 
 abbrev pub Received : Type 0
 Received = (old new : List ℕ) → Tables old new → (q : ℕ) → q < ranks old → RangesReceived old new q

@@ -28,7 +28,7 @@ use Rattle.part.specs.Part.{partSound}
 use Rattle.part.specs.Calls.{rankChecks, cutChecks, cutPartOf, partRefusal}
 use Rattle.part.proofs.Cutting.{Cuttable}
 use Rattle.part_laws.proofs.CutLinks.{cut-answer}
-use Rattle.part_laws.proofs.CutSound.{cut-holds, cut-core, cut-sound}
+use Rattle.part_laws.proofs.CutSound.{cut-holds, held-below, cut-core, cut-sound}
 use Rattle.message.proofs.Ghosts.{tree-one-message, ghost-one-message}
 use Rattle.repartition.specs.Lists.{Built}
 use Rattle.repartition.specs.Promises.{BecomesTable, OneTable, OnlyValid, TableAgain, SharedFirst, LeafTables, Received, SetsAscend, CutParts, Messages, BuiltInLayout, TreeOneMessage, GhostOneMessage, Demand2}
@@ -178,6 +178,7 @@ cut-parts mesh table rank mb tb passes below sound same =
       writes = writes-part mesh table rank ok mb tb;
       sound = accepts-part mesh table rank ok mb tb;
       held = cut-holds mesh table rank ok mb tb;
+      held-below = held-below mesh table rank ok mb tb;
       cores = cut-core mesh table rank ok mb tb;
       records = own-record mesh table rank ok mb tb;
       links = λ i f h l. cut-answer mesh table rank ok mb tb i h f l;

@@ -117,6 +117,7 @@ pub record PartOf (mesh table : List ℕ) (rank : ℕ) (part : List ℕ) : Type 
   pub sound : partRefusal part table rank ≡ 0
   -- it holds the trees of f(p) and its ghosts, and no other
   pub held : (k : ℕ) → k < meshTrees mesh → partHolds part k ≡ (holds table rank k || isGhost (meshCore mesh) table rank k)
+  pub held-below : (k : ℕ) → partHolds part k ≡ true → k < meshTrees mesh
   -- each with the mesh's core, and each tree with the mesh's data
   pub cores : (k : ℕ) → partHolds part k ≡ true → partCore part k ≡ meshCore mesh k
   pub records : (k : ℕ) → holds table rank k ≡ true → partRecord part k ≡ meshRecord mesh k

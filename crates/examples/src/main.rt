@@ -37,20 +37,18 @@ fn signed(n: u64) {
     }
 }
 
-// A rank below 3, or what stands for none.
+// A rank below 3, or −1 or −2, which stand for none.
 fn show_rank(n: i32) {
     if n == 0 {
-        text(b" 0");
+        word(0);
     } else if n == 1 {
-        text(b" 1");
+        word(1);
     } else if n == 2 {
-        text(b" 2");
+        word(2);
     } else if n == -1 {
-        text(b" -1");
-    } else if n == -2 {
-        text(b" -2");
+        signed(18446744073709551615);
     } else {
-        text(b" more");
+        signed(18446744073709551614);
     }
 }
 
@@ -180,20 +178,18 @@ fn show_numbers(bs: &[u8], wide: bool) {
 
 // ---- calls
 
-// Puts number k of a list at its place, and answers the length of the list: of numbers of eight bytes, or of four, where the last may be cut.
+// Puts number k of a list at its place, and answers the length of the list: of numbers of eight bytes, or of four, where the last may be cut. What is written behind it isn't kept.
 fn load(size: u32, z: u64, k: usize, out: &mut [u8]) -> u64 {
-    if 70 <= k {
-        return 0;
-    }
-    if out.len() < 8 * k + 8 {
+    let at = 8 * (k % 128);
+    if out.len() < at + 8 {
         return 0;
     }
     if size == 8 {
-        encoding::bytes::write_u64(out, 8 * k, z);
-        return (8 * k + 8) as u64;
+        encoding::bytes::write_u64(out, at, z);
+        return at as u64 + 8;
     }
-    encoding::bytes::write_u32(out, 4 * k, (z % 4294967296) as u32);
-    (4 * k) as u64 + size as u64
+    encoding::bytes::write_u64(out, at / 2, z);
+    at as u64 / 2 + size as u64
 }
 
 fn bytes_call(op: u64, a: &[u8], x: u32, z: u64, k: usize, out: &mut [u8]) -> u64 {
@@ -211,26 +207,9 @@ fn bytes_call(op: u64, a: &[u8], x: u32, z: u64, k: usize, out: &mut [u8]) -> u6
     0
 }
 
-fn table_call(op: u64, a: &[u8], b: &[u8], z: u32, out: &mut [u8]) -> u64 {
-    if op == 10 {
-        refusal(offsets::check_table(a));
-        return 0;
-    }
-    if op == 11 {
-        show_range(offsets::table_range(a, z));
-        return 0;
-    }
-    if op == 12 {
-        return show_length(offsets::table_length(z));
-    }
-    let mut xs = numbers();
-    let m = read_list(a, &mut xs);
-    if op == 13 {
-        return show_length(offsets::table_from_leaves(z, &xs[..m], out));
-    }
-    let mut ys = numbers();
-    let n = read_list(b, &mut ys);
-    show_length(offsets::write_table(z, &xs[..m], &ys[..n], out))
+fn show_sender(s: pattern::SenderAnswer) {
+    refusal(s.refusal);
+    show_rank(s.sender);
 }
 
 fn show_ranks(r: pattern::Ranks, xs: &[u32]) {
@@ -241,10 +220,10 @@ fn show_ranks(r: pattern::Ranks, xs: &[u32]) {
     show_list(xs);
 }
 
-// The first set or the second, in the first bytes of a list.
-fn set_call(op: u64, a: &[u8], b: &[u8], x: u32, room: usize, xs: &mut [u32]) {
+// The first set or the second, in the first places of a list.
+fn set_in(op: u64, a: &[u8], b: &[u8], x: u32, room: usize, xs: &mut [u32]) {
     if room <= xs.len() {
-        if op == 22 {
+        if op == 24 {
             let r = pattern::send_set(a, b, x, &mut xs[..room]);
             show_ranks(r, xs);
         } else {
@@ -254,20 +233,9 @@ fn set_call(op: u64, a: &[u8], b: &[u8], x: u32, room: usize, xs: &mut [u32]) {
     }
 }
 
-fn pattern_call(op: u64, a: &[u8], b: &[u8], x: u32, z: u32) -> u64 {
-    if op == 20 {
-        let s = pattern::sender_of(a, b, z, x);
-        refusal(s.refusal);
-        show_rank(s.sender);
-        return 0;
-    }
-    if op == 21 {
-        show_range(pattern::trees_sent(a, b, x, z));
-        return 0;
-    }
+fn set_call(op: u64, a: &[u8], b: &[u8], x: u32, z: u32) {
     let mut xs = [9u32; 4];
-    set_call(op, a, b, x, z as usize, &mut xs);
-    0
+    set_in(op, a, b, x, z as usize, &mut xs);
 }
 
 fn show_neighbour(n: part::neighbour::NeighbourAnswer) {
@@ -279,72 +247,87 @@ fn show_neighbour(n: part::neighbour::NeighbourAnswer) {
     word32(n.orientation);
 }
 
-fn part_call(op: u64, a: &[u8], b: &[u8], x: u32, y: u32, z: u32, out: &mut [u8]) -> u64 {
-    if op == 30 {
-        refusal(mesh::check_mesh(a));
-        return 0;
-    }
-    if op == 31 {
-        return show_length(part::part_length(a, b, z));
-    }
-    if op == 32 {
-        return show_length(part::cut_part(a, b, z, out));
-    }
-    if op == 33 {
-        refusal(part::check_part(a, b, z));
-        return 0;
-    }
-    if op == 34 {
-        show_neighbour(part::neighbour::flat(part::neighbour_of(a, b, x, LocalIndex(y), z)));
-        return 0;
-    }
-    let f = part::find_record(a, b, GlobalIndex(z));
+fn show_found(f: part::Found) {
     refusal(f.which);
     word(f.offset);
-    0
 }
 
-fn reader_call(op: u64, a: &[u8], z: u64) -> u64 {
-    if op == 40 {
-        show_length(message::begin_reading(a));
-        return 0;
-    }
-    if op == 41 {
-        show_record(message::record_at(a, z));
-        return 0;
-    }
-    show_record(message_reader::read(a, z));
-    let f = message_reader::after(a, z);
+fn read_call(message: &[u8], place: u64) {
+    show_record(message_reader::read(message, place));
+    let f = message_reader::after(message, place);
     word(f.remain);
     word(f.at);
-    0
 }
 
-fn message_call(
-    op: u64,
-    a: &[u8],
-    b: &[u8],
-    c: &[u8],
-    x: u32,
-    y: u32,
-    z: u32,
-    out: &mut [u8],
-) -> u64 {
-    if op == 50 {
-        return show_length(message_build::build_message(a, b, c, x, y, z, out));
+// Calls that write nothing.
+fn ask(op: u64, a: &[u8], b: &[u8], x: u32, y: u32, z: u32, place: u64) {
+    if op == 10 {
+        refusal(offsets::check_table(a));
+    } else if op == 11 {
+        show_range(offsets::table_range(a, z));
+    } else if op == 12 {
+        show_length(offsets::table_length(z));
+    } else if op == 13 {
+        show_sender(pattern::sender_of(a, b, z, x));
+    } else if op == 14 {
+        show_range(pattern::trees_sent(a, b, x, z));
+    } else if op == 15 {
+        refusal(mesh::check_mesh(a));
+    } else if op == 16 {
+        show_length(part::part_length(a, b, z));
+    } else if op == 17 {
+        refusal(part::check_part(a, b, z));
+    } else if op == 18 {
+        show_neighbour(part::neighbour::flat(part::neighbour_of(a, b, x, LocalIndex(y), z)));
+    } else if op == 19 {
+        show_found(part::find_record(a, b, GlobalIndex(z)));
+    } else if op == 20 {
+        show_length(message::begin_reading(a));
+    } else if op == 21 {
+        show_record(message::record_at(a, place));
+    } else if op == 22 {
+        read_call(a, place);
+    } else {
+        set_call(op, a, b, x, z);
     }
-    if op == 51 {
-        return show_length(assembly::open_area(a, b, x, y, z, out));
+}
+
+// A table from leaf counts, or from first trees and counts.
+fn table_call(op: u64, a: &[u8], b: &[u8], z: u32, out: &mut [u8]) -> Length {
+    let mut xs = numbers();
+    let m = read_list(a, &mut xs);
+    if op == 50 {
+        return offsets::table_from_leaves(z, &xs[..m], out);
+    }
+    let mut ys = numbers();
+    let n = read_list(b, &mut ys);
+    offsets::write_table(z, &xs[..m], &ys[..n], out)
+}
+
+// Calls that write.
+fn make(op: u64, a: &[u8], b: &[u8], c: &[u8], x: u32, y: u32, z: u32, out: &mut [u8]) -> Length {
+    if op < 52 {
+        return table_call(op, a, b, z, out);
     }
     if op == 52 {
-        store(&mut *out, 0, a);
-        refusal(deliver::deliver(out, b));
-        return a.len() as u64;
+        return part::cut_part(a, b, z, out);
     }
-    show_length(close::close_area(a, out))
+    if op == 53 {
+        return message_build::build_message(a, b, c, x, y, z, out);
+    }
+    if op == 54 {
+        return assembly::open_area(a, b, x, y, z, out);
+    }
+    if op == 55 {
+        store(&mut *out, 0, a);
+        let refusal = deliver::deliver(out, b);
+        return Length {
+            refusal,
+            length: a.len() as u64,
+        };
+    }
+    close::close_area(a, out)
 }
-
-// ---- lines
 
 // The plan of the text of so many bytes that begins x bytes in front of the line.
 fn plan_call(past: &[u8], x: u64, z: u64, out: &mut [u8]) -> u64 {
@@ -354,6 +337,8 @@ fn plan_call(past: &[u8], x: u64, z: u64, out: &mut [u8]) -> u64 {
     text(piece(out, 0, n));
     n
 }
+
+// ---- lines
 
 // Call k of a line.
 fn call(w: &[u64; 96], k: usize, past: &[u8], memory: &[u8], out: &mut [u8]) -> u64 {
@@ -370,22 +355,14 @@ fn call(w: &[u64; 96], k: usize, past: &[u8], memory: &[u8], out: &mut [u8]) -> 
     if op < 10 {
         return bytes_call(op, a, x, wide, k, out);
     }
-    if op < 20 {
-        return table_call(op, a, b, z, out);
-    }
-    if op < 24 {
-        return pattern_call(op, a, b, x, z);
-    }
-    if op < 30 {
-        return plan_call(past, w[24], wide, out);
-    }
     if op < 40 {
-        return part_call(op, a, b, x, y, z, out);
+        ask(op, a, b, x, y, z, wide);
+        return 0;
     }
     if op < 50 {
-        return reader_call(op, a, wide);
+        return plan_call(past, x as u64, wide, out);
     }
-    message_call(op, a, b, piece(memory, w[5], w[6]), x, y, z, out)
+    show_length(make(op, a, b, piece(memory, w[5], w[6]), x, y, z, out))
 }
 
 // The calls of a line, in the room for what they write. Answers the length of what the last wrote.
@@ -403,15 +380,14 @@ fn calls(w: &[u64; 96], last: usize, past: &[u8], memory: &[u8], out: &mut [u8])
     n
 }
 
+// Runs a line and puts what was written in the memory. The room is full of bytes 170 before; the place behind the last that changed is shown.
 fn run(w: &[u64; 96], last: usize, past: &[u8], memory: &mut [u8]) {
-    if w[17] == 0 {
-        return;
-    }
     let mut out = blank();
     let n = calls(w, last, past, &*memory, &mut out);
-    if w[15] != 0 {
+    let end = written(&out);
+    if 0 < end {
         text(b" wrote");
-        word(written(&out) as u64);
+        word(end as u64);
         store(memory, w[15], piece(&out, 0, n));
     }
 }

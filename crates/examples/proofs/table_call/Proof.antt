@@ -5,33 +5,6 @@ use borrow.Author.Needs.{needs}
 use Rattle.examples.proofs.table_call.Statement.{statement}
 use Rattle.examples.proofs.table_call.Tie as tie
 
-check-table-requires : tie.Need-check-table-requires
-check-table-requires c κs = search needs
-
-refusal-requires : tie.Need-refusal-requires
-refusal-requires c κs = search needs
-
-returns : tie.Need-returns
-returns c = search needs
-
-table-range-requires : tie.Need-table-range-requires
-table-range-requires c κs = search needs
-
-show-range-requires : tie.Need-show-range-requires
-show-range-requires c κs = search needs
-
-returns-2 : tie.Need-returns-2
-returns-2 c = search needs
-
-table-length-requires : tie.Need-table-length-requires
-table-length-requires c κs = search needs
-
-show-length-requires : tie.Need-show-length-requires
-show-length-requires c κs = search needs
-
-returns-3 : tie.Need-returns-3
-returns-3 c = search needs
-
 numbers-requires : tie.Need-numbers-requires
 numbers-requires c κs = search needs
 
@@ -50,14 +23,11 @@ slice-aggregate-table-from-leaves c = sym (length-take-le _ _ (omega arith))
 table-from-leaves-requires : tie.Need-table-from-leaves-requires
 table-from-leaves-requires c κs = search needs
 
-show-length-requires-2 : tie.Need-show-length-requires-2
-show-length-requires-2 c κs = search needs
-
 same-length : tie.Need-same-length
 same-length c = search needs
 
-returns-4 : tie.Need-returns-4
-returns-4 c = search needs
+returns : tie.Need-returns
+returns c = search needs
 
 numbers-requires-2 : tie.Need-numbers-requires-2
 numbers-requires-2 c κs = search needs
@@ -83,37 +53,24 @@ slice-aggregate-write-table-2 c = sym (length-take-le _ _ (omega arith))
 write-table-requires : tie.Need-write-table-requires
 write-table-requires c κs = search needs
 
-show-length-requires-3 : tie.Need-show-length-requires-3
-show-length-requires-3 c κs = search needs
-
 same-length-2 : tie.Need-same-length-2
 same-length-2 c = search needs
 
-returns-5 : tie.Need-returns-5
-returns-5 c = search needs
+returns-2 : tie.Need-returns-2
+returns-2 c = search needs
 
 pub table-call-spec : {M : Type 1} → statement M
 table-call-spec =
     tie.close
     (tie.spec
-    check-table-requires
-    refusal-requires
-    returns
-    table-range-requires
-    show-range-requires
-    returns-2
-    table-length-requires
-    show-length-requires
-    returns-3
     numbers-requires
     slice-aggregate-read-list
     read-list-requires
     array-share-prefix-xs
     slice-aggregate-table-from-leaves
     table-from-leaves-requires
-    show-length-requires-2
     same-length
-    returns-4
+    returns
     numbers-requires-2
     slice-aggregate-read-list-2
     read-list-requires-2
@@ -122,6 +79,5 @@ table-call-spec =
     array-share-prefix-ys
     slice-aggregate-write-table-2
     write-table-requires
-    show-length-requires-3
     same-length-2
-    returns-5)
+    returns-2)

@@ -2,8 +2,8 @@ use lib.Seq.{length-take-le}
 use native.Mathlib.Omega.{arith}
 use mathlib.Core.Path.{sym}
 use borrow.Author.Needs.{needs}
-use Rattle.examples.proofs.set_call.Statement.{statement}
-use Rattle.examples.proofs.set_call.Tie as tie
+use Rattle.examples.proofs.set_in.Statement.{statement}
+use Rattle.examples.proofs.set_in.Tie as tie
 
 slice-relend-prefix-send-set : tie.Need-slice-relend-prefix-send-set
 slice-relend-prefix-send-set c = search needs
@@ -44,8 +44,8 @@ returns-2 c = search needs
 returns-3 : tie.Need-returns-3
 returns-3 c = search needs
 
-pub set-call-spec : {M : Type 1} → statement M
-set-call-spec =
+pub set-in-spec : {M : Type 1} → statement M
+set-in-spec =
     tie.close
     (tie.spec
     slice-relend-prefix-send-set

@@ -20,6 +20,14 @@ use pattern::SenderAnswer;
 use records::index::GlobalIndex;
 use records::index::LocalIndex;
 
+// 10000 major + 100 minor + patch
+#[no_mangle]
+pub extern "C" fn vejgodat_version() -> u32
+    ensures { λ r. ⌜ r ≡ 200 ⌝ }
+{
+    200
+}
+
 #[no_mangle]
 pub extern "C" fn vejgodat_check_table(table: &[u8]) -> u32
     ensures { λ r. ⌜ r ≡ tableRefusal (now (table .entry)) ⌝ }

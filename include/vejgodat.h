@@ -230,8 +230,9 @@
  * numbers, and each is made of all arguments before the next one is made of
  * any: of two tables, a bad length (2) decides before bad entries (3),
  * whichever of the two has them. The numbers of this header's calls are those
- * of \ref VEJGODAT_OK and the names that follow it. \ref vejgodat_lookup alone
- * has nothing to refuse.
+ * of \ref VEJGODAT_OK and the names that follow it, and
+ * \ref vejgodat_refusal_text has words for them. Only \ref vejgodat_lookup and
+ * \ref vejgodat_version have nothing to refuse.
  *
  * Where a call refuses, every other field of its result is 0 and every buffer
  * has the bytes that it had before. Where it accepts, it writes the beginning

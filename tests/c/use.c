@@ -498,6 +498,11 @@ messages (void)
       EXPECT (memcmp (message, bytes, sizeof message) == 0);
       EXPECT (vejgodat_check_message (message, at) == VEJGODAT_OK);
       EXPECT (vejgodat_check_message (message, at + 1) == VEJGODAT_LAYOUT);
+      /* of the first tree: an orientation where it meets another tree is no matter of layout, one at the boundary is */
+      message[32 + 32] ^= 4;
+      EXPECT (vejgodat_check_message (message, at) == VEJGODAT_OK);
+      message[32 + 34] ^= 4;
+      EXPECT (vejgodat_check_message (message, at) == VEJGODAT_LAYOUT);
 
       memset (message, 0x5a, sizeof message);
       memset (bytes, 0x5a, sizeof bytes);
@@ -611,6 +616,15 @@ areas (void)
               == answer.length);
       EXPECT (memcmp (joined, part, 256) == 0);
       EXPECT (memcmp (area, before, sizeof area) == 0);
+
+      /* the first slot with an orientation at its boundary; then with a shape of the other dimension */
+      area[VEJGODAT_AREA_BYTES (3, 0, 4) + 34] ^= 4;
+      EXPECT (vejgodat_progress_of (area, area_len).refusal == VEJGODAT_AREA);
+      area[VEJGODAT_AREA_BYTES (3, 0, 4) + 34] ^= 4;
+      area[VEJGODAT_AREA_BYTES (3, 0, 4) + 4] = 2;
+      EXPECT (vejgodat_progress_of (area, area_len).refusal == VEJGODAT_OK);
+      EXPECT (vejgodat_close_area (area, area_len, joined, 256).refusal
+              == VEJGODAT_JOIN);
     }
   }
 }

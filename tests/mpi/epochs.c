@@ -430,8 +430,8 @@ main (int argc, char **argv)
   sums[1] = mix (orders, &me, sizeof me);
   MPI_Allreduce (sums, sums + 2, 2, MPI_UINT64_T, MPI_BXOR, MPI_COMM_WORLD);
   if (rank == 0) {
-    if (shapes != 63) {
-      printf ("not every shape was there\n");
+    if (shapes != 63 || (ranks > 1 && (all[1] == 0 || most_shared < 2))) {
+      printf ("not every shape, no empty rank or no shared tree was there\n");
       ++any;
     }
     printf ("ranks=%u parts=%lu empty=%lu shared=%u ghosts=%lu messages=%lu"

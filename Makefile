@@ -3,15 +3,16 @@ PREFIX = /usr/local
 INSTALL = install
 
 archive = target/staticlib/libvejgodat.a
+sources := crates.txt $(shell find crates -type f)
 number := $(shell sed -n 's/^\#define VEJGODAT_VERSION //p' include/vejgodat.h)
 version := $(shell echo $$(( $(number) / 10000 )).$$(( $(number) / 100 % 100 )).$$(( $(number) % 100 )))
 notice := $(wildcard LICENSE LICENCE COPYING NOTICE)
 
 all: $(archive)
 
-# an archive that is there is taken as it is: `make -B` makes it anew
-$(archive):
+$(archive): $(sources)
 	rt staticlib vejgodat
+	@touch $@
 
 target/vejgodat.pc: include/vejgodat.h Makefile FORCE
 	@mkdir -p target

@@ -52,6 +52,9 @@ counts() {
     exit
 }
 
+# whether the archive is there and newer than every source
+fresh_archive() { [ -f "$archive" ] && [ -z "$(find crates.txt crates -newer "$archive" -print -quit)" ]; }
+
 # the archive, proved and built from the sources as they stand
 need_archive() {
     local log

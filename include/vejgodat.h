@@ -903,7 +903,8 @@ vejgodat_found      vejgodat_lookup (const uint8_t * trees, size_t trees_len,
  * and a face is below 4 in dimension 2 and below 6 in dimension 3.
  *
  * The tree data of a part may be written at any time, 24 bytes from
- * \ref vejgodat_part_place + 40 on; the part stays sound.
+ * \ref vejgodat_part_place + 40 on; the part stays sound. A tree on several
+ * ranks has its data on each of them, and a message takes its sender's.
  * @{ */
 
 /** Read four little-endian bytes at any address. */

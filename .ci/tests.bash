@@ -20,8 +20,8 @@ test_of() {
     fi
 }
 
-# install PACKAGE..: by apt-get, with fresh lists where it doesn't go without
-install() {
+# fetch PACKAGE..: by apt-get, with fresh lists where it doesn't go without
+fetch() {
     local log
     command -v apt-get >/dev/null || return
     log=$(mktemp)
@@ -38,7 +38,7 @@ need() {
     command -v "$command" >/dev/null && return
     if [ $# -gt 0 ]; then
         printf '%s is missing: apt-get install -y %s\n' "$command" "$*"
-        install "$@"
+        fetch "$@"
         command -v "$command" >/dev/null && return
     fi
     printf 'FAILED  %s is missing and was not installed\n' "$command"

@@ -6,6 +6,7 @@
 #include <vejgodat.h>
 
 #include <stdio.h>
+#include <string.h>
 
 #define MOST_RANKS 1024
 #define MOST_MOVES (3 * MOST_RANKS)
@@ -161,13 +162,13 @@ draw_move (const move * m, const unsigned long done[2])
   put (b), put (middle), put (b), put (top), printf (" Z\">");
   printf ("<title>rank %u to rank %u: trees %u to %u</title></path>\n",
           m->sender, m->receiver, m->first, m->last);
-  if (b - a >= 250) {
-    if (m->first == m->last) {
-      sprintf (text, "%u", m->first);
-    }
-    else {
-      sprintf (text, "%u to %u", m->first, m->last);
-    }
+  if (m->first == m->last) {
+    sprintf (text, "%u", m->first);
+  }
+  else {
+    sprintf (text, "%u to %u", m->first, m->last);
+  }
+  if (b - a >= 80 * (long) strlen (text)) {
     put_text ((a + b + c + d) / 4, middle + 40, text);
   }
 }

@@ -14,17 +14,18 @@ use Rattle.records.specs.Links.{cell, rowsOf, neighbourBytes, codeBytes, withRo
 use Rattle.records.proofs.Rows.{splice-inside, rows-hold}
 use Rattle.part.specs.Layout.{partHeader}
 use Rattle.part.specs.Cut.{renamed, renameRow}
-use Rattle.part.specs.Mirror.{localRead, rowsWith}
-use Rattle.part.proofs.Cutting.{links-length, rows-length}
-use Rattle.part.proofs.Trees.{splice-over, with-hold, with-rows, read-word, rows-core}
-use Rattle.assembly.specs.Layout.{newPlace, wordsPlace, slotsOf}
-use Rattle.assembly.specs.Area.{areaP, areaRank, areaCount, areaNew, areaFirst}
-use Rattle.assembly.specs.Mirror.{HeaderHolds}
-use Rattle.assembly.proofs.Headers.{tabled}
-use Rattle.assembly.proofs.Slots.{range-trees}
-use Rattle.assembly_laws.proofs.Joined.{slots-length}
-use Rattle.assembly_laws.proofs.Zones.{few-trees}
-use Rattle.close.specs.Mirror.{SlotRoom, SlotsRoom, slotRecord}
+use Rattle.part_cut.specs.Means.{localRead}
+use Rattle.part.specs.Means.{rowsWith}
+use Rattle.part.proofs.Records.{links-length, rows-length, splice-over, with-hold, with-rows, rows-core}
+use Rattle.part_cut.proofs.Trees.{read-word}
+use Rattle.area.specs.Layout.{newPlace, wordsPlace, slotsOf}
+use Rattle.area.specs.Area.{areaP, areaRank, areaCount, areaNew, areaFirst}
+use Rattle.area.specs.Means.{HeaderHolds}
+use Rattle.area.proofs.Headers.{tabled}
+use Rattle.area.proofs.Ranges.{range-trees}
+use Rattle.area_theorems.proofs.Joined.{slots-length}
+use Rattle.area_theorems.proofs.Zones.{few-trees}
+use Rattle.close.specs.Means.{SlotRoom, SlotsRoom, slotRecord}
 
 -- ---- the range
 

@@ -13,8 +13,8 @@ use Rattle.offsets.specs.Limits.{treeCountOk}
 use Rattle.records.specs.Shape.{dimensionOf, faceCount}
 use Rattle.records.specs.Record.{coreSize, treeSize, numberOf, shapeOf, neighbourOf, inForm}
 use Rattle.mesh.specs.Mesh.{meshHeader, meshDimension, meshTrees, dimensionOk, meshCore, headerSound, meshSound}
-use Rattle.mesh.specs.Mirror.{cornersQuick, answeredQuick, faceQuick, treeQuick}
-use Rattle.mesh.proofs.Quick.{trees-quick}
+use Rattle.mesh.specs.Means.{linkByDimension, faceByDimension, treeByDimension}
+use Rattle.mesh.proofs.ByDimension.{trees-by-dimension}
 
 module _ (m : List ℕ) where
   -- no header fits
@@ -26,23 +26,22 @@ module _ (m : List ℕ) where
   unfolding headerSound
   header-read e t p q r = rw (p, q, r, e, t)
 
-  pub sound-read : {d K : ℕ} {r : Bool} → headerSound m ≡ true → d ≡ meshDimension m → K ≡ meshTrees m → r ≡ allBelow K (treeQuick (meshCore m) d K) → r ≡ meshSound m
+  pub sound-read : {d K : ℕ} {r : Bool} → headerSound m ≡ true → d ≡ meshDimension m → K ≡ meshTrees m → r ≡ allBelow K (treeByDimension (meshCore m) d K) → r ≡ meshSound m
   unfolding meshSound
-  sound-read {d} {K} h e t p = rw (p, trees-quick (meshCore m) d K, h, e, t)
+  sound-read {d} {K} h e t p = rw (p, trees-by-dimension (meshCore m) d K, h, e, t)
 
   module _ (d K k : ℕ) {at : ℕ} (here : at ≡ meshHeader + treeSize * k) where
     -- the neighbour isn't below K
-    pub face-outside : (n f : ℕ) → n ≡ neighbourOf (piece m at coreSize) f → K ≤ n → faceQuick (meshCore m) d K k f ≡ false
-    unfolding faceQuick meshCore
+    pub face-outside : (n f : ℕ) → n ≡ neighbourOf (piece m at coreSize) f → K ≤ n → faceByDimension (meshCore m) d K k f ≡ false
+    unfolding faceByDimension meshCore
     face-outside n f e h = rw (← here, ← e, le-ltb n K h)
 
-    pub face-read : {a b : Bool} (n to f : ℕ) → n ≡ neighbourOf (piece m at coreSize) f → n < K → to ≡ meshHeader + treeSize * n
-        → a ≡ cornersQuick d (piece m at coreSize) f (piece m to coreSize) → b ≡ answeredQuick d k (piece m at coreSize) f (piece m to coreSize)
-        → (a && b) ≡ faceQuick (meshCore m) d K k f
-    unfolding faceQuick meshCore
-    face-read n to f e h there p q = rw (← here, ← e, lt-ltb n K h, ← there, p, q)
+    pub face-read : {r : Bool} (n to f : ℕ) → n ≡ neighbourOf (piece m at coreSize) f → n < K → to ≡ meshHeader + treeSize * n
+        → r ≡ linkByDimension d k (piece m at coreSize) f (piece m to coreSize) → r ≡ faceByDimension (meshCore m) d K k f
+    unfolding faceByDimension meshCore
+    face-read n to f e h there p = rw (← here, ← e, lt-ltb n K h, ← there, p)
 
     pub tree-read : {a q : Bool} {number shape dimension faces : ℕ} → shape ≡ shapeOf (piece m at coreSize) → a ≡ inForm k (piece m at coreSize) → number ≡ numberOf (piece m at coreSize) → dimension ≡ dimensionOf shape → faces ≡ faceCount shape
-        → q ≡ allBelow faces (faceQuick (meshCore m) d K k) → (a && eqb number k && eqb dimension d && q) ≡ treeQuick (meshCore m) d K k
-    unfolding treeQuick meshCore
+        → q ≡ allBelow faces (faceByDimension (meshCore m) d K k) → (a && eqb number k && eqb dimension d && q) ≡ treeByDimension (meshCore m) d K k
+    unfolding treeByDimension meshCore
     tree-read e p n r s t = rw (← here, p, n, r, t, s, e)

@@ -1,5 +1,5 @@
 -- Laws, for this crate's proofs and for the crates above.
 pub mod Soundness
-pub mod Quick
+pub mod ByDimension
 pub mod Checking
 pub mod Examples

@@ -1,10 +1,10 @@
 // The links of a part's trees, whose neighbours are local indices, with global numbers.
 ghost use mathlib.Core.Path.{_≡_};
 ghost use Rattle.part.specs.Part.{globalIndex};
-ghost use Rattle.part.specs.Mirror.{rowWith, rowsWith};
-ghost use Rattle.message_build.specs.Mirror.{Opened};
-use part::sound::ghost_at;
-use part::sound::tree_at;
+ghost use Rattle.part.specs.Means.{rowWith, rowsWith};
+ghost use Rattle.message_build.specs.Means.{Opened};
+use part::layout::ghost_at;
+use part::layout::tree_at;
 use records::index::GlobalIndex;
 use records::index::LocalIndex;
 

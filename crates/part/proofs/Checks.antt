@@ -6,15 +6,13 @@ use mathlib.Core.Bool.{Bool, true, false, cond}
 use mathlib.Core.List.{List, _++_}
 use lib.Dec.{ltb}
 use lib.ListN.{length}
-use borrow.Author.Tests.{lt-ltb, le-ltb, eq-eqb, ne-eqb, ltb-true}
+use borrow.Author.Tests.{lt-ltb, le-ltb, ltb-true}
 use Rattle.encoding.specs.Pieces.{Bytes}
 use Rattle.encoding.specs.Refusal.{Check, firstFailed}
-use Rattle.offsets.specs.Table.{ranks, ranksOk, trees, valid, firstTree, endTree}
+use Rattle.offsets.specs.Table.{ranks, ranksOk, valid, firstTree, endTree}
 use Rattle.offsets.proofs.Tables.{first-le-end, size}
-use Rattle.mesh.specs.Mesh.{meshTrees, meshSound}
-use Rattle.part.specs.Part.{partSound}
-use Rattle.part.specs.Mirror.{RankKnown}
-use Rattle.part.specs.Calls.{rankChecks, cutChecks, partRefusal}
+use Rattle.part.specs.Means.{RankKnown}
+use Rattle.part.specs.Checks.{rankChecks}
 
 module _ (table : List ℕ) (rank : ℕ) {a : Bool} (is-a : a ≡ ranksOk table) where
   pub fails-ranks : a ≡ false → 2 ≡ firstFailed (rankChecks table rank)
@@ -71,39 +69,3 @@ module _ (table : List ℕ) (rank : ℕ) {r : ℕ} (checked : r ≡ firstFailed 
     rank-fits b =
         let k = rank-known in
         (omega (arith, size table b (k .counted) (k .checked), k .below), first-le-end table b (k .counted) (k .checked) rank (k .below))
-
-  -- ---- cutting
-
-  module _ (mesh : List ℕ) where
-    pub cut-rank : (r ≡ 0 → ⊥) → r ≡ firstFailed (cutChecks mesh table rank)
-    unfolding cutChecks
-    cut-rank h = rank-fails _ h
-
-    module _ (ok : r ≡ 0) {d : Bool} (is-d : d ≡ meshSound mesh) where
-      pub fails-sound : d ≡ false → 7 ≡ firstFailed (cutChecks mesh table rank)
-      unfolding firstFailed cutChecks
-      fails-sound h = sym (rank-passes ok _ ∙ rw (← is-d, h))
-
-      module _ (ok-d : d ≡ true) {K T : ℕ} (is-K : K ≡ meshTrees mesh) (is-T : T ≡ trees table) where
-        pub fails-trees : (K ≡ T → ⊥) → 7 ≡ firstFailed (cutChecks mesh table rank)
-        unfolding firstFailed cutChecks
-        fails-trees h = sym (rank-passes ok _ ∙ rw (← is-d, ok-d, ← is-K, ← is-T, ne-eqb K T h))
-
-        pub none-fails : K ≡ T → 0 ≡ firstFailed (cutChecks mesh table rank)
-        unfolding firstFailed cutChecks
-        none-fails h = sym (rank-passes ok _ ∙ rw (← is-d, ok-d, ← is-K, ← is-T, eq-eqb K T h))
-
-  -- ---- checking
-
-  module _ (part : List ℕ) where
-    pub check-rank : (r ≡ 0 → ⊥) → r ≡ partRefusal part table rank
-    unfolding partRefusal
-    check-rank h = rank-fails _ h
-
-    pub check-fails : {s : Bool} → r ≡ 0 → s ≡ partSound part table rank → s ≡ false → 8 ≡ partRefusal part table rank
-    unfolding firstFailed partRefusal
-    check-fails ok e h = sym (rank-passes ok _ ∙ rw (← e, h))
-
-    pub check-passes : {s : Bool} → r ≡ 0 → s ≡ partSound part table rank → s ≡ true → 0 ≡ partRefusal part table rank
-    unfolding firstFailed partRefusal
-    check-passes ok e h = sym (rank-passes ok _ ∙ rw (← e, h))

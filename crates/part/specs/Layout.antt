@@ -1,7 +1,7 @@
 -- A part: dimension, K, P, rank, first tree, count n, ghost count g, 0 (each u32); n tree records; g core records.
 use Prim.Native.Nat.{ℕ, _+_, _*_}
-use mathlib.Core.List.{List, [], _++_}
-use Rattle.encoding.specs.Numbers.{leBytes}
+use mathlib.Core.List.{List}
+use Rattle.encoding.specs.Header.{eightBytes}
 use Rattle.records.specs.Record.{coreSize, treeSize}
 
 abbrev pub partHeader : ℕ
@@ -20,5 +20,4 @@ partSize n g = ghostPlace n g
 
 -- the header
 unfoldable pub headerBytes : ℕ → ℕ → ℕ → ℕ → ℕ → ℕ → ℕ → List ℕ
-headerBytes dimension K P rank first n g =
-    leBytes 4 dimension ++ (leBytes 4 K ++ (leBytes 4 P ++ (leBytes 4 rank ++ (leBytes 4 first ++ (leBytes 4 n ++ (leBytes 4 g ++ leBytes 4 0))))))
+headerBytes dimension K P rank first n g = eightBytes dimension K P rank first n g 0

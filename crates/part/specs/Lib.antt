@@ -4,7 +4,5 @@ pub mod Ghosts
 pub mod Cut
 pub mod View
 pub mod Part
-pub mod Neighbour
-pub mod Lookup
-pub mod Calls
-pub mod Mirror
+pub mod Checks
+pub mod Means

@@ -1,5 +1,5 @@
 -- A part as lent bytes: its header, its records, and when it is sound for a table and a rank.
-use Prim.Native.Nat.{ℕ, _+_, _-_, _*_}
+use Prim.Native.Nat.{ℕ, _+_, _-_}
 use mathlib.Core.Bool.{Bool, cond, _&&_}
 use mathlib.Core.List.{List}
 use lib.Dec.{ltb, eqb}
@@ -8,7 +8,7 @@ use Rattle.encoding.specs.Numbers.{u32At}
 use Rattle.encoding.specs.Pieces.{piece}
 use Rattle.offsets.specs.Table.{ranks, trees, firstTree, treeCount}
 use Rattle.records.specs.Shape.{facesIn}
-use Rattle.records.specs.Record.{coreSize, treeSize, unused, numberOf}
+use Rattle.records.specs.Record.{coreSize, unused, numberOf}
 use Rattle.mesh.specs.Mesh.{dimensionOk}
 use Rattle.part.specs.Layout.{treePlace, ghostPlace, partSize}
 use Rattle.part.specs.Cut.{renamed}

@@ -20,8 +20,8 @@ use Rattle.records.proofs.Forms.{piece-piece}
 use Rattle.part.specs.Layout.{partHeader, treePlace}
 use Rattle.part.specs.Cut.{renamed}
 use Rattle.part.specs.Part.{partDimension, partK, partFirst, partCount, partGhostCount, storedTree, storedGhost, globalIndex, globalTree, partHolds, partCore, partSound}
-use Rattle.part_laws.proofs.SoundParts.{part-header, part-length, part-tree, part-number, part-form, part-shape, part-core-tree, part-core-long, part-neighbour-below, dimension-same, holds-same, cores-same}
-use Rattle.part_laws.proofs.CutSound.{holds-range}
+use Rattle.part_theorems.proofs.SoundParts.{part-header, part-length, part-tree, part-number, part-form, part-shape, part-core-tree, part-core-long, part-neighbour-below, dimension-same, holds-same, cores-same}
+use Rattle.part_theorems.proofs.CutSound.{holds-range}
 use Rattle.message.specs.Layout.{messageSize, inLayout}
 use Rattle.message.specs.Rule.{ghostGoes, sendsGhost}
 use Rattle.message.specs.Build.{partRecord, partMessage}

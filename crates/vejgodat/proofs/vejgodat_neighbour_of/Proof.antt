@@ -1,6 +1,6 @@
 use mathlib.Core.Path.{_∙_, ap}
 use borrow.Author.Needs.{needs}
-use Rattle.part.specs.Neighbour.{flatAnswer}
+use Rattle.part_neighbour.specs.Neighbour.{flatAnswer}
 use Rattle.vejgodat.proofs.vejgodat_neighbour_of.Statement.{statement}
 use Rattle.vejgodat.proofs.vejgodat_neighbour_of.Tie as tie
 

@@ -1,4 +1,4 @@
-use Rattle.part.specs.Mirror.{rowWith}
+use Rattle.part.specs.Means.{rowWith}
 use borrow.Author.Needs.{needs}
 use Rattle.message_build.proofs.index.global_row.Statement.{statement}
 use Rattle.message_build.proofs.index.global_row.Tie as tie

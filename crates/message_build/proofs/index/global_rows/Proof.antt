@@ -1,4 +1,4 @@
-use Rattle.part.specs.Mirror.{rowsWith}
+use Rattle.part.specs.Means.{rowsWith}
 use borrow.Author.Needs.{needs}
 use Rattle.message_build.proofs.index.global_rows.Statement.{statement}
 use Rattle.message_build.proofs.index.global_rows.Tie as tie

@@ -1,6 +1,6 @@
-use Rattle.part.proofs.Checking.{ascending-at}
+use Rattle.part.proofs.Search.{ascending-at}
 use Rattle.encoding.proofs.Pieces.{splice-of}
-use Rattle.part.proofs.Writing.{range-first}
+use Rattle.part.proofs.Ranges.{range-first}
 use Rattle.message_build.proofs.Ghosts.{core-local, local-room, ghost-source, ghost-copied}
 use Rattle.message_build.proofs.Trees.{place-is}
 use borrow.Author.Needs.{needs}

@@ -1,0 +1,2 @@
+-- Document 01, "Records, whole mesh and part": finding a record.
+pub mod Lookup

@@ -1,0 +1,15 @@
+use borrow.Author.Tests.{eq-eqb, ne-eqb}
+use Rattle.records.specs.Shape.{facesIn}
+use Rattle.mesh.proofs.link.orientation_in.Statement.{statement}
+use Rattle.mesh.proofs.link.orientation_in.Tie as tie
+
+returns : tie.Need-returns
+unfolding facesIn
+returns c = simp (eq-eqb _ _ (c .if1 .taken))
+
+returns-2 : tie.Need-returns-2
+unfolding facesIn
+returns-2 c = simp (ne-eqb _ _ (c .if1 .left))
+
+pub orientation-in-spec : {M : Type 1} → statement M
+orientation-in-spec = tie.close (tie.spec returns returns-2)

@@ -1,0 +1,5 @@
+-- Laws, for this crate's proofs and for the crates above.
+pub mod Checks
+pub mod Judging
+pub mod ByDimension
+pub mod Checking

@@ -1,0 +1,56 @@
+use Rattle.mesh.specs.Means.{linkByDimension}
+use Rattle.part.specs.Means.{ghostCore}
+use Rattle.part_check.specs.Means.{ghostStored}
+use Rattle.part.specs.Part.{storedTree}
+use Rattle.encoding.proofs.Below.{all-more, all-fails, all-to}
+use Rattle.encoding.specs.Below.{allBelow}
+use borrow.Author.Tests.{not-true, not-false}
+use native.Mathlib.Omega.{arith}
+use mathlib.Core.Bool.{true}
+use mathlib.Core.Path.{_≡_, sym, _∙_}
+use Prim.Native.Nat.{_≤_, _-_}
+use borrow.Author.Needs.{needs}
+use Rattle.part_check.proofs.sound.ghosts_sound.Statement.{statement}
+use Rattle.part_check.proofs.sound.ghosts_sound.Tie as tie
+
+abbrev Inv-loop : tie.InvT-loop
+Inv-loop part first count ghosts dimension trees j₀ j = (j ≤ ghosts) × (allBelow j (ghostStored (linkByDimension dimension) first count ghosts (storedTree part) (ghostCore part count) dimension trees) ≡ true)
+
+abbrev μ-loop : tie.MeasureT-loop
+μ-loop part first count ghosts dimension trees j₀ j = ghosts - j
+
+loop-holds : tie.Need-loop-holds Inv-loop μ-loop
+unfolding allBelow
+loop-holds c = search needs
+
+ghost-sound-requires : tie.Need-ghost-sound-requires Inv-loop μ-loop
+ghost-sound-requires c κs = search needs
+
+returns : tie.Need-returns Inv-loop μ-loop
+returns c = sym (all-fails _ _ _ (c .before .before .loop-test .taken) (sym (c .before .ghost-sound .ensures) ∙ not-true _ (c .if1 .taken)))
+
+add-j : tie.Need-add-j Inv-loop μ-loop
+add-j c = search needs
+
+loop-less : tie.Need-loop-less Inv-loop μ-loop
+loop-less c = search needs
+
+loop-again : tie.Need-loop-again Inv-loop μ-loop
+loop-again c = (omega arith, all-more _ _ (c .before .before .before .loop .inv .1) (sym (c .before .ghost-sound .ensures) ∙ not-false _ (c .if1 .left)))
+
+returns-2 : tie.Need-returns-2 Inv-loop μ-loop
+returns-2 c = sym (all-to _ _ _ (c .before .loop .inv .0) (omega arith) (c .before .loop .inv .1))
+
+pub ghosts-sound-spec : {M : Type 1} → statement M
+ghosts-sound-spec =
+    tie.close
+    (tie.spec
+    Inv-loop
+    μ-loop
+    loop-holds
+    ghost-sound-requires
+    returns
+    add-j
+    loop-less
+    loop-again
+    returns-2)

@@ -1,0 +1,3 @@
+-- Document 01, "Records, whole mesh and part": checking a part.
+pub mod Calls
+pub mod Means

@@ -1,0 +1,81 @@
+-- Means, no part of what is promised: a part as the code checks it, over the records as they stand.
+use Prim.Native.Nat.{ℕ, _+_, _-_, _≤_}
+use mathlib.Core.Bool.{Bool, true, false, cond, not, _&&_}
+use mathlib.Core.Path.{_≡_}
+use mathlib.Core.List.{List}
+use lib.Dec.{ltb, eqb}
+use lib.ListN.{length}
+use Rattle.encoding.specs.Below.{allBelow, anyBelow, leastBelow}
+use Rattle.offsets.specs.Limits.{maxTrees}
+use Rattle.records.specs.Shape.{dimensionOf, faceCount}
+use Rattle.records.specs.Record.{numberOf, shapeOf, neighbourOf, inForm}
+use Rattle.mesh.specs.Link.{orientationOk}
+use Rattle.part.specs.Layout.{partSize}
+use Rattle.part.specs.Part.{storedTree}
+use Rattle.part.specs.Means.{inRange, neighbourIn, ghostCore, ghostHas}
+
+-- the trees of a part as they stand, their neighbours as local indices; by either rule of a link
+module _ (link : ℕ → List ℕ → ℕ → List ℕ → Bool) (n g : ℕ) (tree ghostly : ℕ → List ℕ) where
+  -- the link of face f of tree i to local index j: a tree's link leads back to the local index i, a ghost's to the tree's number
+  unfoldable pub treeTo : ℕ → ℕ → ℕ → Bool
+  treeTo i f j =
+      cond (ltb j n) (link i (tree i) f (tree j))
+      (cond (ltb (j - n) g) (link (numberOf (tree i)) (tree i) f (ghostly (j - n))) false)
+
+  unfoldable pub treeFace : ℕ → ℕ → Bool
+  treeFace i f = treeTo i f (neighbourOf (tree i) f)
+
+  -- tree i, its number apart
+  unfoldable pub treeStored : ℕ → ℕ → Bool
+  treeStored dimension i =
+      inForm i (tree i) && eqb (dimensionOf (shapeOf (tree i))) dimension && allBelow (faceCount (shapeOf (tree i))) (treeFace i)
+
+-- tree i has its number
+unfoldable pub treeNumbered : ℕ → (ℕ → List ℕ) → ℕ → Bool
+treeNumbered first tree i = eqb (numberOf (tree i)) (first + i)
+
+-- ghost j has a number above that of the ghost before it
+unfoldable pub ghostBehind : (ℕ → List ℕ) → ℕ → Bool
+ghostBehind ghostly j = cond (eqb j 0) true (ltb (numberOf (ghostly (j - 1))) (numberOf (ghostly j)))
+
+-- and one below K, outside the range
+unfoldable pub ghostNumbered : ℕ → ℕ → (ℕ → List ℕ) → ℕ → ℕ → Bool
+ghostNumbered first n ghostly K j =
+    ltb (numberOf (ghostly j)) K && not (inRange first (first + n) (numberOf (ghostly j))) && ghostBehind ghostly j
+
+-- every number
+unfoldable pub numbersSound : ℕ → ℕ → ℕ → (ℕ → List ℕ) → (ℕ → List ℕ) → ℕ → Bool
+numbersSound first n g tree ghostly K = allBelow n (treeNumbered first tree) && allBelow g (ghostNumbered first n ghostly K)
+
+-- the ghosts of a part, and all its records
+module _ (link : ℕ → List ℕ → ℕ → List ℕ → Bool) (first n g : ℕ) (tree ghostly : ℕ → List ℕ) where
+  -- the link of face f of ghost j to tree k: one of the range leads back to the ghost's local index, another ghost to its number; or k isn't held
+  unfoldable pub ghostTo : ℕ → ℕ → ℕ → ℕ → Bool
+  ghostTo K j f k =
+      cond (inRange first (first + n) k) (link (n + j) (ghostly j) f (tree (k - first)))
+      (cond (anyBelow g (ghostHas ghostly k)) (link (numberOf (ghostly j)) (ghostly j) f (ghostly (leastBelow g (ghostHas ghostly k))))
+      (ltb k K && orientationOk (ghostly j) f))
+
+  unfoldable pub ghostFace : ℕ → ℕ → ℕ → Bool
+  ghostFace K j f = ghostTo K j f (neighbourOf (ghostly j) f)
+
+  -- ghost j, its number apart
+  unfoldable pub ghostStored : ℕ → ℕ → ℕ → Bool
+  ghostStored dimension K j =
+      inForm (numberOf (ghostly j)) (ghostly j) && eqb (dimensionOf (shapeOf (ghostly j))) dimension
+      && anyBelow (faceCount (shapeOf (ghostly j))) (neighbourIn first (first + n) (ghostly j)) && allBelow (faceCount (shapeOf (ghostly j))) (ghostFace K j)
+
+  -- all records: first every number, by which the links are then looked up
+  unfoldable pub recordsSound : ℕ → ℕ → Bool
+  recordsSound dimension K = numbersSound first n g tree ghostly K && (allBelow n (treeStored link n g tree ghostly dimension) && allBelow g (ghostStored dimension K))
+
+-- a part of n trees from the first on and g ghosts, by its length and header
+pub record PartLaid (part : List ℕ) (first n g K : ℕ) : Type 0 where
+  pub long : length part ≡ partSize n g
+  pub within : first + n ≤ K
+  pub most : K ≤ maxTrees
+
+-- and its numbers are sound
+pub record PartNumbered (part : List ℕ) (first n g K : ℕ) : Type 0 where
+  pub laid : PartLaid part first n g K
+  pub numbers : numbersSound first n g (storedTree part) (ghostCore part n) K ≡ true

@@ -1,0 +1,392 @@
+// Whether a part is sound. Its tree records hold local indices, its ghosts global numbers: each link is followed by what stands in the record.
+use mesh::link::link_ok;
+use part::layout::dimension;
+use part::layout::first_tree;
+use part::layout::ghost_at;
+use part::layout::ghost_count;
+use part::layout::place_near;
+use part::layout::tree_at;
+use part::layout::tree_count;
+use part::layout::trees;
+use part::range::beside;
+use part::range::find_ghost;
+use part::range::in_range;
+use records::index::GlobalIndex;
+use records::index::LocalIndex;
+use records::index::ghost_index;
+use records::index::to_local;
+ghost use mathlib.Core.Path.{_≡_};
+ghost use mathlib.Core.Bool.{_&&_};
+ghost use Prim.Native.Nat.{_+_, _≤_, _<_};
+ghost use lib.Dec.{eqb, ltb};
+ghost use lib.ListN.{length};
+ghost use Rattle.encoding.specs.Below.{allBelow, leastBelow};
+ghost use Rattle.offsets.specs.Limits.{maxTrees};
+ghost use Rattle.records.specs.Record.{coreSize};
+ghost use Rattle.part.specs.Layout.{treePlace, ghostPlace, partSize};
+ghost use Rattle.part.specs.Part.{partCount, partGhostCount, storedTree, partHeaderSound, partSound};
+ghost use Rattle.part.specs.Means.{Ascending, ghostCore, ghostHas, RankKnown};
+ghost use Rattle.mesh.specs.Means.{linkByDimension};
+ghost use Rattle.part_check.specs.Means.{treeFace, treeStored, treeNumbered, ghostBehind, ghostNumbered, numbersSound, ghostFace, ghostStored, recordsSound, PartLaid, PartNumbered};
+
+// Whether the header is as table and rank say, and the length as the header says.
+fn header_sound(part: &[u8], table: &[u8], rank: u32) -> bool
+    requires { ⌜ RankKnown (now table) rank ⌝ }
+    ensures { λ r. ⌜ r ≡ (partHeaderSound (now (part .entry)) (now (table .entry)) rank && eqb (length (now (part .entry))) (partSize (partCount (now (part .entry))) (partGhostCount (now (part .entry))))) ⌝ }
+{
+    if part.len() < 32 {
+        return false;
+    }
+    let ranks = offsets::table::ranks(table);
+    let first = offsets::table::first_tree(table, rank as usize);
+    let end = offsets::table::end_tree(table, rank as usize);
+    let count = tree_count(part);
+    mesh::layout::dimension_ok(dimension(part))
+        & (trees(part) as u64 == offsets::table::entry(table, ranks))
+        & (encoding::bytes::read_u32(part, 8) as usize == ranks)
+        & (encoding::bytes::read_u32(part, 12) == rank)
+        & (first_tree(part).0 as u64 == first)
+        & (count as u64 == end - first)
+        & (encoding::bytes::read_u32(part, 28) == 0)
+        & (part.len() == ghost_at(count, ghost_count(part)))
+}
+
+// ---- numbers
+
+// Whether the local index of the tree's number is its own.
+fn tree_numbered(part: &[u8], first: GlobalIndex, tree: LocalIndex) -> bool
+    requires { ⌜ treePlace (tree .0) + coreSize ≤ length (now part) ⌝ }
+    ensures { λ r. ⌜ r ≡ treeNumbered (first .0) (storedTree (now (part .entry))) (tree .0) ⌝ }
+{
+    let number = records::read::number_of(part, tree_at(tree));
+    if number < first.0 {
+        return false;
+    }
+    let local = to_local(GlobalIndex(number), first);
+    local.0 == tree.0
+}
+
+fn tree_numbers(part: &[u8], first: u32, count: u32) -> bool
+    requires { ⌜ treePlace count ≤ length (now part) ⌝ }
+    ensures { λ r. ⌜ r ≡ allBelow count (treeNumbered first (storedTree (now (part .entry)))) ⌝ }
+{
+    let mut i = 0;
+    while i < count {
+        if !tree_numbered(part, GlobalIndex(first), LocalIndex(i)) {
+            return false;
+        }
+        i += 1;
+    }
+    true
+}
+
+fn ghost_behind(part: &[u8], count: u32, j: u32) -> bool
+    requires { ⌜ ghostPlace count j + coreSize ≤ length (now part) ⌝ }
+    ensures { λ r. ⌜ r ≡ ghostBehind (ghostCore (now (part .entry)) count) j ⌝ }
+{
+    if j == 0 {
+        return true;
+    }
+    records::read::number_of(part, ghost_at(count, j - 1))
+        < records::read::number_of(part, ghost_at(count, j))
+}
+
+fn ghost_numbered(part: &[u8], first: u32, count: u32, trees: u32, j: u32) -> bool
+    requires { ⌜ (ghostPlace count j + coreSize ≤ length (now part)) × (first + count ≤ maxTrees) ⌝ }
+    ensures { λ r. ⌜ r ≡ ghostNumbered first count (ghostCore (now (part .entry)) count) trees j ⌝ }
+{
+    let number = records::read::number_of(part, ghost_at(count, j));
+    (number < trees)
+        & !in_range(first, first + count, GlobalIndex(number))
+        & ghost_behind(part, count, j)
+}
+
+fn ghost_numbers(part: &[u8], first: u32, count: u32, ghosts: u32, trees: u32) -> bool
+    requires { ⌜ PartLaid (now part) first count ghosts trees ⌝ }
+    ensures { λ r. ⌜ r ≡ allBelow ghosts (ghostNumbered first count (ghostCore (now (part .entry)) count) trees) ⌝ }
+{
+    let mut j = 0;
+    while j < ghosts {
+        if !ghost_numbered(part, first, count, trees, j) {
+            return false;
+        }
+        j += 1;
+    }
+    true
+}
+
+// Whether trees and ghosts have the numbers that they are to have. The links are looked at only then.
+fn numbers_sound(part: &[u8], first: u32, count: u32, ghosts: u32, trees: u32) -> bool
+    requires { ⌜ PartLaid (now part) first count ghosts trees ⌝ }
+    ensures { λ r. ⌜ r ≡ numbersSound first count ghosts (storedTree (now (part .entry))) (ghostCore (now (part .entry)) count) trees ⌝ }
+{
+    tree_numbers(part, first, count) & ghost_numbers(part, first, count, ghosts, trees)
+}
+
+// ---- trees
+
+// A tree's link leads back to the local index, a ghost's to the global number.
+fn tree_face(
+    part: &[u8],
+    count: u32,
+    ghosts: u32,
+    dimension: u32,
+    tree: LocalIndex,
+    face: u32,
+) -> bool
+    requires { ⌜ (length (now part) ≡ partSize count ghosts) × (tree .0 < count) × (face < 6) ⌝ }
+    ensures { λ r. ⌜ r ≡ treeFace (linkByDimension dimension) count ghosts (storedTree (now (part .entry))) (ghostCore (now (part .entry)) count) (tree .0) face ⌝ }
+{
+    let i = tree.0;
+    let at = tree_at(tree);
+    let j = records::read::neighbour_of(part, at, face);
+    if j < count {
+        return link_ok(part, dimension, i, at, face, tree_at(LocalIndex(j)));
+    }
+    if j - count < ghosts {
+        let number = records::read::number_of(part, at);
+        return link_ok(
+            part,
+            dimension,
+            number,
+            at,
+            face,
+            ghost_at(count, j - count),
+        );
+    }
+    false
+}
+
+fn tree_faces(
+    part: &[u8],
+    count: u32,
+    ghosts: u32,
+    dimension: u32,
+    tree: LocalIndex,
+    faces: u32,
+) -> bool
+    requires { ⌜ (length (now part) ≡ partSize count ghosts) × (tree .0 < count) × (faces ≤ 6) ⌝ }
+    ensures { λ r. ⌜ r ≡ allBelow faces (treeFace (linkByDimension dimension) count ghosts (storedTree (now (part .entry))) (ghostCore (now (part .entry)) count) (tree .0)) ⌝ }
+{
+    let mut face = 0;
+    while face < faces {
+        if !tree_face(part, count, ghosts, dimension, tree, face) {
+            return false;
+        }
+        face += 1;
+    }
+    true
+}
+
+fn tree_sound(part: &[u8], count: u32, ghosts: u32, dimension: u32, tree: LocalIndex) -> bool
+    requires { ⌜ (length (now part) ≡ partSize count ghosts) × (tree .0 < count) ⌝ }
+    ensures { λ r. ⌜ r ≡ treeStored (linkByDimension dimension) count ghosts (storedTree (now (part .entry))) (ghostCore (now (part .entry)) count) dimension (tree .0) ⌝ }
+{
+    let i = tree.0;
+    let at = tree_at(tree);
+    let shape = records::read::shape_of(part, at);
+    records::form::in_form(part, at, i)
+        & (records::shape::dimension_of(shape) == dimension)
+        & tree_faces(
+            part,
+            count,
+            ghosts,
+            dimension,
+            tree,
+            records::shape::face_count(shape),
+        )
+}
+
+fn trees_sound(part: &[u8], count: u32, ghosts: u32, dimension: u32) -> bool
+    requires { ⌜ length (now part) ≡ partSize count ghosts ⌝ }
+    ensures { λ r. ⌜ r ≡ allBelow count (treeStored (linkByDimension dimension) count ghosts (storedTree (now (part .entry))) (ghostCore (now (part .entry)) count) dimension) ⌝ }
+{
+    let mut i = 0;
+    while i < count {
+        if !tree_sound(part, count, ghosts, dimension, LocalIndex(i)) {
+            return false;
+        }
+        i += 1;
+    }
+    true
+}
+
+// ---- ghosts
+
+// The position of the ghost with the number, or how many ghosts there are.
+fn ghost_with(part: &[u8], count: u32, ghosts: u32, number: GlobalIndex) -> u32
+    requires { ⌜ Ascending (now part) (ghostPlace count 0) ghosts ⌝ }
+    ensures { λ r. ⌜ r ≡ leastBelow ghosts (ghostHas (ghostCore (now (part .entry)) count) (number .0)) ⌝ }
+{
+    let wanted = number.0;
+    let position = find_ghost(part, ghost_at(count, 0), ghosts, number);
+    if ghosts <= position {
+        return ghosts;
+    }
+    if records::read::number_of(part, ghost_at(count, position)) != wanted {
+        return ghosts;
+    }
+    position
+}
+
+fn ghost_has(part: &[u8], count: u32, ghosts: u32, number: GlobalIndex, position: u32) -> bool
+    requires { ⌜ Ascending (now part) (ghostPlace count 0) ghosts ⌝ }
+    ensures { λ r. ⌜ r ≡ (ltb position ghosts && ghostHas (ghostCore (now (part .entry)) count) (number .0) position) ⌝ }
+{
+    let wanted = number.0;
+    if ghosts <= position {
+        return false;
+    }
+    records::read::number_of(part, ghost_at(count, position)) == wanted
+}
+
+// As ghost_with, for a neighbour of ghost j, whose number is `own`. Ghosts side by side often have consecutive numbers: the place by that is tried before the search.
+fn ghost_near(
+    part: &[u8],
+    count: u32,
+    ghosts: u32,
+    j: u32,
+    own: GlobalIndex,
+    number: GlobalIndex,
+) -> u32
+    requires { ⌜ Ascending (now part) (ghostPlace count 0) ghosts ⌝ }
+    ensures { λ r. ⌜ r ≡ leastBelow ghosts (ghostHas (ghostCore (now (part .entry)) count) (number .0)) ⌝ }
+{
+    let place = place_near(j, own.0, number.0);
+    if ghost_has(part, count, ghosts, number, place) {
+        return place;
+    }
+    ghost_with(part, count, ghosts, number)
+}
+
+// The neighbour is a tree of the range, another ghost, or not held.
+fn ghost_face(
+    part: &[u8],
+    first: u32,
+    count: u32,
+    ghosts: u32,
+    dimension: u32,
+    trees: u32,
+    j: u32,
+    face: u32,
+) -> bool
+    requires { ⌜ PartNumbered (now part) first count ghosts trees × (j < ghosts) × (face < 6) ⌝ }
+    ensures { λ r. ⌜ r ≡ ghostFace (linkByDimension dimension) first count ghosts (storedTree (now (part .entry))) (ghostCore (now (part .entry)) count) trees j face ⌝ }
+{
+    let at = ghost_at(count, j);
+    let k = records::read::neighbour_of(part, at, face);
+    if in_range(first, first + count, GlobalIndex(k)) {
+        let tree = to_local(GlobalIndex(k), GlobalIndex(first));
+        let own = ghost_index(count, j);
+        return link_ok(part, dimension, own.0, at, face, tree_at(tree));
+    }
+    let number = records::read::number_of(part, at);
+    let position = ghost_near(part, count, ghosts, j, GlobalIndex(number), GlobalIndex(k));
+    if position < ghosts {
+        return link_ok(part, dimension, number, at, face, ghost_at(count, position));
+    }
+    (k < trees) & mesh::link::orientation_ok(part, at, face)
+}
+
+fn ghost_faces(
+    part: &[u8],
+    first: u32,
+    count: u32,
+    ghosts: u32,
+    dimension: u32,
+    trees: u32,
+    j: u32,
+    faces: u32,
+) -> bool
+    requires { ⌜ PartNumbered (now part) first count ghosts trees × (j < ghosts) × (faces ≤ 6) ⌝ }
+    ensures { λ r. ⌜ r ≡ allBelow faces (ghostFace (linkByDimension dimension) first count ghosts (storedTree (now (part .entry))) (ghostCore (now (part .entry)) count) trees j) ⌝ }
+{
+    let mut face = 0;
+    while face < faces {
+        if !ghost_face(part, first, count, ghosts, dimension, trees, j, face) {
+            return false;
+        }
+        face += 1;
+    }
+    true
+}
+
+fn ghost_sound(
+    part: &[u8],
+    first: u32,
+    count: u32,
+    ghosts: u32,
+    dimension: u32,
+    trees: u32,
+    j: u32,
+) -> bool
+    requires { ⌜ PartNumbered (now part) first count ghosts trees × (j < ghosts) ⌝ }
+    ensures { λ r. ⌜ r ≡ ghostStored (linkByDimension dimension) first count ghosts (storedTree (now (part .entry))) (ghostCore (now (part .entry)) count) dimension trees j ⌝ }
+{
+    let at = ghost_at(count, j);
+    let shape = records::read::shape_of(part, at);
+    let faces = records::shape::face_count(shape);
+    records::form::in_form(part, at, records::read::number_of(part, at))
+        & (records::shape::dimension_of(shape) == dimension)
+        & beside(part, at, faces, first, first + count)
+        & ghost_faces(part, first, count, ghosts, dimension, trees, j, faces)
+}
+
+fn ghosts_sound(
+    part: &[u8],
+    first: u32,
+    count: u32,
+    ghosts: u32,
+    dimension: u32,
+    trees: u32,
+) -> bool
+    requires { ⌜ PartNumbered (now part) first count ghosts trees ⌝ }
+    ensures { λ r. ⌜ r ≡ allBelow ghosts (ghostStored (linkByDimension dimension) first count ghosts (storedTree (now (part .entry))) (ghostCore (now (part .entry)) count) dimension trees) ⌝ }
+{
+    let mut j = 0;
+    while j < ghosts {
+        if !ghost_sound(part, first, count, ghosts, dimension, trees, j) {
+            return false;
+        }
+        j += 1;
+    }
+    true
+}
+
+// ---- the whole
+
+fn records_sound(
+    part: &[u8],
+    first: u32,
+    count: u32,
+    ghosts: u32,
+    dimension: u32,
+    trees: u32,
+) -> bool
+    requires { ⌜ PartLaid (now part) first count ghosts trees ⌝ }
+    ensures { λ r. ⌜ r ≡ recordsSound (linkByDimension dimension) first count ghosts (storedTree (now (part .entry))) (ghostCore (now (part .entry)) count) dimension trees ⌝ }
+{
+    if !numbers_sound(part, first, count, ghosts, trees) {
+        return false;
+    }
+    trees_sound(part, count, ghosts, dimension)
+        & ghosts_sound(part, first, count, ghosts, dimension, trees)
+}
+
+// Whether the part is sound for a valid table and a rank of it.
+pub fn part_sound(part: &[u8], table: &[u8], rank: u32) -> bool
+    requires { ⌜ RankKnown (now table) rank ⌝ }
+    ensures { λ r. ⌜ r ≡ partSound (now (part .entry)) (now (table .entry)) rank ⌝ }
+{
+    if !header_sound(part, table, rank) {
+        return false;
+    }
+    records_sound(
+        part,
+        first_tree(part).0,
+        tree_count(part),
+        ghost_count(part),
+        dimension(part),
+        trees(part),
+    )
+}

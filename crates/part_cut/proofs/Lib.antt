@@ -1,0 +1,6 @@
+-- Laws, for this crate's proofs and for the crates above.
+pub mod Checks
+pub mod Cutting
+pub mod Writing
+pub mod Trees
+pub mod Parts

@@ -6,10 +6,11 @@
  * in which a rank's new part is assembled from them.
  *
  * Link with libvejgodat.a, which `rt staticlib vejgodat` writes to
- * target/staticlib/. The library is proved to do what its definitions say for
- * every input; it allocates nothing, keeps no state between calls, never
- * aborts and always returns. Calls may run on any number of threads at once as
- * long as none writes a buffer that another one uses.
+ * target/staticlib/ and `make install` puts beside this header. The library is
+ * proved to do what its definitions say for every input. It allocates nothing,
+ * keeps no state between calls and always returns; all that it needs is stack,
+ * see What a caller must keep. Calls may run on any number of threads at once
+ * as long as none writes a buffer that another one uses.
  *
  * ## Terms
  *
@@ -18,7 +19,9 @@
  * every rank that holds a leaf of it, so neighbouring ranks may share a tree.
  *
  * An offset table O is P + 1 signed 64-bit entries, little-endian, 8 (P + 1)
- * bytes in all, at any address. P is read from its length, and K is O[P].
+ * bytes in all, at any address. P is read from its length, and K is O[P]. On a
+ * little-endian machine these are the bytes of an `int64_t[P + 1]`, which may
+ * be given as `(const uint8_t *) O`.
  *
  *  - First tree of rank p: O[p] if O[p] >= 0, else -O[p] - 1. A negative entry
  *    says that this tree is shared with the nearest lower rank that has trees.
@@ -146,7 +149,8 @@
  *     at 32         n records  the trees, tree records of 64 bytes
  *     at 32 + 64 n  g records  the ghosts, core records of 40 bytes
  *
- * so 32 + 64 n + 40 g bytes in all. Trees and ghosts each ascend by their
+ * so 32 + 64 n + 40 g bytes in all, and never more than 32 + 64 K in one that
+ * \ref vejgodat_build_message writes. Trees and ghosts each ascend by their
  * numbers. All neighbours are global numbers, as in a whole mesh; tree data
  * goes with the trees and not with the ghosts.
  *
@@ -159,8 +163,10 @@
  *    shape has are below the message's K;
  *  - the numbers of the trees ascend strictly, and so do those of the ghosts.
  *
- * P, the ranks, a record's own number, orientations and the answers of links
- * play no part in this, and a message without trees may be in layout.
+ * Nothing else plays a part in this: not P, the ranks, the limits of K, whether
+ * a record's own number is below K, the orientation of a face that meets
+ * another one, or whether links are answered. A message without trees may be in
+ * layout.
  *
  * Which ghosts a message has: rank p considers ghost k for q if p sends q a
  * face neighbour of k and k is a ghost of q under the new table. It sends k to
@@ -202,14 +208,20 @@
  *  - it is long enough, the dimension is 2 or 3, both tables are valid, and the
  *    header is as they say;
  *  - only ranks of the receive set of q are heard;
- *  - the slot of each tree that a heard sender sends to q holds a record with
- *    that tree's number whose zero bytes, shape and unused faces are as in a
- *    whole mesh, and every other tree slot is zero;
- *  - h is at most F n; the ghosts held are laid out so too, are below K and
- *    outside f'(q), and ascend strictly; every other ghost slot is zero.
+ *  - the slot of each tree that a heard sender sends to q holds a record in form
+ *    with that tree's number, and every other tree slot is zero;
+ *  - h is at most F n; the ghosts held are in form, below K and outside f'(q),
+ *    and ascend strictly; every other ghost slot is zero.
  *
- * Neighbours in the slots may be any numbers. Whether all links fit together is
- * looked at when the area is closed.
+ * A record is in form if its shape is one of the six, its bytes that are to be
+ * zero are, the faces that the shape doesn't have are marked so, and a face that
+ * meets itself has orientation 0. The area's dimension plays no part in this: F
+ * is that of the record's own shape. So a boundary with an orientation makes an
+ * area unsound (10), while a slot with a shape of the other dimension doesn't,
+ * and the close refuses it (21).
+ *
+ * Neighbours in the slots may be any numbers otherwise. Whether all links fit
+ * together is looked at when the area is closed.
  *
  * ## Refusals
  *
@@ -218,8 +230,9 @@
  * numbers, and each is made of all arguments before the next one is made of
  * any: of two tables, a bad length (2) decides before bad entries (3),
  * whichever of the two has them. The numbers of this header's calls are those
- * of \ref VEJGODAT_OK and the names that follow it. \ref vejgodat_lookup alone
- * has nothing to refuse.
+ * of \ref VEJGODAT_OK and the names that follow it, and
+ * \ref vejgodat_refusal_text has words for them. Only \ref vejgodat_lookup and
+ * \ref vejgodat_version have nothing to refuse.
  *
  * Where a call refuses, every other field of its result is 0 and every buffer
  * has the bytes that it had before. Where it accepts, it writes the beginning
@@ -238,6 +251,12 @@
  *    that it only reads may overlap: the same table may be given as old and as
  *    new.
  *  - Nobody else writes a buffer of a call while the call runs.
+ *  - The thread has stack left. \ref vejgodat_message_length,
+ *    \ref vejgodat_build_message and \ref vejgodat_deliver take a set of
+ *    128 KiB there and less than 1 KiB more, every other call less than 1 KiB;
+ *    \ref VEJGODAT_STACK_BYTES are enough for any. A thread made with a stack
+ *    of 128 KiB is too small. No call can see this: too little stack breaks the
+ *    program.
  */
 #ifndef VEJGODAT_H
 #define VEJGODAT_H
@@ -249,6 +268,16 @@
 extern "C" {
 #endif
 
+/** The version of this header: 10000 major + 100 minor + patch. */
+#define VEJGODAT_VERSION 200
+
+/** Where the compiler knows how, it warns if a call's result is dropped. */
+#if defined (__GNUC__) || defined (__clang__)
+#define VEJGODAT_USE_RESULT __attribute__ ((__warn_unused_result__))
+#else
+#define VEJGODAT_USE_RESULT
+#endif
+
 /** The largest number of ranks P. */
 #define VEJGODAT_MAX_RANKS 1024
 
@@ -257,6 +286,12 @@ extern "C" {
 
 /** The largest number of leaves of one tree. */
 #define VEJGODAT_MAX_LEAVES 16777216
+
+/** The neighbour at a face that the shape doesn't have. */
+#define VEJGODAT_UNUSED 4294967295u
+
+/** Bytes of stack that are enough for any call. */
+#define VEJGODAT_STACK_BYTES 147456
 
 /** The bytes of an offset table of P ranks. */
 #define VEJGODAT_TABLE_BYTES(P) (8 * ((size_t) (P) + 1))
@@ -315,6 +350,71 @@ enum
   VEJGODAT_JOIN = 21,           /**< The joined part isn't sound. */
   VEJGODAT_BUFFER = 22          /**< A buffer is too short. */
 };
+
+/** Say what a refusal means, as part of a sentence without its full stop.
+ *
+ * \param [in] refusal    A result's refusal; any number.
+ * \return                A text that lasts, also for 0, for numbers that no call
+ *                        gives yet and for any other.
+ */
+static inline const char *
+vejgodat_refusal_text (uint32_t refusal)
+{
+  switch (refusal) {
+  case VEJGODAT_OK:
+    return "accepted";
+  case 1:
+    return "the text of a plan has another form";
+  case VEJGODAT_RANKS:
+    return "a table, or a rank count for making one, is outside the limits of"
+      " P (1 to 1,024)";
+  case VEJGODAT_TABLE:
+    return "a table isn't valid";
+  case VEJGODAT_DIFFER:
+    return "the old and the new table differ in P or K";
+  case VEJGODAT_INDEX:
+    return "a rank is not below P, a tree not below K, a local index not below"
+      " the table's count, a face not below 6, or a dimension neither 2 nor 3";
+  case VEJGODAT_PARTITION:
+    return "ranges or leaf counts fit no table or limit";
+  case VEJGODAT_MESH:
+    return "the whole mesh isn't sound, or its K isn't the table's";
+  case VEJGODAT_PART:
+    return "the part isn't sound";
+  case VEJGODAT_NOTHING:
+    return "the sender has no tree for the receiver";
+  case VEJGODAT_AREA:
+    return "the area isn't sound";
+  case VEJGODAT_LAYOUT:
+    return "the message breaks its layout";
+  case VEJGODAT_RUN:
+    return "the message's epoch, dimension, K or P isn't the area's";
+  case VEJGODAT_RECEIVER:
+    return "the message is for another rank";
+  case VEJGODAT_SENDER:
+    return "the message's sender isn't in the receive set";
+  case VEJGODAT_HEARD:
+    return "that sender is already heard";
+  case VEJGODAT_TREES:
+    return "the message's trees aren't exactly the range due";
+  case VEJGODAT_GHOSTS:
+    return "a ghost is local under the new table, or no neighbour of a tree in"
+      " the message";
+  case VEJGODAT_HELD:
+    return "a ghost is already held";
+  case VEJGODAT_FULL:
+    return "ghost slots are used up";
+  case VEJGODAT_MISSING:
+    return "close before all are heard";
+  case VEJGODAT_JOIN:
+    return "the joined part isn't sound";
+  case VEJGODAT_BUFFER:
+    return "a buffer is too short";
+  default:
+    return refusal <= 33 ? "reserved: no call of this version gives it"
+      : "no refusal of this library";
+  }
+}
 
 /** A range of trees. */
 typedef struct
@@ -406,6 +506,15 @@ typedef struct
 }
 vejgodat_found;
 
+/** The version of the library linked: \ref VEJGODAT_VERSION of its own header.
+ *
+ * Checks: none.
+ * Cost: constant.
+ *
+ * \return                10000 major + 100 minor + patch.
+ */
+uint32_t            vejgodat_version (void) VEJGODAT_USE_RESULT;
+
 /** \name Offset tables
  * @{ */
 
@@ -421,7 +530,8 @@ vejgodat_found;
  * \return                0 if the table is valid, else the refusal.
  */
 uint32_t            vejgodat_check_table (const uint8_t * table,
-                                          size_t table_len);
+                                          size_t table_len)
+  VEJGODAT_USE_RESULT;
 
 /** Compute the length of an offset table.
  *
@@ -433,7 +543,8 @@ uint32_t            vejgodat_check_table (const uint8_t * table,
  * \return                8 (P + 1), which \ref vejgodat_write_table and
  *                        \ref vejgodat_table_from_leaves need as buffer.
  */
-vejgodat_length     vejgodat_table_length (uint32_t ranks);
+vejgodat_length     vejgodat_table_length (uint32_t ranks)
+  VEJGODAT_USE_RESULT;
 
 /** Look up the range of trees of a rank.
  *
@@ -449,7 +560,8 @@ vejgodat_length     vejgodat_table_length (uint32_t ranks);
  *                        table's entry for the rank (K behind the last tree).
  */
 vejgodat_range      vejgodat_table_range (const uint8_t * table,
-                                          size_t table_len, uint32_t rank);
+                                          size_t table_len, uint32_t rank)
+  VEJGODAT_USE_RESULT;
 
 /** Write the offset table of a partition.
  *
@@ -481,7 +593,8 @@ vejgodat_length     vejgodat_write_table (uint32_t ranks,
                                           size_t first_len,
                                           const uint32_t * count,
                                           size_t count_len,
-                                          uint8_t * out, size_t out_len);
+                                          uint8_t * out, size_t out_len)
+  VEJGODAT_USE_RESULT;
 
 /** Write the offset table that divides the leaves evenly among the ranks.
  *
@@ -508,7 +621,8 @@ vejgodat_length     vejgodat_table_from_leaves (uint32_t ranks,
                                                 const uint32_t * leaves,
                                                 size_t leaves_len,
                                                 uint8_t * out,
-                                                size_t out_len);
+                                                size_t out_len)
+  VEJGODAT_USE_RESULT;
 
 /** @} */
 
@@ -543,7 +657,8 @@ vejgodat_sender     vejgodat_sender_of (const uint8_t * old_table,
                                         size_t old_len,
                                         const uint8_t * new_table,
                                         size_t new_len,
-                                        uint32_t tree, uint32_t receiver);
+                                        uint32_t tree, uint32_t receiver)
+  VEJGODAT_USE_RESULT;
 
 /** Find the trees that one rank sends to another. They are one range.
  *
@@ -564,7 +679,8 @@ vejgodat_range      vejgodat_trees_sent (const uint8_t * old_table,
                                          size_t old_len,
                                          const uint8_t * new_table,
                                          size_t new_len,
-                                         uint32_t sender, uint32_t receiver);
+                                         uint32_t sender, uint32_t receiver)
+  VEJGODAT_USE_RESULT;
 
 /** List the ranks to which a rank sends a tree.
  *
@@ -592,7 +708,8 @@ vejgodat_ranks      vejgodat_send_set (const uint8_t * old_table,
                                        const uint8_t * new_table,
                                        size_t new_len,
                                        uint32_t rank,
-                                       uint32_t * out, size_t out_len);
+                                       uint32_t * out, size_t out_len)
+  VEJGODAT_USE_RESULT;
 
 /** List the ranks from which a rank gets a tree.
  *
@@ -620,7 +737,8 @@ vejgodat_ranks      vejgodat_receive_set (const uint8_t * old_table,
                                           const uint8_t * new_table,
                                           size_t new_len,
                                           uint32_t rank,
-                                          uint32_t * out, size_t out_len);
+                                          uint32_t * out, size_t out_len)
+  VEJGODAT_USE_RESULT;
 
 /** @} */
 
@@ -641,7 +759,8 @@ vejgodat_ranks      vejgodat_receive_set (const uint8_t * old_table,
  * \return                0 if the mesh is sound, else the refusal.
  */
 uint32_t            vejgodat_check_mesh (const uint8_t * mesh,
-                                         size_t mesh_len);
+                                         size_t mesh_len)
+  VEJGODAT_USE_RESULT;
 
 /** @} */
 
@@ -669,7 +788,8 @@ uint32_t            vejgodat_check_mesh (const uint8_t * mesh,
 vejgodat_length     vejgodat_part_length (const uint8_t * mesh,
                                           size_t mesh_len,
                                           const uint8_t * table,
-                                          size_t table_len, uint32_t rank);
+                                          size_t table_len, uint32_t rank)
+  VEJGODAT_USE_RESULT;
 
 /** Cut a rank's part out of a mesh.
  *
@@ -696,7 +816,8 @@ vejgodat_length     vejgodat_part_length (const uint8_t * mesh,
 vejgodat_length     vejgodat_cut_part (const uint8_t * mesh, size_t mesh_len,
                                        const uint8_t * table,
                                        size_t table_len, uint32_t rank,
-                                       uint8_t * out, size_t out_len);
+                                       uint8_t * out, size_t out_len)
+  VEJGODAT_USE_RESULT;
 
 /** Check whether bytes are a sound part for a table and a rank.
  *
@@ -717,7 +838,8 @@ vejgodat_length     vejgodat_cut_part (const uint8_t * mesh, size_t mesh_len,
 uint32_t            vejgodat_check_part (const uint8_t * part,
                                          size_t part_len,
                                          const uint8_t * table,
-                                         size_t table_len, uint32_t rank);
+                                         size_t table_len, uint32_t rank)
+  VEJGODAT_USE_RESULT;
 
 /** Find what is across a face of a part's tree.
  *
@@ -742,7 +864,8 @@ vejgodat_neighbour  vejgodat_neighbour_of (const uint8_t * part,
                                            size_t part_len,
                                            const uint8_t * table,
                                            size_t table_len, uint32_t rank,
-                                           uint32_t local, uint32_t face);
+                                           uint32_t local, uint32_t face)
+  VEJGODAT_USE_RESULT;
 
 /** Find a record by its global number.
  *
@@ -766,7 +889,117 @@ vejgodat_neighbour  vejgodat_neighbour_of (const uint8_t * part,
  */
 vejgodat_found      vejgodat_lookup (const uint8_t * trees, size_t trees_len,
                                      const uint8_t * ghosts,
-                                     size_t ghosts_len, uint32_t number);
+                                     size_t ghosts_len, uint32_t number)
+  VEJGODAT_USE_RESULT;
+
+/** @} */
+
+/** \name Reading a sound part
+ *
+ * Each of these reads one number in constant time and checks nothing: the part
+ * must be one that \ref vejgodat_cut_part or \ref vejgodat_close_area wrote or
+ * \ref vejgodat_check_part accepted, which a caller learns once and not at each
+ * face. With n trees and g ghosts, an index below n is a tree, n + j is ghost j,
+ * and a face is below 4 in dimension 2 and below 6 in dimension 3.
+ *
+ * The tree data of a part may be written at any time, 24 bytes from
+ * \ref vejgodat_part_place + 40 on; the part stays sound. A tree on several
+ * ranks has its data on each of them, and a message takes its sender's.
+ * @{ */
+
+/** Read four little-endian bytes at any address. */
+static inline uint32_t
+vejgodat_number_at (const uint8_t * bytes)
+{
+  return (uint32_t) bytes[0] | (uint32_t) bytes[1] << 8
+    | (uint32_t) bytes[2] << 16 | (uint32_t) bytes[3] << 24;
+}
+
+/** The dimension, 2 or 3. */
+static inline uint32_t
+vejgodat_part_dimension (const uint8_t * part)
+{
+  return vejgodat_number_at (part);
+}
+
+/** The global number of the part's first tree. */
+static inline uint32_t
+vejgodat_part_first (const uint8_t * part)
+{
+  return vejgodat_number_at (part + 16);
+}
+
+/** The number of trees, n. */
+static inline uint32_t
+vejgodat_part_trees (const uint8_t * part)
+{
+  return vejgodat_number_at (part + 20);
+}
+
+/** The number of ghosts, g. */
+static inline uint32_t
+vejgodat_part_ghosts (const uint8_t * part)
+{
+  return vejgodat_number_at (part + 24);
+}
+
+/** The byte at which the record of tree or ghost \a index begins. */
+static inline size_t
+vejgodat_part_place (const uint8_t * part, uint32_t index)
+{
+  const uint32_t      n = vejgodat_part_trees (part);
+
+  return index < n ? VEJGODAT_PART_BYTES (index, 0)
+    : VEJGODAT_PART_BYTES (n, index - n);
+}
+
+/** The global number of tree or ghost \a index. */
+static inline uint32_t
+vejgodat_part_number (const uint8_t * part, uint32_t index)
+{
+  return vejgodat_number_at (part + vejgodat_part_place (part, index));
+}
+
+/** The shape of tree or ghost \a index, 0 to 5. */
+static inline uint32_t
+vejgodat_part_shape (const uint8_t * part, uint32_t index)
+{
+  return part[vejgodat_part_place (part, index) + 4];
+}
+
+/** What tree or ghost \a index meets at a face: of a tree the local index of a
+ * tree or a ghost, its own at the boundary; of a ghost a global number; and
+ * \ref VEJGODAT_UNUSED where the shape doesn't have the face. */
+static inline uint32_t
+vejgodat_part_neighbour (const uint8_t * part, uint32_t index, uint32_t face)
+{
+  return vejgodat_number_at (part + vejgodat_part_place (part, index) + 8
+                             + 4 * (size_t) face);
+}
+
+/** The neighbour's face that face \a face of \a index meets; 0 where unused. */
+static inline uint32_t
+vejgodat_part_face (const uint8_t * part, uint32_t index, uint32_t face)
+{
+  return part[vejgodat_part_place (part, index) + 32 + face]
+    % (vejgodat_part_dimension (part) == 2 ? 4u : 6u);
+}
+
+/** The orientation at a face; 0 at the boundary and where unused. */
+static inline uint32_t
+vejgodat_part_orientation (const uint8_t * part, uint32_t index,
+                           uint32_t face)
+{
+  return part[vejgodat_part_place (part, index) + 32 + face]
+    / (vejgodat_part_dimension (part) == 2 ? 4u : 6u);
+}
+
+/** The 24 bytes of data of tree \a index, below n: ghosts have none. */
+static inline const uint8_t *
+vejgodat_part_data (const uint8_t * part, uint32_t index)
+{
+  return part + vejgodat_part_place (part, index) + 40;
+}
 
 /** @} */
 
@@ -787,7 +1020,8 @@ vejgodat_found      vejgodat_lookup (const uint8_t * trees, size_t trees_len,
  * \return                 0 if the message is in layout, else the refusal.
  */
 uint32_t            vejgodat_check_message (const uint8_t * message,
-                                            size_t message_len);
+                                            size_t message_len)
+  VEJGODAT_USE_RESULT;
 
 /** Compute the length of the message from one rank to another.
  *
@@ -818,7 +1052,8 @@ vejgodat_length     vejgodat_message_length (const uint8_t * part,
                                              const uint8_t * new_table,
                                              size_t new_len,
                                              uint32_t sender,
-                                             uint32_t receiver);
+                                             uint32_t receiver)
+  VEJGODAT_USE_RESULT;
 
 /** Build the message from one rank to another.
  *
@@ -854,7 +1089,8 @@ vejgodat_length     vejgodat_build_message (const uint8_t * part,
                                             uint32_t sender,
                                             uint32_t receiver,
                                             uint32_t epoch,
-                                            uint8_t * out, size_t out_len);
+                                            uint8_t * out, size_t out_len)
+  VEJGODAT_USE_RESULT;
 
 /** @} */
 
@@ -885,7 +1121,8 @@ vejgodat_length     vejgodat_area_length (const uint8_t * old_table,
                                           size_t old_len,
                                           const uint8_t * new_table,
                                           size_t new_len,
-                                          uint32_t rank, uint32_t dimension);
+                                          uint32_t rank, uint32_t dimension)
+  VEJGODAT_USE_RESULT;
 
 /** Open an area: nobody is heard, and every slot is zero.
  *
@@ -911,7 +1148,8 @@ vejgodat_length     vejgodat_open_area (const uint8_t * old_table,
                                         size_t new_len,
                                         uint32_t rank, uint32_t dimension,
                                         uint32_t epoch,
-                                        uint8_t * out, size_t out_len);
+                                        uint8_t * out, size_t out_len)
+  VEJGODAT_USE_RESULT;
 
 /** Deliver a message to an area.
  *
@@ -940,7 +1178,8 @@ vejgodat_length     vejgodat_open_area (const uint8_t * old_table,
  */
 uint32_t            vejgodat_deliver (uint8_t * area, size_t area_len,
                                       const uint8_t * message,
-                                      size_t message_len);
+                                      size_t message_len)
+  VEJGODAT_USE_RESULT;
 
 /** Find how many senders are heard and how many are due.
  *
@@ -954,7 +1193,8 @@ uint32_t            vejgodat_deliver (uint8_t * area, size_t area_len,
  *                        equal.
  */
 vejgodat_progress   vejgodat_progress_of (const uint8_t * area,
-                                          size_t area_len);
+                                          size_t area_len)
+  VEJGODAT_USE_RESULT;
 
 /** Compute the length of the part that an area gives.
  *
@@ -970,7 +1210,8 @@ vejgodat_progress   vejgodat_progress_of (const uint8_t * area,
  *                        as buffer.
  */
 vejgodat_length     vejgodat_part_of_area_length (const uint8_t * area,
-                                                  size_t area_len);
+                                                  size_t area_len)
+  VEJGODAT_USE_RESULT;
 
 /** Close an area: write the rank's part under the new table.
  *
@@ -991,7 +1232,8 @@ vejgodat_length     vejgodat_part_of_area_length (const uint8_t * area,
  */
 vejgodat_length     vejgodat_close_area (const uint8_t * area,
                                          size_t area_len,
-                                         uint8_t * out, size_t out_len);
+                                         uint8_t * out, size_t out_len)
+  VEJGODAT_USE_RESULT;
 
 /** @} */
 

@@ -15,6 +15,32 @@ static int          wrong = 0;
     }                                                                   \
   } while (0)
 
+static void
+version (void)
+{
+  EXPECT (vejgodat_version () == VEJGODAT_VERSION);
+}
+
+/* Every number has a text, and no two of 0 to 22 have the same. */
+static void
+texts (void)
+{
+  uint32_t            i, j;
+
+  for (i = 0; i < 40; ++i) {
+    EXPECT (strlen (vejgodat_refusal_text (i)) > 7);
+    for (j = 0; j < i && i <= 22; ++j) {
+      EXPECT (strcmp (vejgodat_refusal_text (i), vejgodat_refusal_text (j)));
+    }
+  }
+  for (i = 23; i <= 33; ++i) {
+    EXPECT (!strcmp (vejgodat_refusal_text (i), vejgodat_refusal_text (33)));
+  }
+  EXPECT (strcmp (vejgodat_refusal_text (33), vejgodat_refusal_text (34)));
+  EXPECT (!strcmp (vejgodat_refusal_text (34),
+                   vejgodat_refusal_text (4294967295u)));
+}
+
 /* Write the little-endian bytes of a table. */
 static size_t
 put_table (uint8_t * bytes, int ranks, const int64_t * entries)
@@ -375,6 +401,25 @@ parts (void)
   there = vejgodat_neighbour_of (part, part_len, table, 32, 1, 1, 6);
   EXPECT (there.refusal == VEJGODAT_INDEX && there.shape == 0);
 
+  /* the readers of a sound part say the same, for trees and for the ghost */
+  EXPECT (vejgodat_part_dimension (part) == 2);
+  EXPECT (vejgodat_part_first (part) == 0);
+  EXPECT (vejgodat_part_trees (part) == 2 && vejgodat_part_ghosts (part) == 1);
+  for (k = 0; k < 3; ++k) {
+    EXPECT (vejgodat_part_place (part, k) == VEJGODAT_PART_BYTES (k, 0));
+    EXPECT (vejgodat_part_number (part, k) == k);
+    EXPECT (vejgodat_part_shape (part, k) == 1);
+    EXPECT (vejgodat_part_neighbour (part, k, 0) == (k + 1) % 3);
+    EXPECT (vejgodat_part_face (part, k, 0) == 1);
+    EXPECT (vejgodat_part_neighbour (part, k, 2) == k);
+    EXPECT (vejgodat_part_face (part, k, 2) == 2);
+    EXPECT (vejgodat_part_neighbour (part, k, 3) == VEJGODAT_UNUSED);
+    for (i = 0; i < 4; ++i) {
+      EXPECT (vejgodat_part_orientation (part, k, (uint32_t) i) == 0);
+    }
+  }
+  EXPECT (vejgodat_part_data (part, 1)[23] == 0xa1);
+
   for (k = 0; k < 4; ++k) {
     found = vejgodat_lookup (trees, 2 * 64, ghosts, 40, k);
     EXPECT (found.which == (k < 2 ? 1 : k < 3 ? 2 : 0));
@@ -453,6 +498,11 @@ messages (void)
       EXPECT (memcmp (message, bytes, sizeof message) == 0);
       EXPECT (vejgodat_check_message (message, at) == VEJGODAT_OK);
       EXPECT (vejgodat_check_message (message, at + 1) == VEJGODAT_LAYOUT);
+      /* of the first tree: an orientation where it meets another tree is no matter of layout, one at the boundary is */
+      message[32 + 32] ^= 4;
+      EXPECT (vejgodat_check_message (message, at) == VEJGODAT_OK);
+      message[32 + 34] ^= 4;
+      EXPECT (vejgodat_check_message (message, at) == VEJGODAT_LAYOUT);
 
       memset (message, 0x5a, sizeof message);
       memset (bytes, 0x5a, sizeof bytes);
@@ -566,6 +616,15 @@ areas (void)
               == answer.length);
       EXPECT (memcmp (joined, part, 256) == 0);
       EXPECT (memcmp (area, before, sizeof area) == 0);
+
+      /* the first slot with an orientation at its boundary; then with a shape of the other dimension */
+      area[VEJGODAT_AREA_BYTES (3, 0, 4) + 34] ^= 4;
+      EXPECT (vejgodat_progress_of (area, area_len).refusal == VEJGODAT_AREA);
+      area[VEJGODAT_AREA_BYTES (3, 0, 4) + 34] ^= 4;
+      area[VEJGODAT_AREA_BYTES (3, 0, 4) + 4] = 2;
+      EXPECT (vejgodat_progress_of (area, area_len).refusal == VEJGODAT_OK);
+      EXPECT (vejgodat_close_area (area, area_len, joined, 256).refusal
+              == VEJGODAT_JOIN);
     }
   }
 }
@@ -574,6 +633,8 @@ int
 main (void)
 {
   layout ();
+  version ();
+  texts ();
   check_table ();
   table_length ();
   table_range ();

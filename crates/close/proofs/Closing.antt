@@ -13,10 +13,11 @@ use Rattle.encoding.specs.Refusal.{check, firstFailed}
 use Rattle.encoding.proofs.Below.{either}
 use Rattle.part.specs.Layout.{partSize}
 use Rattle.part.specs.Part.{partSound}
-use Rattle.assembly.specs.Area.{areaRank, areaCount, areaGhosts, areaNew, areaSound}
-use Rattle.assembly.specs.Close.{allHeard, joinSound, joinedPart, closeChecks, closeOf}
-use Rattle.close.specs.Mirror.{JoinRoom}
-use Rattle.close_checks.proofs.Checks.{closes-sound, refused-heard, refused-join, joined-length}
+use Rattle.area.specs.Area.{areaRank, areaCount, areaGhosts, areaNew, areaSound}
+use Rattle.area.specs.Close.{allHeard, joinSound, joinedPart, closeChecks, closeOf}
+use Rattle.close.specs.Means.{JoinRoom}
+use Rattle.close_check.proofs.Checks.{closes-sound, refused-heard, refused-join}
+use Rattle.close.proofs.Lengths.{joined-length}
 use Rattle.close.proofs.Reading.{join-sound-part}
 
 -- one more check behind the three

@@ -9,6 +9,7 @@ use lib.Dec.{ltb, eqb}
 use lib.ListN.{length, length-append}
 use borrow.Author.Tests.{ltb-true, eqb-true, lt-ltb, le-ltb, eq-eqb}
 use Rattle.encoding.specs.Below.{anyBelow, leastBelow}
+use Rattle.encoding.specs.Header.{eightBytes}
 use Rattle.encoding.specs.Pieces.{piece, splice, Bytes}
 use Rattle.encoding.proofs.Below.{either, tests, clash, count-initial, least-lt, least-at}
 use Rattle.encoding.proofs.Pieces.{piece-length, splice-then}
@@ -27,25 +28,24 @@ use Rattle.part_cut.specs.Means.{Held, localRead}
 use Rattle.part.specs.View.{isLocal, ghostIs, held}
 use Rattle.part.proofs.Records.{header-length}
 use Rattle.part_theorems.proofs.Views.{TreeView, view-trees, core-tree, tree-link-held}
-use Rattle.assembly.specs.Layout.{ghostBound, slotsPlace, ghostSlotsPlace, slotsOf}
-use Rattle.assembly.specs.Area.{areaDimension, areaK, areaP, areaRank, areaCount, areaGhosts, areaNew, areaFirst, treeSlot, treeSlotCore, ghostSlot, areaBound, areaSound}
-use Rattle.assembly.specs.Close.{joinSound, joinIndex, joinedPart}
-use Rattle.assembly.specs.Mirror.{HeaderHolds}
-use Rattle.assembly.proofs.Headers.{slots-place-is, ghosts-place-is, size-long}
-use Rattle.assembly.proofs.Opening.{bound-read}
-use Rattle.assembly.proofs.Progressing.{sound-holds}
-use Rattle.assembly.proofs.Slots.{range-trees}
-use Rattle.assembly_laws.proofs.Again.{area-parts, sound-ghosts}
-use Rattle.assembly_laws.proofs.Joined.{slots-length, slots-same, slots-piece}
-use Rattle.assembly_laws.proofs.Kept.{Ghosts}
-use Rattle.assembly_laws.proofs.Zones.{few-trees}
-use Rattle.close.specs.Mirror.{GhostsRoom, SlotsRoom, slotRecord, JoinRoom}
+use Rattle.area.specs.Layout.{ghostBound, slotsPlace, ghostSlotsPlace, slotsOf}
+use Rattle.area.specs.Area.{areaDimension, areaK, areaP, areaRank, areaCount, areaGhosts, areaNew, areaFirst, treeSlot, treeSlotCore, ghostSlot, areaBound, areaSound}
+use Rattle.area.specs.Close.{joinSound, joinIndex, joinedPart}
+use Rattle.area.specs.Means.{wordsEnd, HeaderHolds}
+use Rattle.area.proofs.Headers.{slots-place-is, ghosts-place-is, size-long}
+use Rattle.area.proofs.Ranges.{bound-read, range-trees}
+use Rattle.area.proofs.Soundness.{sound-holds}
+use Rattle.area_theorems.proofs.Again.{area-parts, sound-ghosts}
+use Rattle.area_theorems.proofs.Joined.{slots-length, slots-same, slots-piece}
+use Rattle.area_theorems.proofs.Kept.{Ghosts}
+use Rattle.area_theorems.proofs.Zones.{few-trees}
+use Rattle.close.specs.Means.{GhostsRoom, SlotsRoom, slotRecord, JoinRoom}
 use Rattle.close.proofs.Slots.{renamed-length}
 
 -- ---- the slots
 
 module _ (a : List ℕ) (sound : areaSound a ≡ true) where
-  long : 176 + 16 * areaP a + treeSize * areaCount a + coreSize * areaBound a ≤ length a
+  long : wordsEnd (areaP a) + treeSize * areaCount a + coreSize * areaBound a ≤ length a
   long = size-long a (area-parts a sound .header .long)
 
   pub slot-long : (i : ℕ) → i < areaCount a → length (treeSlot a i) ≡ treeSize
@@ -227,11 +227,11 @@ module _ (a out : List ℕ) (room : JoinRoom a out) (b : Bytes a) {P first n g F
 
   -- header, trees and ghosts, one behind the other, are the joined part
   pub join-written : {d K rank : ℕ} {o1 o2 o3 : List ℕ} → d ≡ areaDimension a → K ≡ areaK a → rank ≡ areaRank a
-      → o1 ≡ splice out 0 (headerBytes d K P rank first n g)
+      → o1 ≡ splice out 0 (eightBytes d K P rank first n g 0)
       → o2 ≡ splice o1 partHeader (slotsOf (slotRecord (localRead a at g first (first + n)) F a from) n)
       → o3 ≡ splice o2 (partHeader + treeSize * n) (piece a at (coreSize * g))
       → o3 ≡ splice out 0 (joinedPart a)
-  unfolding joinedPart
+  unfolding joinedPart headerBytes
   join-written {d} {K} {rank} {o1} {o2} {o3} is-d is-K is-rank e1 e2 e3 =
       let H : List ℕ = headerBytes (areaDimension a) (areaK a) (areaP a) (areaRank a) (areaFirst a) (areaCount a) (areaGhosts a) in
       let ghosts : List ℕ = slotsOf (ghostSlot a) (areaGhosts a) in

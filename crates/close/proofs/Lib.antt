@@ -1,5 +1,6 @@
 -- Laws, for this crate's proofs and for the crates above.
 pub mod Slots
+pub mod Lengths
 pub mod Joining
 pub mod Reading
 pub mod Closing

@@ -15,7 +15,7 @@ use Rattle.encoding.proofs.Below.{either, tests, clash, and-fst, and-snd, iff-e
 use Rattle.encoding.proofs.Numbers.{at-bound}
 use Rattle.encoding.proofs.Pieces.{piece-length, piece-same, bytes-piece, length-splice}
 use Rattle.offsets.specs.Limits.{maxTrees}
-use Rattle.offsets.specs.Table.{ranks, trees, firstTree, holds}
+use Rattle.offsets.specs.Table.{ranks, firstTree, holds}
 use Rattle.pattern.specs.Sender.{Tables, sender, sends}
 use Rattle.pattern.specs.Sets.{getsFrom}
 use Rattle.pattern.proofs.Senders.{sends-in}
@@ -36,17 +36,17 @@ use Rattle.part.proofs.Records.{links-length, header-length, rows-core}
 use Rattle.part_theorems.proofs.Renamed.{renamed-length, renamed-number, renamed-shape, renamed-neighbour, renamed-back}
 use Rattle.part_theorems.proofs.SoundParts.{part-view}
 use Rattle.part_theorems.proofs.Views.{view-trees, view-ghosts, view-same, core-tree, held-cases, tree-link-held}
-use Rattle.assembly.specs.Layout.{slotsPlace, slotsOf}
-use Rattle.assembly.specs.Area.{areaDimension, areaK, areaP, areaRank, areaCount, areaGhosts, areaOld, areaNew, areaFirst, heard, treeSlot, treeSlotCore, ghostSlot, areaSound}
-use Rattle.assembly.specs.Close.{allHeard, joinSound, joinIndex, joinedPart}
-use Rattle.assembly.specs.Mirror.{HeaderHolds}
-use Rattle.assembly.proofs.Progressing.{sound-holds}
-use Rattle.assembly.proofs.Slots.{range-trees}
-use Rattle.assembly_laws.proofs.Again.{area-parts, new-ranks, sound-rank, sound-tables, sound-ghosts, sound-held}
-use Rattle.assembly_laws.proofs.Joined.{words, word-at, piece-first, piece-behind, slots-length, slots-at}
-use Rattle.assembly_laws.proofs.Kept.{Ghosts}
-use Rattle.assembly_laws.proofs.Zones.{few-trees, core-slot}
-use Rattle.close_checks.proofs.Checks.{joined-length}
+use Rattle.area.specs.Layout.{slotsPlace, slotsOf}
+use Rattle.area.specs.Area.{areaDimension, areaK, areaP, areaRank, areaCount, areaGhosts, areaOld, areaNew, areaFirst, heard, treeSlot, treeSlotCore, ghostSlot, areaSound}
+use Rattle.area.specs.Close.{allHeard, joinSound, joinIndex, joinedPart}
+use Rattle.area.specs.Means.{HeaderHolds}
+use Rattle.area.proofs.Soundness.{sound-holds}
+use Rattle.area.proofs.Ranges.{range-trees}
+use Rattle.area_theorems.proofs.Again.{area-parts, new-ranks, sound-rank, sound-tables, sound-ghosts, sound-held}
+use Rattle.area_theorems.proofs.Joined.{words, word-at, piece-first, piece-behind, slots-length, slots-at}
+use Rattle.area_theorems.proofs.Kept.{Ghosts}
+use Rattle.area_theorems.proofs.Zones.{few-trees, core-slot}
+use Rattle.close.proofs.Lengths.{joined-length}
 use Rattle.close.proofs.Joining.{slot-long, ghost-long, tree-long, few-held, range-is, ghost-held, neighbour-held}
 
 -- ---- a record

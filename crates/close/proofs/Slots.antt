@@ -18,14 +18,14 @@ use Rattle.part_cut.specs.Means.{localRead}
 use Rattle.part.specs.Means.{rowsWith}
 use Rattle.part.proofs.Records.{links-length, rows-length, splice-over, with-hold, with-rows, rows-core}
 use Rattle.part_cut.proofs.Trees.{read-word}
-use Rattle.assembly.specs.Layout.{newPlace, wordsPlace, slotsOf}
-use Rattle.assembly.specs.Area.{areaP, areaRank, areaCount, areaNew, areaFirst}
-use Rattle.assembly.specs.Mirror.{HeaderHolds}
-use Rattle.assembly.proofs.Headers.{tabled}
-use Rattle.assembly.proofs.Slots.{range-trees}
-use Rattle.assembly_laws.proofs.Joined.{slots-length}
-use Rattle.assembly_laws.proofs.Zones.{few-trees}
-use Rattle.close.specs.Mirror.{SlotRoom, SlotsRoom, slotRecord}
+use Rattle.area.specs.Layout.{newPlace, wordsPlace, slotsOf}
+use Rattle.area.specs.Area.{areaP, areaRank, areaCount, areaNew, areaFirst}
+use Rattle.area.specs.Means.{HeaderHolds}
+use Rattle.area.proofs.Headers.{tabled}
+use Rattle.area.proofs.Ranges.{range-trees}
+use Rattle.area_theorems.proofs.Joined.{slots-length}
+use Rattle.area_theorems.proofs.Zones.{few-trees}
+use Rattle.close.specs.Means.{SlotRoom, SlotsRoom, slotRecord}
 
 -- ---- the range
 

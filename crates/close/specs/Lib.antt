@@ -1,2 +1,2 @@
 -- Document 01, "Messages and assembly": close.
-pub mod Mirror
+pub mod Means

@@ -1,15 +1,15 @@
 // Writing the joined part of an area: the header, the trees with local indices, the ghosts.
-use assembly::area::count;
-use assembly::area::dimension;
-use assembly::area::ghosts;
-use assembly::area::rank;
-use assembly::area::ranks;
-use assembly::area::trees;
-use assembly::copy::copy_words;
-use assembly::place::ghost_slots_place;
-use assembly::place::new_place;
-use assembly::place::slots_place;
-use assembly::place::words_place;
+use area::copy::copy_words;
+use area::layout::ghost_slots_place;
+use area::layout::new_place;
+use area::layout::slots_place;
+use area::layout::words_place;
+use area::read::count;
+use area::read::dimension;
+use area::read::ghosts;
+use area::read::rank;
+use area::read::ranks;
+use area::read::trees;
 use records::index::GlobalIndex;
 ghost use mathlib.Core.Path.{_≡_};
 ghost use Prim.Native.Nat.{_+_, _*_, _≤_};
@@ -19,11 +19,11 @@ ghost use Rattle.records.specs.Record.{coreSize, treeSize};
 ghost use Rattle.part.specs.Layout.{partHeader};
 ghost use Rattle.part.specs.Cut.{renamed};
 ghost use Rattle.part_cut.specs.Means.{localRead};
-ghost use Rattle.assembly.specs.Layout.{slotsOf};
-ghost use Rattle.assembly.specs.Area.{areaCount, areaFirst};
-ghost use Rattle.assembly.specs.Close.{joinedPart};
-ghost use Rattle.assembly.specs.Mirror.{HeaderHolds};
-ghost use Rattle.close.specs.Mirror.{GhostsRoom, SlotRoom, SlotsRoom, slotRecord, JoinRoom};
+ghost use Rattle.area.specs.Layout.{slotsOf};
+ghost use Rattle.area.specs.Area.{areaCount, areaFirst};
+ghost use Rattle.area.specs.Close.{joinedPart};
+ghost use Rattle.area.specs.Means.{HeaderHolds};
+ghost use Rattle.close.specs.Means.{GhostsRoom, SlotRoom, SlotsRoom, slotRecord, JoinRoom};
 
 // The first tree of the new range.
 fn first_tree(area: &[u8]) -> GlobalIndex
@@ -34,7 +34,7 @@ fn first_tree(area: &[u8]) -> GlobalIndex
     let middle = new_place(ranks);
     let end = words_place(ranks);
     let new = &area[middle..end];
-    let first = offsets::inner::first_tree(new, rank(area)) as u32;
+    let first = offsets::table::first_tree(new, rank(area)) as u32;
     GlobalIndex(first)
 }
 
@@ -116,7 +116,7 @@ pub fn write_part(area: &[u8], out: &mut [u8])
     let from = slots_place(ranks);
     let at = ghost_slots_place(ranks, n);
     let faces = records::shape::faces_in(dimension);
-    part::cut::write_header(
+    encoding::header::write_eight(
         &mut *out,
         dimension,
         trees(area),
@@ -125,6 +125,7 @@ pub fn write_part(area: &[u8], out: &mut [u8])
         first,
         n,
         ghosts,
+        0,
     );
     write_trees(area, from, faces, first, n, at, ghosts, &mut *out);
     write_ghosts(area, at, ghosts, &mut *out, 32 + 64 * (n as usize));

@@ -11,14 +11,14 @@ use Rattle.encoding.specs.Below.{anyBelow, leastBelow}
 use Rattle.encoding.specs.Pieces.{Bytes}
 use Rattle.encoding.proofs.Below.{either, clash, below-suc}
 use Rattle.records.specs.Record.{numberOf}
-use Rattle.assembly.specs.Area.{areaK, areaRank, areaGhosts, areaNew, ghostSlot}
+use Rattle.area.specs.Area.{areaK, areaRank, areaGhosts, areaNew, ghostSlot}
 use Rattle.message.specs.Layout.{messageGhosts, messageGhost}
-use Rattle.assembly.specs.Layout.{slotsOf}
-use Rattle.assembly.specs.Deliver.{among, oneOf, ghostsAfter}
-use Rattle.assembly_laws.proofs.Kept.{Ghosts, keptRecords, records-same, among-one, among-at, among-none, inEither, ofEither}
-use Rattle.assembly_laws.proofs.Again.{sound-ghosts}
-use Rattle.assembly_laws.proofs.Delivered.{Accepted, after-kept, delivery-ghosts, delivery-apart}
-use Rattle.deliver.specs.Mirror.{mergedWith, merged}
+use Rattle.area.specs.Layout.{slotsOf}
+use Rattle.area.specs.Deliver.{among, oneOf, ghostsAfter}
+use Rattle.area_theorems.proofs.Kept.{Ghosts, keptRecords, records-same, among-one, among-at, among-none, inEither, ofEither}
+use Rattle.area_theorems.proofs.Again.{sound-ghosts}
+use Rattle.area_theorems.proofs.Delivered.{Accepted, after-kept, delivery-ghosts, delivery-apart}
+use Rattle.deliver.specs.Means.{mergedWith, merged}
 
 -- ---- the records of the numbers that pass
 

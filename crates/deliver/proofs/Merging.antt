@@ -14,10 +14,10 @@ use Rattle.encoding.proofs.Below.{either, clash}
 use Rattle.encoding.proofs.Pieces.{piece-length, piece-below, length-splice}
 use Rattle.records.specs.Record.{coreSize, numberOf}
 use Rattle.records.proofs.Forms.{piece-piece}
-use Rattle.assembly.specs.Layout.{slotsOf}
-use Rattle.assembly.specs.Mirror.{coreAt}
-use Rattle.assembly_laws.proofs.Joined.{slots-length, slots-piece}
-use Rattle.deliver.specs.Mirror.{mergedWith, merged, heldLast, LastRoom, MergeRoom}
+use Rattle.area.specs.Layout.{slotsOf}
+use Rattle.area.specs.Means.{coreAt}
+use Rattle.area_theorems.proofs.Joined.{slots-length, slots-piece}
+use Rattle.deliver.specs.Means.{mergedWith, merged, heldLast, LastRoom, MergeRoom}
 
 -- ---- the merge from the back
 

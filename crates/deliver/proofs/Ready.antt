@@ -15,17 +15,17 @@ use Rattle.pattern.specs.Sender.{Tables, sender, sends, sentCount}
 use Rattle.pattern.specs.Sets.{sendsTo, getsFrom}
 use Rattle.pattern.proofs.Sets.{gets-sends}
 use Rattle.message.specs.Layout.{messageSender, messageTrees, messageGhosts, messageTree}
-use Rattle.assembly.specs.Layout.{wordsPlace, slotsPlace, ghostSlotsPlace}
-use Rattle.assembly.specs.Area.{areaDimension, areaP, areaRank, areaCount, areaGhosts, areaOld, areaNew, areaFirst, areaBound}
-use Rattle.assembly.specs.Deliver.{deliverChecks}
-use Rattle.assembly.specs.Mirror.{HeaderHolds, Tabled, fromFirst, fromCount, fromPlace}
-use Rattle.assembly.proofs.Headers.{words-place-is, slots-place-is, ghosts-place-is}
-use Rattle.assembly.proofs.Progressing.{sound-holds}
-use Rattle.assembly.proofs.Slots.{from-within}
-use Rattle.assembly_laws.proofs.Zones.{bound-small}
-use Rattle.assembly_laws.proofs.Again.{old-ranks, sound-tables, sound-rank}
-use Rattle.assembly_laws.proofs.Delivered.{Accepted, layout-parts, accepted-parts, sender-rank, sender-due, trees-count, trees-number}
-use Rattle.deliver.specs.Mirror.{Ready, Placed}
+use Rattle.area.specs.Layout.{wordsPlace, slotsPlace, ghostSlotsPlace}
+use Rattle.area.specs.Area.{areaDimension, areaP, areaRank, areaCount, areaGhosts, areaOld, areaNew, areaFirst, areaBound}
+use Rattle.area.specs.Deliver.{deliverChecks}
+use Rattle.area.specs.Means.{HeaderHolds, Tabled, fromFirst, fromCount, fromPlace}
+use Rattle.area.proofs.Headers.{words-place-is, slots-place-is, ghosts-place-is}
+use Rattle.area.proofs.Soundness.{sound-holds}
+use Rattle.area.proofs.Ranges.{from-within}
+use Rattle.area_theorems.proofs.Zones.{bound-small}
+use Rattle.area_theorems.proofs.Again.{old-ranks, sound-tables, sound-rank}
+use Rattle.area_theorems.proofs.Delivered.{Accepted, layout-parts, accepted-parts, sender-rank, sender-due, trees-count, trees-number}
+use Rattle.deliver.specs.Means.{Ready, Placed}
 
 -- a rank that sends another a tree sends at least one
 sent-some : (old new : List ℕ) → Tables old new → (p q : ℕ) → p < ranks old → q < ranks old → getsFrom old new q p ≡ true → sentCount old new p q ≡ 0 → ⊥

@@ -19,10 +19,10 @@ use Rattle.offsets.proofs.Tables.{size}
 use Rattle.records.specs.Shape.{facesIn}
 use Rattle.records.specs.Record.{coreSize, treeSize}
 use Rattle.pattern.specs.Sender.{Tables}
-use Rattle.assembly.specs.Layout.{heardWords, ghostBound, newPlace, wordsPlace, slotsPlace, ghostSlotsPlace, areaHeaderBytes, wordOf, wordsOf, slotsOf, areaWith}
-use Rattle.assembly_laws.proofs.Joined.{piece-first, piece-behind, slots-length, slots-at, slots-same, slots-piece}
-use Rattle.assembly_laws.proofs.Heard.{words-slots}
-use Rattle.assembly_laws.proofs.Zones.{Zones, header-length}
+use Rattle.area.specs.Layout.{heardWords, ghostBound, newPlace, wordsPlace, slotsPlace, ghostSlotsPlace, areaHeaderBytes, wordOf, wordsOf, slotsOf, areaWith}
+use Rattle.area_theorems.proofs.Joined.{piece-first, piece-behind, slots-length, slots-at, slots-same, slots-piece}
+use Rattle.area_theorems.proofs.Heard.{words-slots}
+use Rattle.area_theorems.proofs.Zones.{Zones, header-length}
 
 -- ---- lists in a row
 

@@ -22,17 +22,17 @@ use Rattle.offsets.specs.Table.{ranks, treeCount}
 use Rattle.pattern.specs.Sender.{Tables, sends, sentCount}
 use Rattle.pattern.proofs.Sets.{one-range, sent-in}
 use Rattle.message.specs.Layout.{messageSender, messageTrees, messageGhosts, messageGhostPlace, messageGhost}
-use Rattle.assembly.specs.Layout.{heardWords, wordsPlace, slotsPlace, ghostSlotsPlace, wordOf, slotsOf, areaWith}
-use Rattle.assembly.specs.Area.{areaEpoch, areaDimension, areaK, areaP, areaRank, areaCount, areaGhosts, areaOld, areaNew, areaFirst, heard, treeSlot, ghostSlot, behindArea}
-use Rattle.assembly.specs.Deliver.{deliverChecks, slotAfter, ghostsAfter, delivered, deliverOf}
-use Rattle.assembly.specs.Mirror.{fromFirst, fromPlace, coreAt}
-use Rattle.assembly.proofs.Headers.{words-place-is, slots-place-is, ghosts-place-is}
-use Rattle.assembly.proofs.Slots.{range-trees}
-use Rattle.assembly_laws.proofs.Heard.{word-again, word-same}
-use Rattle.assembly_laws.proofs.Zones.{Zones, words-enough}
-use Rattle.assembly_laws.proofs.Again.{old-ranks, sound-tables, sound-rank, sound-zones, area-again}
-use Rattle.assembly_laws.proofs.Delivered.{Accepted, accepted-parts, after-length, delivered-zones}
-use Rattle.deliver.specs.Mirror.{merged, Ready, Placed}
+use Rattle.area.specs.Layout.{heardWords, wordsPlace, slotsPlace, ghostSlotsPlace, wordOf, slotsOf, areaWith}
+use Rattle.area.specs.Area.{areaEpoch, areaDimension, areaK, areaP, areaRank, areaCount, areaGhosts, areaOld, areaNew, areaFirst, heard, treeSlot, ghostSlot, behindArea}
+use Rattle.area.specs.Deliver.{deliverChecks, slotAfter, ghostsAfter, delivered, deliverOf}
+use Rattle.area.specs.Means.{fromFirst, fromPlace, coreAt}
+use Rattle.area.proofs.Headers.{words-place-is, slots-place-is, ghosts-place-is, words-enough}
+use Rattle.area.proofs.Ranges.{range-trees}
+use Rattle.area_theorems.proofs.Heard.{word-again, word-same}
+use Rattle.area_theorems.proofs.Zones.{Zones}
+use Rattle.area_theorems.proofs.Again.{old-ranks, sound-tables, sound-rank, sound-zones, area-again}
+use Rattle.area_theorems.proofs.Delivered.{Accepted, accepted-parts, after-length, delivered-zones}
+use Rattle.deliver.specs.Means.{merged, Ready, Placed}
 use Rattle.deliver.proofs.Merged.{merged-after}
 use Rattle.deliver.proofs.Splices.{words-write, slots-write, ghosts-write}
 

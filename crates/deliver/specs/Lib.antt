@@ -1,2 +1,2 @@
 -- What the functions of a delivery require, and values that mirror their code.
-pub mod Mirror
+pub mod Means

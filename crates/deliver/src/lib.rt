@@ -1,6 +1,6 @@
 // Delivering a message into an area.
 ghost use mathlib.Core.Path.{_≡_};
-ghost use Rattle.assembly.specs.Deliver.{deliverOf};
+ghost use Rattle.area.specs.Deliver.{deliverOf};
 
 pub mod merge;
 pub mod write;
@@ -9,7 +9,7 @@ pub mod write;
 pub fn deliver(area: &mut [u8], message: &[u8]) -> u32
     ensures { λ r. ⌜ (r, now (area .exit)) ≡ deliverOf (now (area .entry)) (now (message .entry)) ⌝ }
 {
-    let refusal = deliver_checks::refusal(&*area, message);
+    let refusal = deliver_check::check::refusal(&*area, message);
     if refusal != 0 {
         return refusal;
     }

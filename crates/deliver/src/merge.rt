@@ -1,8 +1,8 @@
 // The ghosts that came, merged into those held.
 ghost use mathlib.Core.Path.{_≡_};
 ghost use Rattle.encoding.specs.Pieces.{splice};
-ghost use Rattle.assembly.specs.Mirror.{coreAt};
-ghost use Rattle.deliver.specs.Mirror.{heldLast, merged, LastRoom, MergeRoom};
+ghost use Rattle.area.specs.Means.{coreAt};
+ghost use Rattle.deliver.specs.Means.{heldLast, merged, LastRoom, MergeRoom};
 
 // Whether of the first i held ghosts and the first j that came the last held one has the largest number.
 fn held_last(area: &[u8], at: usize, i: usize, message: &[u8], from: usize, j: usize) -> bool

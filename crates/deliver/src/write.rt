@@ -6,9 +6,9 @@ ghost use Rattle.encoding.specs.Numbers.{u64At, putU64};
 ghost use Rattle.encoding.specs.Refusal.{firstFailed};
 ghost use Rattle.bits.specs.Bits.{withBit};
 ghost use Rattle.message.specs.Layout.{messageSender};
-ghost use Rattle.assembly.specs.Deliver.{deliverChecks, delivered};
-ghost use Rattle.assembly.specs.Mirror.{fromPlace};
-ghost use Rattle.deliver.specs.Mirror.{Ready, Placed};
+ghost use Rattle.area.specs.Deliver.{deliverChecks, delivered};
+ghost use Rattle.area.specs.Means.{fromPlace};
+ghost use Rattle.deliver.specs.Means.{Ready, Placed};
 use crate::merge::merge;
 use records::index::GlobalIndex;
 use records::index::to_local;
@@ -29,14 +29,14 @@ fn trees_place(area: &[u8], message: &[u8]) -> usize
     requires { ⌜ Ready (now area) (now message) ⌝ }
     ensures { λ r. ⌜ r ≡ fromPlace (now (area .entry)) (messageSender (now (message .entry))) ⌝ }
 {
-    let ranks = assembly::area::ranks(area);
-    let middle = assembly::place::new_place(ranks);
-    let end = assembly::place::words_place(ranks);
+    let ranks = area::read::ranks(area);
+    let middle = area::layout::new_place(ranks);
+    let end = area::layout::words_place(ranks);
     let new = &area[middle..end];
     let sent = records::read::number_of(message, 32);
-    let first = offsets::inner::first_tree(new, assembly::area::rank(area)) as u32;
+    let first = offsets::table::first_tree(new, area::read::rank(area)) as u32;
     let tree = to_local(GlobalIndex(sent), GlobalIndex(first));
-    assembly::place::slots_place(ranks) + 64 * (tree.0 as usize)
+    area::layout::slots_place(ranks) + 64 * (tree.0 as usize)
 }
 
 // Sets the bit of sender s in the words from byte `words` on.
@@ -53,16 +53,16 @@ fn places(area: &[u8], message: &[u8]) -> WritePlaces
     requires { ⌜ Ready (now area) (now message) ⌝ }
     ensures { λ r. ⌜ Placed (now (area .entry)) (now (message .entry)) (r .words) (r .sender) (r .slots) (r .trees) (r .ghosts) (r .held) (r .came) ⌝ }
 {
-    let ranks = assembly::area::ranks(area);
-    let count = assembly::area::count(area);
+    let ranks = area::read::ranks(area);
+    let count = area::read::count(area);
     WritePlaces {
-        words: assembly::place::words_place(ranks),
-        sender: message::inner::sender(message) as usize,
+        words: area::layout::words_place(ranks),
+        sender: message::header::sender(message) as usize,
         slots: trees_place(area, message),
-        trees: message::inner::tree_count(message) as usize,
-        ghosts: assembly::place::ghost_slots_place(ranks, count),
-        held: assembly::area::ghosts(area),
-        came: message::inner::ghost_count(message),
+        trees: message::header::tree_count(message) as usize,
+        ghosts: area::layout::ghost_slots_place(ranks, count),
+        held: area::read::ghosts(area),
+        came: message::header::ghost_count(message),
     }
 }
 
@@ -74,7 +74,7 @@ pub fn write_delivery(area: &mut [u8], message: &[u8])
     let at = places(&*area, message);
     let end = 32 + 64 * at.trees;
     set_heard(&mut *area, at.words, at.sender);
-    assembly::copy::copy_words(&message[32..end], 8 * at.trees, &mut *area, at.slots);
+    area::copy::copy_words(&message[32..end], 8 * at.trees, &mut *area, at.slots);
     merge(
         &mut *area,
         at.ghosts,

@@ -366,3 +366,38 @@ kept-ascends n f i j d h k =
     let b = getD (keptBelow n f) j d in
     either (ltb a b) (ltb-true a b)
     (λ p. absurd (omega (arith, count-mono b a f (omega tests), kept-found n f i d (omega arith), kept-found n f j d k)))
+
+-- ---- counting by value
+
+sum-plus : (n : ℕ) (f g : ℕ → ℕ) → sumBelow n (λ i. f i + g i) ≡ sumBelow n f + sumBelow n g
+unfolding sumBelow
+sum-plus zero f g = refl
+sum-plus (suc n) f g = let r = sum-plus n f g in omega arith
+
+pub sum-none : (n : ℕ) → sumBelow n (λ i. 0) ≡ 0
+unfolding sumBelow
+sum-none zero = refl
+sum-none (suc n) = rw (sum-none n)
+
+sum-one : (n v : ℕ) → v < n → sumBelow n (λ b. cond (eqb v b) 1 0) ≡ 1
+unfolding sumBelow
+sum-one zero v h = absurd (omega arith)
+sum-one (suc n) v h =
+    below-suc v n h
+    (λ p. either (eqb v n) (λ e. absurd (omega tests)) (λ e. rw (e, sum-one n v p)))
+    (λ q.
+    let z : sumBelow n (λ b. cond (eqb v b) 1 0) ≡ 0 =
+    sum-same n (λ b. cond (eqb v b) 1 0) (λ b. 0) (λ b l. either (eqb v b) (λ e. absurd (omega tests)) (λ e. rw e)) ∙ sum-none n in
+    rw (z, eq-eqb v n q))
+
+sum-where : (n v : ℕ) → v < n → (c : Bool) → sumBelow n (λ b. cond (c && eqb v b) 1 0) ≡ cond c 1 0
+sum-where n v h true = sum-one n v h
+sum-where n v h false = sum-none n
+
+-- where every value is below m, the numbers that pass are those that pass with value 0, with value 1, ..
+pub count-by-value : (n m : ℕ) (f : ℕ → Bool) (value : ℕ → ℕ) → ((i : ℕ) → i < n → value i < m) → countBelow n f ≡ sumBelow m (λ b. countBelow n (λ i. f i && eqb (value i) b))
+unfolding countBelow
+count-by-value zero m f value h = sym (sum-none m)
+count-by-value (suc n) m f value h =
+    ap₂ (λ (x y : ℕ). x + y) (count-by-value n m f value (λ i l. h i (omega arith))) (sym (sum-where m (value n) (h n (le-refl (suc n))) (f n)))
+    ∙ sym (sum-plus m (λ b. countBelow n (λ i. f i && eqb (value i) b)) (λ b. cond (f n && eqb (value n) b) 1 0))

@@ -13,8 +13,7 @@ use Rattle.encoding.specs.Numbers.{u32At}
 use Rattle.encoding.specs.Pieces.{piece}
 use Rattle.encoding.proofs.Below.{tests, either, and-fst, and-snd, iff-eq, all-at, all-same, any-at, any-intro}
 use Rattle.encoding.proofs.Pieces.{piece-length}
-use Rattle.offsets.specs.Limits.{maxTrees, treeCountOk}
-use Rattle.offsets.proofs.Tables.{trees-within}
+use Rattle.offsets.specs.Limits.{treeCountOk}
 use Rattle.records.specs.Shape.{dimensionOf, faceCount, corners}
 use Rattle.records.specs.Record.{coreSize, treeSize, numberOf, shapeOf, neighbourOf, faceOf, orientationOf, inForm}
 use Rattle.records.proofs.Shapes.{corners-none}
@@ -83,9 +82,6 @@ module _ (m : List ℕ) (sound : meshSound m ≡ true) where
       let d = meshDimension m in
       let e : (eqb d 2 || eqb d 3) ≡ true = header-parts m sound-header .0 in
       either (eqb d 2) (λ p. inl (eqb-true d 2 p)) (λ p. inr (eqb-true d 3 (rw p at e)))
-
-  pub sound-count : (1 ≤ meshTrees m) × (meshTrees m ≤ maxTrees)
-  sound-count = trees-within (meshTrees m) (header-parts m sound-header .1)
 
   pub sound-length : length m ≡ meshHeader + treeSize * meshTrees m
   sound-length = header-parts m sound-header .2

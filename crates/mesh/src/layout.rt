@@ -41,6 +41,6 @@ pub fn header_sound(mesh: &[u8]) -> bool
     }
     let trees = trees(mesh);
     dimension_ok(dimension(mesh))
-        & offsets::inner::tree_count_ok(trees as u64)
+        & offsets::table::tree_count_ok(trees as u64)
         & (mesh.len() == tree_at(trees))
 }

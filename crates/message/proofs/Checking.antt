@@ -14,7 +14,7 @@ use Rattle.records.specs.Shape.{dimensionOf, faceCount}
 use Rattle.records.specs.Record.{coreSize, treeSize, numberOf, shapeOf, neighbourOf, inForm}
 use Rattle.mesh.specs.Mesh.{dimensionOk}
 use Rattle.message.specs.Layout.{messageHeader, messageGhostPlace, messageSize, messageDimension, messageK, messageTrees, messageGhosts, messageTree, messageGhost, recordLaid, sizeLaid, afterLast, recordsLaid, inLayout}
-use Rattle.message.specs.Mirror.{coreAt, Row}
+use Rattle.message.specs.Means.{coreAt, Row}
 use Rattle.message.proofs.Layouts.{size-length}
 
 module _ (m : List ℕ) where
@@ -53,7 +53,7 @@ module _ (m : List ℕ) where
     next-read l p q = rw (← l, p, q)
 
   -- the trees are one row
-  pub trees-row : (n : ℕ) → recordsLaid m n (coreAt m messageHeader treeSize) ≡ recordsLaid m n (messageTree m)
+  trees-row : (n : ℕ) → recordsLaid m n (coreAt m messageHeader treeSize) ≡ recordsLaid m n (messageTree m)
   unfolding coreAt messageTree
   trees-row n = refl
 
@@ -64,7 +64,7 @@ module _ (m : List ℕ) where
       rw e
 
   -- and so are the ghosts
-  pub ghosts-row : (g : ℕ) → recordsLaid m g (coreAt m (messageGhostPlace (messageTrees m) 0) coreSize) ≡ recordsLaid m g (messageGhost m)
+  ghosts-row : (g : ℕ) → recordsLaid m g (coreAt m (messageGhostPlace (messageTrees m) 0) coreSize) ≡ recordsLaid m g (messageGhost m)
   unfolding recordsLaid afterLast
   ghosts-row g = simp ghost-core
 

@@ -1,16 +1,14 @@
 -- Document 01's three triangles, old {0,1,3,3}, new {0,-1,2,3}, computed on the definitions.
 use Prim.Native.Nat.{ℕ}
 use mathlib.Core.Path.{_≡_, refl}
-use mathlib.Core.Bool.{true, false}
-use mathlib.Core.List.{List, [], _∷_, _++_}
-use lib.ListN.{replicate}
-use Rattle.encoding.specs.Below.{anyBelow, countBelow, leastBelow, keptBelow}
+use mathlib.Core.List.{List, [], _∷_}
+use Rattle.encoding.specs.Below.{anyBelow, leastBelow, keptBelow}
 use Rattle.encoding.specs.Numbers.{leValue, leBytes, leAt}
 use Rattle.encoding.specs.Pieces.{piece}
 use Rattle.offsets.specs.Table.{ranks, entry, negative, magnitude, firstOf, trees, firstTree, endTree, holds, tableBytes}
 use Rattle.offsets.proofs.Examples.{minus}
 use Rattle.records.specs.Shape.{faceCount}
-use Rattle.records.specs.Record.{shapeOf, neighbourOf, unused}
+use Rattle.records.specs.Record.{shapeOf, neighbourOf}
 use Rattle.pattern.specs.Sender.{leastHolder, sender, sends}
 use Rattle.mesh.specs.Mesh.{meshCore}
 use Rattle.mesh.proofs.Examples.{numbers, treeBytes, triangle, triangles}

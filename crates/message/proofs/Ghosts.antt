@@ -22,7 +22,7 @@ use Rattle.message.specs.Rule.{sendsBeside, considers, sendsGhost, ghost
 
 module _ (old new : List ℕ) (T : Tables old new) where
   -- no two ranks send q the same tree
-  pub sends-once : (p p' q k : ℕ) → sends old new p q k ≡ true → sends old new p' q k ≡ true → p ≡ p'
+  sends-once : (p p' q k : ℕ) → sends old new p q k ≡ true → sends old new p' q k ≡ true → p ≡ p'
   sends-once p p' q k e d = sym (sends-true old new T p q k e .1) ∙ sends-true old new T p' q k d .1
 
   -- the rank that sends q a tree is below P
@@ -74,13 +74,13 @@ module _ (core : ℕ → List ℕ) (old new : List ℕ) where
   no-ghost-sender p q g e = rw (e, and-false (sendsBeside core old new p q g))
 
   -- of a ghost, considering it is sending a neighbour of it
-  pub considers-beside : (p q g : ℕ) → isGhost core new q g ≡ true → considers core old new p q g ≡ sendsBeside core old new p q g
+  considers-beside : (p q g : ℕ) → isGhost core new q g ≡ true → considers core old new p q g ≡ sendsBeside core old new p q g
   unfolding considers
   considers-beside p q g e = rw (e, and-true)
 
   module _ (T : Tables old new) (q g : ℕ) (rank : q < ranks old) (ghostly : isGhost core new q g ≡ true) where
     -- some rank sends q a neighbour of its ghost
-    pub some-sender : anyBelow (ranks old) (λ r. sendsBeside core old new r q g) ≡ true
+    some-sender : anyBelow (ranks old) (λ r. sendsBeside core old new r q g) ≡ true
     unfolding isGhost
     some-sender =
         let a = any-at (faceCount (shapeOf (core g))) (λ f. holds new q (neighbourOf (core g) f)) (and-snd (not (holds new q g)) _ ghostly) in
@@ -95,13 +95,9 @@ module _ (core : ℕ → List ℕ) (old new : List ℕ) where
     ghost-sender-lt = either (sendsBeside core old new q q g) (λ e. rw e rank) (λ e. rw e (least-lt (ranks old) (λ r. sendsBeside core old new r q g) some-sender))
 
     -- it sends q a neighbour of the ghost
-    pub ghost-sender-beside : sendsBeside core old new (ghostSender core old new q g) q g ≡ true
+    ghost-sender-beside : sendsBeside core old new (ghostSender core old new q g) q g ≡ true
     unfolding ghostSender
     ghost-sender-beside = either (sendsBeside core old new q q g) (λ e. rw (e, e)) (λ e. rw e (least-at (ranks old) (λ r. sendsBeside core old new r q g) some-sender))
-
-    -- so it considers it
-    pub ghost-sender-considers : considers core old new (ghostSender core old new q g) q g ≡ true
-    ghost-sender-considers = considers-beside (ghostSender core old new q g) q g ghostly ∙ ghost-sender-beside
 
     -- that rank and no other sends it
     pub one-ghost-sender : (p : ℕ) → sendsGhost core old new p q g ≡ eqb p (ghostSender core old new q g)

@@ -10,7 +10,6 @@ use borrow.Author.Tests.{ltb-true, eqb-true, ne-eqb}
 use Rattle.encoding.specs.Numbers.{u32At}
 use Rattle.encoding.specs.Pieces.{piece}
 use Rattle.encoding.proofs.Below.{below-suc, and-fst, and-snd, all-at, all-same}
-use Rattle.encoding.proofs.Pieces.{piece-length}
 use Rattle.records.specs.Shape.{dimensionOf, faceCount}
 use Rattle.records.specs.Record.{coreSize, treeSize, numberOf, shapeOf, neighbourOf, inForm}
 use Rattle.records.proofs.Forms.{at-piece}
@@ -21,16 +20,6 @@ use Rattle.message.specs.Layout.{messageHeader, messageTreePlace, messag
 
 -- of a record that is laid out so
 module _ (m r : List ℕ) (laid : recordLaid m r ≡ true) where
-  record-first : (inForm (numberOf r) r && eqb (dimensionOf (shapeOf r)) (messageDimension m)) ≡ true
-  unfolding recordLaid
-  record-first = and-fst (inForm (numberOf r) r && eqb (dimensionOf (shapeOf r)) (messageDimension m)) _ laid
-
-  pub record-form : inForm (numberOf r) r ≡ true
-  record-form = and-fst (inForm (numberOf r) r) _ record-first
-
-  pub record-shape : dimensionOf (shapeOf r) ≡ messageDimension m
-  record-shape = eqb-true _ _ (and-snd (inForm (numberOf r) r) _ record-first)
-
   -- the neighbours of used faces are below K
   pub record-neighbour : (f : ℕ) → f < faceCount (shapeOf r) → neighbourOf r f < messageK m
   unfolding recordLaid
@@ -53,7 +42,7 @@ module _ (m : List ℕ) (count : ℕ) (r : ℕ → List ℕ) (laid : recordsLaid
       ltb-true _ _ (rw (ne-eqb (suc i) 0 (λ z. omega arith), e) at (and-snd (recordLaid m (r (suc i))) (afterLast r (suc i)) (records-both (suc i) h)))
 
   -- strictly ascending
-  pub records-ascend : (i j : ℕ) → i < j → j < count → numberOf (r i) < numberOf (r j)
+  records-ascend : (i j : ℕ) → i < j → j < count → numberOf (r i) < numberOf (r j)
   records-ascend i zero h k = absurd (omega arith)
   records-ascend i (suc j) h k =
       below-suc i j h (λ p. omega (arith, records-ascend i j p (omega arith), records-step j k)) (λ e. rw e (records-step j k))
@@ -62,10 +51,6 @@ module _ (m : List ℕ) (count : ℕ) (r : ℕ → List ℕ) (laid : recordsLaid
 
 module _ (m : List ℕ) where
   module _ (laid : sizeLaid m ≡ true) where
-    pub size-dimension : dimensionOk (messageDimension m) ≡ true
-    unfolding sizeLaid
-    size-dimension = and-fst (dimensionOk (messageDimension m)) _ laid
-
     pub size-length : length m ≡ messageSize (messageTrees m) (messageGhosts m)
     unfolding sizeLaid
     size-length = eqb-true _ _ (and-snd (dimensionOk (messageDimension m)) _ laid)
@@ -79,10 +64,10 @@ module _ (m : List ℕ) where
     pub layout-size : sizeLaid m ≡ true
     layout-size = and-fst (sizeLaid m) _ layout-first
 
-    pub layout-trees : recordsLaid m (messageTrees m) (messageTree m) ≡ true
+    layout-trees : recordsLaid m (messageTrees m) (messageTree m) ≡ true
     layout-trees = and-snd (sizeLaid m) _ layout-first
 
-    pub layout-ghosts : recordsLaid m (messageGhosts m) (messageGhost m) ≡ true
+    layout-ghosts : recordsLaid m (messageGhosts m) (messageGhost m) ≡ true
     unfolding inLayout
     layout-ghosts = and-snd (sizeLaid m && recordsLaid m (messageTrees m) (messageTree m)) _ laid
 
@@ -91,9 +76,6 @@ module _ (m : List ℕ) where
 
     pub ghost-laid : (j : ℕ) → j < messageGhosts m → recordLaid m (messageGhost m j) ≡ true
     ghost-laid = records-at m (messageGhosts m) (messageGhost m) layout-ghosts
-
-    pub trees-ascend : (i j : ℕ) → i < j → j < messageTrees m → numberOf (messageTree m i) < numberOf (messageTree m j)
-    trees-ascend = records-ascend m (messageTrees m) (messageTree m) layout-trees
 
     pub ghosts-ascend : (i j : ℕ) → i < j → j < messageGhosts m → numberOf (messageGhost m i) < numberOf (messageGhost m j)
     ghosts-ascend = records-ascend m (messageGhosts m) (messageGhost m) layout-ghosts
@@ -104,14 +86,6 @@ module _ (m : List ℕ) where
 
     pub ghost-fits : (j : ℕ) → j < messageGhosts m → messageGhostPlace (messageTrees m) j + coreSize ≤ length m
     ghost-fits j h = omega (arith, size-length layout-size)
-
-    pub tree-core-length : (i : ℕ) → i < messageTrees m → length (messageTree m i) ≡ coreSize
-    unfolding messageTree
-    tree-core-length i h = piece-length m (messageTreePlace i) coreSize (omega (arith, tree-fits i h))
-
-    pub ghost-core-length : (j : ℕ) → j < messageGhosts m → length (messageGhost m j) ≡ coreSize
-    unfolding messageGhost
-    ghost-core-length j h = piece-length m (messageGhostPlace (messageTrees m) j) coreSize (ghost-fits j h)
 
 -- ---- the layout looks at the length, the header and the cores alone
 

@@ -85,7 +85,7 @@ module _ (epoch dimension K P sender receiver n g : ℕ) where
     header-at i h b = rw (← append-nil (leBytes 4 g)) (word-at numbers rest i h b)
 
     -- each of them is read back from a message that begins with them
-    pub header-epoch : epoch < 4294967296 → messageEpoch (messageHeaderBytes epoch dimension K P sender receiver n g ++ rest) ≡ epoch
+    header-epoch : epoch < 4294967296 → messageEpoch (messageHeaderBytes epoch dimension K P sender receiver n g ++ rest) ≡ epoch
     unfolding messageEpoch
     header-epoch h = header-at 0 (omega arith) h
 
@@ -93,27 +93,27 @@ module _ (epoch dimension K P sender receiver n g : ℕ) where
     unfolding messageDimension
     header-dimension h = header-at 1 (omega arith) h
 
-    pub header-K : K < 4294967296 → messageK (messageHeaderBytes epoch dimension K P sender receiver n g ++ rest) ≡ K
+    header-K : K < 4294967296 → messageK (messageHeaderBytes epoch dimension K P sender receiver n g ++ rest) ≡ K
     unfolding messageK
     header-K h = header-at 2 (omega arith) h
 
-    pub header-P : P < 4294967296 → messageP (messageHeaderBytes epoch dimension K P sender receiver n g ++ rest) ≡ P
+    header-P : P < 4294967296 → messageP (messageHeaderBytes epoch dimension K P sender receiver n g ++ rest) ≡ P
     unfolding messageP
     header-P h = header-at 3 (omega arith) h
 
-    pub header-sender : sender < 4294967296 → messageSender (messageHeaderBytes epoch dimension K P sender receiver n g ++ rest) ≡ sender
+    header-sender : sender < 4294967296 → messageSender (messageHeaderBytes epoch dimension K P sender receiver n g ++ rest) ≡ sender
     unfolding messageSender
     header-sender h = header-at 4 (omega arith) h
 
-    pub header-receiver : receiver < 4294967296 → messageReceiver (messageHeaderBytes epoch dimension K P sender receiver n g ++ rest) ≡ receiver
+    header-receiver : receiver < 4294967296 → messageReceiver (messageHeaderBytes epoch dimension K P sender receiver n g ++ rest) ≡ receiver
     unfolding messageReceiver
     header-receiver h = header-at 5 (omega arith) h
 
-    pub header-trees : n < 4294967296 → messageTrees (messageHeaderBytes epoch dimension K P sender receiver n g ++ rest) ≡ n
+    header-trees : n < 4294967296 → messageTrees (messageHeaderBytes epoch dimension K P sender receiver n g ++ rest) ≡ n
     unfolding messageTrees
     header-trees h = header-at 6 (omega arith) h
 
-    pub header-ghosts : g < 4294967296 → messageGhosts (messageHeaderBytes epoch dimension K P sender receiver n g ++ rest) ≡ g
+    header-ghosts : g < 4294967296 → messageGhosts (messageHeaderBytes epoch dimension K P sender receiver n g ++ rest) ≡ g
     unfolding messageGhosts
     header-ghosts h = header-at 7 (omega arith) h
 
@@ -369,7 +369,7 @@ module _ (mesh old new : List ℕ) (sound : meshSound mesh ≡ true) (same : mes
       }
 
   -- and are laid out
-  pub mesh-rule-laid : RuleLaid (meshCore mesh) old new (λ k. ltb k (meshTrees mesh)) (meshRecord mesh) p q (meshDimension mesh)
+  mesh-rule-laid : RuleLaid (meshCore mesh) old new (λ k. ltb k (meshTrees mesh)) (meshRecord mesh) p q (meshDimension mesh)
   mesh-rule-laid =
       record {
         long = mesh-records-long;
@@ -432,7 +432,7 @@ module _ (core₁ core₂ : ℕ → List ℕ) (hand₁ hand₂ : ℕ → Bool) (
         (ghosts-same (trees old) s e))
 
     -- the second has all trees; the first has the trees that p considers, and has them as the second does
-    pub rule-from-held : ((k : ℕ) → sends old new p q k ≡ true → record₁ k ≡ record₂ k)
+    rule-from-held : ((k : ℕ) → sends old new p q k ≡ true → record₁ k ≡ record₂ k)
         → ((g : ℕ) → g < trees old → hand₂ g ≡ true)
         → ((g : ℕ) → g < trees old → considers core₂ old new p q g ≡ true → hand₁ g ≡ true)
         → ((g : ℕ) → g < trees old → hand₁ g ≡ true → core₁ g ≡ core₂ g)

@@ -14,8 +14,7 @@ use Rattle.encoding.specs.Refusal.{firstFailed}
 use Rattle.encoding.specs.declared.answer.Length.{Length}
 use Rattle.encoding.proofs.Pieces.{piece-add}
 use Rattle.records.specs.Record.{coreSize, treeSize}
-use Rattle.records.proofs.Forms.{piece-piece}
-use Rattle.message.specs.Layout.{messageHeader, messageTreePlace, messageGhostPlace, messageTrees, messageGhosts, messageTree, messageGhost, sizeLaid, inLayout}
+use Rattle.message.specs.Layout.{messageHeader, messageTreePlace, messageGhostPlace, messageTrees, messageGhosts, messageGhost, sizeLaid, inLayout}
 use Rattle.message.specs.Reading.{recordCount, recordAt, remainAfter}
 use Rattle.message.specs.Calls.{messageRefusal, readingOf}
 use Rattle.message.proofs.Layouts.{size-length, layout-size}
@@ -52,20 +51,10 @@ module _ (m : List ℕ) (unlaid : sizeLaid m ≡ false) where
 -- ---- how many remain
 
 module _ (m : List ℕ) where
-  -- after the first, all but one
-  pub remain-first : 0 < recordCount m → remainAfter m 0 + 1 ≡ recordCount m
-  unfolding remainAfter
-  remain-first h = omega arith
-
   -- one fewer after each
   pub remain-falls : (i : ℕ) → i + 1 < recordCount m → remainAfter m i ≡ remainAfter m (i + 1) + 1
   unfolding remainAfter
   remain-falls i h = omega arith
-
-  -- none after the last
-  pub remain-last : (i : ℕ) → i + 1 ≡ recordCount m → remainAfter m i ≡ 0
-  unfolding remainAfter
-  remain-last i e = omega arith
 
 -- ---- how it begins
 
@@ -91,10 +80,6 @@ module _ (m : List ℕ) (laid : sizeLaid m ≡ true) where
   pub record-tree : (i : ℕ) → i < messageTrees m → recordAt m i ≡ piece m (messageTreePlace i) treeSize
   unfolding recordAt
   record-tree i h = rw (lt-ltb i (recordCount m) (omega (arith, count-all)), lt-ltb i (messageTrees m) h)
-
-  pub record-tree-core : (i : ℕ) → i < messageTrees m → piece (recordAt m i) 0 coreSize ≡ messageTree m i
-  unfolding messageTree
-  record-tree-core i h = rw (record-tree i h, piece-piece m (messageTreePlace i) treeSize 0 coreSize (omega arith), add-zero)
 
   -- then ghosts
   pub record-ghost : (j : ℕ) → j < messageGhosts m → recordAt m (messageTrees m + j) ≡ messageGhost m j

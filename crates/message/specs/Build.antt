@@ -1,6 +1,5 @@
 -- The message from rank p's part, and the one that the rule names for a whole mesh.
 use Prim.Native.Nat.{ℕ, _-_}
-use mathlib.Core.Bool.{Bool, true}
 use mathlib.Core.List.{List}
 use lib.Dec.{ltb}
 use Rattle.encoding.specs.Pieces.{piece}

@@ -1,8 +1,8 @@
 -- What each public call answers, refusals included, and what it leaves in the lent buffer.
 use Prim.Native.Nat.{ℕ}
-use mathlib.Core.Bool.{cond, _&&_}
+use mathlib.Core.Bool.{_&&_}
 use mathlib.Core.List.{List, [], _∷_, _++_}
-use lib.Dec.{leb, ltb, eqb}
+use lib.Dec.{leb, ltb}
 use lib.ListN.{length}
 use Rattle.encoding.specs.Answer.{lengthAnswer, writeAnswer}
 use Rattle.encoding.specs.Refusal.{Check, check, firstFailed}

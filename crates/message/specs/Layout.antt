@@ -1,11 +1,12 @@
 -- A message: epoch, dimension, K, P, sender, receiver, tree count, ghost count (each u32); trees; ghosts; neighbours as global numbers, ghosts ascending, no tree data with ghosts.
 use Prim.Native.Nat.{ℕ, _+_, _-_, _*_}
 use mathlib.Core.Bool.{Bool, true, cond, _&&_}
-use mathlib.Core.List.{List, _++_}
+use mathlib.Core.List.{List}
 use lib.Dec.{ltb, eqb}
 use lib.ListN.{length}
 use Rattle.encoding.specs.Below.{allBelow}
-use Rattle.encoding.specs.Numbers.{u32At, leBytes}
+use Rattle.encoding.specs.Header.{eightBytes}
+use Rattle.encoding.specs.Numbers.{u32At}
 use Rattle.encoding.specs.Pieces.{piece}
 use Rattle.records.specs.Shape.{dimensionOf, faceCount}
 use Rattle.records.specs.Record.{coreSize, treeSize, numberOf, shapeOf, neighbourOf, inForm}
@@ -27,8 +28,7 @@ messageSize n g = messageGhostPlace n g
 
 -- the header
 unfoldable pub messageHeaderBytes : ℕ → ℕ → ℕ → ℕ → ℕ → ℕ → ℕ → ℕ → List ℕ
-messageHeaderBytes epoch dimension K P sender receiver n g =
-    leBytes 4 epoch ++ (leBytes 4 dimension ++ (leBytes 4 K ++ (leBytes 4 P ++ (leBytes 4 sender ++ (leBytes 4 receiver ++ (leBytes 4 n ++ leBytes 4 g))))))
+messageHeaderBytes epoch dimension K P sender receiver n g = eightBytes epoch dimension K P sender receiver n g
 
 module _ (m : List ℕ) where
   unfoldable pub messageEpoch : ℕ

@@ -4,4 +4,4 @@ pub mod Reading
 pub mod Rule
 pub mod Build
 pub mod Calls
-pub mod Mirror
+pub mod Means

@@ -4,13 +4,14 @@ ghost use Rattle.message.specs.Reading.{recordAt, remainAfter};
 ghost use Rattle.message.specs.Calls.{messageRefusal, readingOf};
 use encoding::answer::Length;
 
-pub mod inner;
+pub mod header;
+pub mod layout;
 
 // Check a message (11): 0 or the refusal.
 pub fn check_message(message: &[u8]) -> u32
     ensures { λ r. ⌜ r ≡ messageRefusal (now (message .entry)) ⌝ }
 {
-    if !inner::in_layout(message) {
+    if !layout::in_layout(message) {
         return 11;
     }
     0
@@ -20,11 +21,11 @@ pub fn check_message(message: &[u8]) -> u32
 pub fn begin_reading(message: &[u8]) -> Length
     ensures { λ r. ⌜ r ≡ readingOf (now (message .entry)) ⌝ }
 {
-    if !inner::in_layout(message) {
+    if !layout::in_layout(message) {
         return encoding::answer::refused(11);
     }
-    let trees = inner::tree_count(message) as u64;
-    let ghosts = inner::ghost_count(message) as u64;
+    let trees = header::tree_count(message) as u64;
+    let ghosts = header::ghost_count(message) as u64;
     Length {
         refusal: 0,
         length: trees + ghosts,
@@ -35,17 +36,17 @@ pub fn begin_reading(message: &[u8]) -> Length
 pub fn record_at<'a>(message: &'a [u8], i: u64) -> &'a [u8]
     ensures { λ r. ⌜ now r ≡ recordAt (now (message .entry)) i ⌝ }
 {
-    if !inner::size_laid(message) {
+    if !layout::size_laid(message) {
         return &message[..0];
     }
-    let trees = inner::tree_count(message);
+    let trees = header::tree_count(message);
     if i < trees as u64 {
-        let at = inner::tree_at(i as u32);
+        let at = layout::tree_at(i as u32);
         return &message[at..at + 64];
     }
     let j = i - (trees as u64);
-    if j < inner::ghost_count(message) as u64 {
-        let at = inner::ghost_at(trees, j as u32);
+    if j < header::ghost_count(message) as u64 {
+        let at = layout::ghost_at(trees, j as u32);
         return &message[at..at + 40];
     }
     &message[..0]
@@ -55,11 +56,11 @@ pub fn record_at<'a>(message: &'a [u8], i: u64) -> &'a [u8]
 pub fn remain_after(message: &[u8], i: u64) -> u64
     ensures { λ r. ⌜ r ≡ remainAfter (now (message .entry)) i ⌝ }
 {
-    if !inner::size_laid(message) {
+    if !layout::size_laid(message) {
         return 0;
     }
-    let trees = inner::tree_count(message) as u64;
-    let ghosts = inner::ghost_count(message) as u64;
+    let trees = header::tree_count(message) as u64;
+    let ghosts = header::ghost_count(message) as u64;
     let count = trees + ghosts;
     if count <= i {
         return 0;

@@ -16,7 +16,7 @@ use Rattle.bits.specs.Bits.{inSet}
 use Rattle.bits.proofs.Bits.{in-none}
 use Rattle.offsets.specs.Table.{ranks, ranksOk, trees, valid}
 use Rattle.pattern.specs.Calls.{tableChecks}
-use Rattle.pattern.specs.Mirror.{PairOf}
+use Rattle.pattern.specs.Means.{PairOf}
 use Rattle.pattern.specs.Sender.{sentCount}
 use Rattle.pattern.specs.Sets.{sendsTo}
 use Rattle.pattern.proofs.Answers.{tables-agree}
@@ -25,8 +25,8 @@ use Rattle.part.specs.Means.{RankKnown}
 use Rattle.message.specs.Build.{partMessage}
 use Rattle.message.specs.Calls.{buildChecks, messageLengthOf, buildMessageOf}
 use Rattle.message.specs.Layout.{messageSize}
-use Rattle.message_marks.specs.Mirror.{Blank, Sending, Marks}
-use Rattle.message_build.specs.Mirror.{MessageRoom}
+use Rattle.message_ghosts.specs.Means.{Blank, Sending, Marks}
+use Rattle.message_build.specs.Means.{MessageRoom}
 use Rattle.message_build.proofs.Whole.{count-is, built-length}
 
 -- ---- the ghosts that go

@@ -23,7 +23,7 @@ use Rattle.part.specs.View.{isLocal, ghostIs, held, heldCore}
 use Rattle.part.specs.Part.{partFirst, partCount, partGhostCount, storedTree, storedGhost, globalIndex, globalTree, partHolds, partCore}
 use Rattle.part.specs.Means.{inRange, Ascending, smaller, ghostCore, ghostHas}
 use Rattle.part.proofs.Search.{search-past, search-other, search-found}
-use Rattle.message_build.specs.Mirror.{RecordRoom, Searchable, coresBelow, GhostRoom}
+use Rattle.message_build.specs.Means.{RecordRoom, Searchable, coresBelow, GhostRoom}
 
 -- ---- one record, found by its number
 
@@ -37,7 +37,7 @@ module _ (part : List ℕ) (n g k : ℕ) (known : Ascending part (ghostPlace n 0
   least-less : leastBelow g (ghostHas (ghostCore part n) k) < g
   least-less = least-lt g (ghostHas (ghostCore part n) k) some
 
-  pub found-below : p < g
+  found-below : p < g
   found-below = either (ltb p g) (λ t. ltb-true p g t) (λ t. absurd (omega (arith, least-less, search-past part n g known from k position (omega tests))))
 
   pub found-is : p ≡ leastBelow g (ghostHas (ghostCore part n) k)
@@ -72,10 +72,10 @@ module _ (part : List ℕ) (count ghosts faces first k : ℕ) (known : Searchabl
   core-local h = rw (core-read part k, ← test-is, h, known .isFaces, known .isFirst)
 
   module _ (out : b ≡ false) where
-    pub some-ghost : partHolds part k ≡ true → anyBelow ghosts (ghostHas (ghostCore part count) k) ≡ true
+    some-ghost : partHolds part k ≡ true → anyBelow ghosts (ghostHas (ghostCore part count) k) ≡ true
     some-ghost e = rw (known .opened .isCount, known .opened .isGhosts) (rw (holds-read part k, ← test-is, out) at e)
 
-    pub core-found : {p : ℕ} → p ≡ leastBelow ghosts (ghostHas (ghostCore part count) k) → piece part (ghostPlace count p) coreSize ≡ partCore part k
+    core-found : {p : ℕ} → p ≡ leastBelow ghosts (ghostHas (ghostCore part count) k) → piece part (ghostPlace count p) coreSize ≡ partCore part k
     unfolding ghostCore
     core-found e = rw (core-read part k, ← test-is, out, e, known .opened .isCount, known .opened .isGhosts)
 
@@ -120,7 +120,7 @@ module _ (core : ℕ → List ℕ) (f : ℕ → Bool) where
   count-gap a d h = rw (count-add a d f, count-none d (λ i. f (a + i)) (λ i p. h (a + i) (omega arith) (omega arith))) (add-zero (countBelow a f))
 
   module _ (long : (k : ℕ) → f k ≡ true → length (core k) ≡ coreSize) where
-    pub cores-long : (k : ℕ) → length (coresBelow core f k) ≡ coreSize * countBelow k f
+    cores-long : (k : ℕ) → length (coresBelow core f k) ≡ coreSize * countBelow k f
     unfolding coresBelow countBelow
     cores-long zero = refl
     cores-long (suc k) =

@@ -13,7 +13,7 @@ use Rattle.part.specs.Part.{globalIndex}
 use Rattle.part.proofs.Records.{rows-length}
 use Rattle.message.specs.Build.{partRecord}
 use Rattle.message.specs.Layout.{messageHeader}
-use Rattle.message_build.specs.Mirror.{RecordRoom, recordsFrom, TreesRoom}
+use Rattle.message_build.specs.Means.{RecordRoom, recordsFrom, TreesRoom}
 
 -- where the record of a tree with local index t begins
 pub place-is : (t first k : ℕ) {from : ℕ} → t + first ≡ k → from ≡ treePlace t → from ≡ treePlace (k - first)

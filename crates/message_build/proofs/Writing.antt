@@ -1,11 +1,10 @@
--- Laws of the writing of a message: the header, and records with global numbers.
+-- Laws of the writing of records with global numbers.
 use Prim.Native.Nat.{ℕ, _+_, _-_, _≤_, _<_}
 use native.Mathlib.Omega.{arith}
 use mathlib.Core.Path.{_≡_, refl, sym, ap, _∙_}
-use mathlib.Core.List.{List, _++_, map, append-assoc}
+use mathlib.Core.List.{List, _++_, map}
 use lib.ListN.{length}
 use borrow.Author.Tests.{lt-ltb, le-ltb, eq-eqb, ne-eqb}
-use Rattle.encoding.specs.Numbers.{putU32}
 use Rattle.encoding.specs.Pieces.{piece, splice, Bytes}
 use Rattle.encoding.proofs.Pieces.{piece-length, piece-same, bytes-piece, length-splice}
 use Rattle.records.specs.Record.{coreSize, treeSize, unused, numberOf}
@@ -15,28 +14,9 @@ use Rattle.part.specs.Layout.{treePlace, ghostPlace}
 use Rattle.part.specs.Cut.{renamed, renameRow}
 use Rattle.part.specs.Part.{noTree, storedTree, storedGhost, globalIndex}
 use Rattle.part.specs.Means.{rowsWith}
-use Rattle.part_cut.proofs.Writing.{words-none, words-next}
 use Rattle.part.proofs.Records.{links-length, splice-over, with-hold, with-rows, rows-core}
 use Rattle.part.proofs.Global.{global-word}
-use Rattle.message.specs.Layout.{messageHeaderBytes}
-use Rattle.message_build.specs.Mirror.{Opened, globalLinks}
-
--- ---- the header
-
--- the eight numbers
-pub header-written : (bs : List ℕ) (epoch d K P p q n g : ℕ) {o1 o2 o3 o4 o5 o6 o7 o8 : List ℕ} → 32 ≤ length bs
-    → o1 ≡ putU32 bs 0 epoch → o2 ≡ putU32 o1 4 d → o3 ≡ putU32 o2 8 K → o4 ≡ putU32 o3 12 P → o5 ≡ putU32 o4 16 p → o6 ≡ putU32 o5 20 q → o7 ≡ putU32 o6 24 n → o8 ≡ putU32 o7 28 g
-    → o8 ≡ splice bs 0 (messageHeaderBytes epoch d K P p q n g)
-unfolding messageHeaderBytes
-header-written bs epoch d K P p q n g h e1 e2 e3 e4 e5 e6 e7 e8 =
-    let w1 = words-next bs epoch {off = 0} (omega arith) (words-none bs) e1 in
-    let w2 = words-next bs d {off = 4} (omega arith) w1 e2 in
-    let w3 = words-next bs K {off = 8} (omega arith) w2 e3 in
-    let w4 = words-next bs P {off = 12} (omega arith) w3 e4 in
-    let w5 = words-next bs p {off = 16} (omega arith) w4 e5 in
-    let w6 = words-next bs q {off = 20} (omega arith) w5 e6 in
-    let w7 = words-next bs n {off = 24} (omega arith) w6 e7 in
-    words-next bs g {off = 28} (omega arith) w7 e8 .begins ∙ ap (splice bs 0) (simp append-assoc)
+use Rattle.message_build.specs.Means.{Opened, globalLinks}
 
 -- ---- the number behind a local index
 
@@ -79,7 +59,7 @@ module _ (part : List ℕ) (from F : ℕ) where
 
   module _ (size : ℕ) (wide : coreSize ≤ size) (same : rowsOf (piece part from size) F ≡ rowsOf (piece part from coreSize) F) (out : List ℕ) (to : ℕ) (source : from + size ≤ length part) (target : to + size ≤ length out) where
     -- copied, and its links put over
-    pub record-written : {mid last : List ℕ} → mid ≡ splice out to (piece part from size) → last ≡ splice mid to (globalLinks part F from (piece mid to coreSize))
+    record-written : {mid last : List ℕ} → mid ≡ splice out to (piece part from size) → last ≡ splice mid to (globalLinks part F from (piece mid to coreSize))
         → last ≡ splice out to (renamed (globalIndex part) F (piece part from size))
     unfolding globalLinks withRows renamed
     record-written {mid} {last} q w =

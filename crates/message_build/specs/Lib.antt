@@ -1,2 +1,2 @@
 -- Building a message from a part.
-pub mod Mirror
+pub mod Means

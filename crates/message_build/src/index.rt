@@ -2,7 +2,7 @@
 ghost use mathlib.Core.Path.{_≡_};
 ghost use Rattle.part.specs.Part.{globalIndex};
 ghost use Rattle.part.specs.Means.{rowWith, rowsWith};
-ghost use Rattle.message_build.specs.Mirror.{Opened};
+ghost use Rattle.message_build.specs.Means.{Opened};
 use part::layout::ghost_at;
 use part::layout::tree_at;
 use records::index::GlobalIndex;

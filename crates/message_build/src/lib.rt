@@ -3,23 +3,24 @@ use encoding::answer::Length;
 ghost use mathlib.Core.Path.{_≡_};
 ghost use Rattle.message.specs.Calls.{messageLengthOf, buildMessageOf};
 
-pub mod index;
-pub mod inner;
-pub mod write;
+mod check;
+mod index;
+mod length;
+mod write;
 
 // How long the message is (2, 3, 4, 5, 8, 9).
 pub fn message_length(part: &[u8], old: &[u8], new: &[u8], sender: u32, receiver: u32) -> Length
     ensures { λ r. ⌜ r ≡ messageLengthOf (now (part .entry)) (now (old .entry)) (now (new .entry)) sender receiver ⌝ }
 {
-    let refusal = inner::refusal(part, old, new, sender, receiver);
+    let refusal = check::refusal(part, old, new, sender, receiver);
     if refusal != 0 {
         return Length { refusal, length: 0 };
     }
     let mut marks = [0u64; 16384];
-    message_marks::mark_ghosts(part, old, new, sender, receiver, &mut marks);
+    message_ghosts::marks::mark_ghosts(part, old, new, sender, receiver, &mut marks);
     Length {
         refusal: 0,
-        length: inner::message_size(old, new, sender, receiver, &marks) as u64,
+        length: length::message_size(old, new, sender, receiver, &marks) as u64,
     }
 }
 
@@ -35,13 +36,13 @@ pub fn build_message(
 ) -> Length
     ensures { λ r. ⌜ (r, now (out .exit)) ≡ buildMessageOf (now (part .entry)) (now (old .entry)) (now (new .entry)) sender receiver epoch (now (out .entry)) ⌝ }
 {
-    let refusal = inner::refusal(part, old, new, sender, receiver);
+    let refusal = check::refusal(part, old, new, sender, receiver);
     if refusal != 0 {
         return Length { refusal, length: 0 };
     }
     let mut marks = [0u64; 16384];
-    message_marks::mark_ghosts(part, old, new, sender, receiver, &mut marks);
-    let n = inner::message_size(old, new, sender, receiver, &marks);
+    message_ghosts::marks::mark_ghosts(part, old, new, sender, receiver, &mut marks);
+    let n = length::message_size(old, new, sender, receiver, &marks);
     if out.len() < n {
         return Length {
             refusal: 22,

@@ -1,48 +1,24 @@
 // Writing a message: the header, the trees, the ghosts.
 ghost use mathlib.Core.Path.{_≡_};
 ghost use mathlib.Core.List.{_++_};
-ghost use Prim.Native.Nat.{_*_, _≤_};
+ghost use Prim.Native.Nat.{_*_};
 ghost use lib.ListN.{length};
-ghost use Rattle.encoding.specs.Below.{countBelow};
 ghost use Rattle.encoding.specs.Pieces.{piece, splice};
 ghost use Rattle.records.specs.Record.{coreSize, treeSize};
 ghost use Rattle.part.specs.Cut.{renamed};
 ghost use Rattle.part.specs.Part.{globalIndex, partCore};
 ghost use Rattle.bits.specs.Bits.{inSet};
 ghost use Rattle.message.specs.Build.{partRecord, partMessage};
-ghost use Rattle.message.specs.Layout.{messageHeader, messageHeaderBytes};
-ghost use Rattle.message_build.specs.Mirror.{RecordRoom, globalLinks, recordsFrom, TreesRoom, coresBelow, GhostRoom, GhostsRoom, RecordsRoom, MessageRoom};
+ghost use Rattle.message.specs.Layout.{messageHeader};
+ghost use Rattle.message_build.specs.Means.{RecordRoom, globalLinks, recordsFrom, TreesRoom, coresBelow, GhostRoom, GhostsRoom, RecordsRoom, MessageRoom};
 use crate::index::global_rows;
+use crate::length::member_count;
 use part::layout::ghost_at;
 use part::layout::tree_at;
 use part::range::find_ghost;
 use part::range::in_range;
 use records::index::GlobalIndex;
 use records::index::to_local;
-
-fn write_header(
-    out: &mut [u8],
-    epoch: u32,
-    dimension: u32,
-    trees: u32,
-    ranks: u32,
-    p: u32,
-    q: u32,
-    n: u32,
-    g: u32,
-)
-    requires { ⌜ messageHeader ≤ length (now out) ⌝ }
-    ensures { λ u. ⌜ now (out .exit) ≡ splice (now (out .entry)) 0 (messageHeaderBytes epoch dimension trees ranks p q n g) ⌝ }
-{
-    encoding::bytes::write_u32(&mut *out, 0, epoch);
-    encoding::bytes::write_u32(&mut *out, 4, dimension);
-    encoding::bytes::write_u32(&mut *out, 8, trees);
-    encoding::bytes::write_u32(&mut *out, 12, ranks);
-    encoding::bytes::write_u32(&mut *out, 16, p);
-    encoding::bytes::write_u32(&mut *out, 20, q);
-    encoding::bytes::write_u32(&mut *out, 24, n);
-    encoding::bytes::write_u32(&mut *out, 28, g);
-}
 
 // Puts the links of the part's record at byte `from` into the record at byte `to`, with global numbers.
 fn put_links(
@@ -144,20 +120,6 @@ fn write_ghost(
     encoding::record::copy40(part, ghost_at(count, position), &mut *out, to);
 }
 
-// How many members a set has, by the ones in its words.
-pub fn member_count(marks: &[u64]) -> u32
-    requires { ⌜ length (now marks) ≤ 16384 ⌝ }
-    ensures { λ r. ⌜ r ≡ countBelow (64 * length (now (marks .entry))) (inSet (now (marks .entry))) ⌝ }
-{
-    let mut count = 0;
-    let mut i = 0;
-    while i < marks.len() {
-        count += bits::word::ones(marks[i]);
-        i += 1;
-    }
-    count
-}
-
 // Writes the cores of a set from byte `at` on, ascending.
 fn write_ghosts(
     part: &[u8],
@@ -221,11 +183,11 @@ pub fn write_message(
 {
     let dimension = part::layout::dimension(part);
     let trees = part::layout::trees(part);
-    let ranks = offsets::inner::ranks(old) as u32;
-    let sent = pattern::inner::sent(old, new, p as usize, q as usize);
+    let ranks = offsets::table::ranks(old) as u32;
+    let sent = pattern::range::sent(old, new, p as usize, q as usize);
     let low = sent.first;
     let n = sent.count;
     let g = member_count(marks);
-    write_header(&mut *out, epoch, dimension, trees, ranks, p, q, n, g);
+    encoding::header::write_eight(&mut *out, epoch, dimension, trees, ranks, p, q, n, g);
     write_records(part, low, n, marks, &mut *out);
 }

@@ -22,19 +22,19 @@ use Rattle.message_reader.specs.Handing.{placeAfter, lentUnless, beginOf
 
 module _ (m : List ℕ) where
   -- a message with a record has the length that its header says
-  pub count-laid : {i : ℕ} → i < recordCount m → sizeLaid m ≡ true
+  count-laid : {i : ℕ} → i < recordCount m → sizeLaid m ≡ true
   count-laid {i} h = either (sizeLaid m) (λ e. e) (λ e. absurd (omega (arith, count-none m e)))
 
   module _ (laid : sizeLaid m ≡ true) where
     pub tree-length : (i : ℕ) → i < messageTrees m → length (recordAt m i) ≡ treeSize
     tree-length i h = rw (record-tree m laid i h) (piece-length m (messageTreePlace i) treeSize (omega (arith, size-length m laid)))
 
-    pub ghost-length : (j : ℕ) → j < messageGhosts m → length (recordAt m (messageTrees m + j)) ≡ coreSize
+    ghost-length : (j : ℕ) → j < messageGhosts m → length (recordAt m (messageTrees m + j)) ≡ coreSize
     unfolding messageGhost
     ghost-length j h = rw (record-ghost m laid j h) (piece-length m (messageGhostPlace (messageTrees m) j) coreSize (omega (arith, size-length m laid)))
 
   -- no record is empty
-  pub record-some : (i : ℕ) → i < recordCount m → 0 < length (recordAt m i)
+  record-some : (i : ℕ) → i < recordCount m → 0 < length (recordAt m i)
   record-some i h =
       let laid : sizeLaid m ≡ true = count-laid h in
       either (ltb i (messageTrees m))
@@ -71,7 +71,7 @@ module _ (m : List ℕ) (i : ℕ) where
 -- ---- how it begins
 
 -- what is lent is the message where it is in layout, and nothing where it's refused
-pub lent-read : (m : List ℕ) → lentUnless (readingOf m .refusal) m ≡ cond (inLayout m) m []
+lent-read : (m : List ℕ) → lentUnless (readingOf m .refusal) m ≡ cond (inLayout m) m []
 unfolding lentUnless
 lent-read m =
     either (inLayout m)

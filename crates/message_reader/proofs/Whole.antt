@@ -17,7 +17,7 @@ use Rattle.message.specs.Layout.{messageHeader, messageTreePlace, messageTrees,
 use Rattle.message.specs.Reading.{recordCount, recordAt, remainAfter}
 use Rattle.message.specs.Calls.{readingOf}
 use Rattle.message.proofs.Layouts.{size-length, layout-size}
-use Rattle.message.proofs.Reading.{readTo, read-all, record-past, remain-past, record-tree, record-ghost, count-all, count-none, reading-refused, reading-begins}
+use Rattle.message.proofs.Reading.{readTo, read-all, record-past, remain-past, record-tree, record-ghost, count-all, count-none, reading-refused}
 use Rattle.message_reader.specs.Handing.{beginOf, begunSeen, nextOf, handed, remains, readerAfter, row, treesOf, ghostsOf, down}
 use Rattle.message_reader.specs.declared.Begun.{Begun}
 use Rattle.message_reader.proofs.Handed.{place-next, place-last}
@@ -26,19 +26,19 @@ use Rattle.message_reader.proofs.Stepped.{reader}
 -- ---- rows
 
 module _ {A : Type 0} where
-  pub row-same : (n i : ℕ) (f g : ℕ → A) → ((k : ℕ) → i ≤ k → k < i + n → f k ≡ g k) → row i n f ≡ row i n g
+  row-same : (n i : ℕ) (f g : ℕ → A) → ((k : ℕ) → i ≤ k → k < i + n → f k ≡ g k) → row i n f ≡ row i n g
   unfolding row
   row-same zero i f g h = refl
   row-same (suc n) i f g h = ap₂ _∷_ (h i (omega arith) (omega arith)) (row-same n (i + 1) f g (λ k l u. h k (omega arith) (omega arith)))
 
-  pub row-shift : (n t i : ℕ) (f : ℕ → A) → row (t + i) n f ≡ row i n (λ j. f (t + j))
+  row-shift : (n t i : ℕ) (f : ℕ → A) → row (t + i) n f ≡ row i n (λ j. f (t + j))
   unfolding row
   row-shift zero t i f = refl
   row-shift (suc n) t i f =
       let e : t + i + 1 ≡ t + (i + 1) = omega arith in
       ap₂ _∷_ refl (ap (λ k. row k n f) e ∙ row-shift n t (i + 1) f)
 
-  pub row-add : (m n i : ℕ) (f : ℕ → A) → row i (m + n) f ≡ row i m f ++ row (i + m) n f
+  row-add : (m n i : ℕ) (f : ℕ → A) → row i (m + n) f ≡ row i m f ++ row (i + m) n f
   unfolding row
   row-add zero n i f =
       let c : 0 + n ≡ n = omega arith in
@@ -52,17 +52,17 @@ module _ {A : Type 0} where
 -- ---- from any place
 
 module _ (s : RefT (List ℕ)) where
-  pub handed-from : (n i : ℕ) → i + n ≤ recordCount (now s) → handed n (reader s i) ≡ row i n (recordAt (now s))
+  handed-from : (n i : ℕ) → i + n ≤ recordCount (now s) → handed n (reader s i) ≡ row i n (recordAt (now s))
   unfolding handed row nextOf
   handed-from zero i h = refl
   handed-from (suc n) i h = ap₂ _∷_ refl (ap (λ k. handed n (reader s k)) (place-next (now s) i (omega arith)) ∙ handed-from n (i + 1) (omega arith))
 
-  pub remains-from : (n i : ℕ) → i + n ≡ recordCount (now s) → remains n (reader s i) ≡ down n
+  remains-from : (n i : ℕ) → i + n ≡ recordCount (now s) → remains n (reader s i) ≡ down n
   unfolding remains down nextOf remainAfter
   remains-from zero i h = refl
   remains-from (suc n) i h = ap₂ _∷_ (omega arith) (ap (λ k. remains n (reader s k)) (place-next (now s) i (omega arith)) ∙ remains-from n (i + 1) (omega arith))
 
-  pub reader-from : (n i : ℕ) → i + n ≤ recordCount (now s) → readerAfter n (reader s i) ≡ reader s (i + n)
+  reader-from : (n i : ℕ) → i + n ≤ recordCount (now s) → readerAfter n (reader s i) ≡ reader s (i + n)
   unfolding readerAfter nextOf
   reader-from zero i h = ap (reader s) (sym (add-zero i))
   reader-from (suc n) i h =
@@ -70,13 +70,13 @@ module _ (s : RefT (List ℕ)) where
       ap (λ k. readerAfter n (reader s k)) (place-next (now s) i (omega arith)) ∙ (reader-from n (i + 1) (omega arith) ∙ ap (reader s) e)
 
   -- after the last an empty piece and 0, and the reader stays
-  pub next-past : (i : ℕ) → recordCount (now s) ≤ i → nextOf (reader s i) ≡ ([], (0, reader s i))
+  next-past : (i : ℕ) → recordCount (now s) ≤ i → nextOf (reader s i) ≡ ([], (0, reader s i))
   unfolding nextOf
   next-past i h = λ j. (record-past (now s) i h j, (remain-past (now s) i h j, record { message = s; at = place-last (now s) i h j }))
 
 -- ---- trees, then ghosts
 
-pub records-are : (m : List ℕ) → sizeLaid m ≡ true → row 0 (recordCount m) (recordAt m) ≡ treesOf m ++ ghostsOf m
+records-are : (m : List ℕ) → sizeLaid m ≡ true → row 0 (recordCount m) (recordAt m) ≡ treesOf m ++ ghostsOf m
 unfolding treesOf ghostsOf
 records-are m laid =
     let t : row 0 (messageTrees m) (recordAt m) ≡ row 0 (messageTrees m) (λ i. piece m (messageTreePlace i) treeSize) = row-same (messageTrees m) 0 _ _ (λ k l u. record-tree m laid k (omega arith)) in
@@ -86,7 +86,7 @@ records-are m laid =
     ap (λ n. row 0 n (recordAt m)) (count-all m laid) ∙ (row-add (messageTrees m) (messageGhosts m) 0 (recordAt m) ∙ ap₂ _++_ t (ap (λ k. row k (messageGhosts m) (recordAt m)) z ∙ p))
 
 -- one behind the other they are what `readTo` joins
-pub row-joined : (m : List ℕ) (n i : ℕ) → readTo m (i + n) ≡ readTo m i ++ flatten (row i n (recordAt m))
+row-joined : (m : List ℕ) (n i : ℕ) → readTo m (i + n) ≡ readTo m i ++ flatten (row i n (recordAt m))
 unfolding readTo row flatten
 row-joined m zero i = ap (readTo m) (add-zero i) ∙ sym (append-nil (readTo m i))
 row-joined m (suc n) i =
@@ -113,10 +113,6 @@ module _ (m : List ℕ) (b : Begun) (begun : begunSeen b ≡ beginOf m) where
     lent-is : now (b .reader .message) ≡ m
     unfolding beginOf
     lent-is = ap (λ (x : Length × (List ℕ × ℕ)). x .1 .0) begun ∙ rw laid
-
-    -- how many records there are
-    pub reads-begins : b .answer ≡ record { refusal = 0; length = recordCount m }
-    reads-begins = answer-is ∙ (sym (reading-begins m laid refl refl) ∙ ap (λ n. record { refusal = 0; length = n }) (sym (count-all m (layout-size m laid))))
 
     handed-all : handed (recordCount m) (b .reader) ≡ row 0 (recordCount m) (recordAt m)
     handed-all =

@@ -2,8 +2,10 @@
 // The borrow checker covers no function over such a struct: each takes it apart, calls functions that are covered, and is proved by a walk of its MIR.
 ghost use mathlib.Core.Path.{_≡_};
 ghost use Rattle.message.specs.Reading.{recordAt};
-ghost use Rattle.message_reader.specs.Handing.{placeAfter, lentUnless, beginOf, begunSeen, nextOf, stepSeen, followingOf};
+ghost use Rattle.message_reader.specs.Handing.{beginOf, begunSeen, nextOf, stepSeen, followingOf};
 use encoding::answer::Length;
+
+mod cursor;
 
 // The lent message and the place of the next record.
 pub struct Reader<'a> {
@@ -30,32 +32,12 @@ pub struct Following {
     pub at: u64,
 }
 
-// The place after place i: after the last it stays.
-pub fn place_after(message: &[u8], i: u64) -> u64
-    ensures { λ r. ⌜ r ≡ placeAfter (now (message .entry)) i ⌝ }
-{
-    if message::record_at(message, i).len() == 0 {
-        return i;
-    }
-    i + 1
-}
-
-// The message, and an empty part of it where it is refused.
-pub fn lent_unless<'a>(message: &'a [u8], refusal: u32) -> &'a [u8]
-    ensures { λ r. ⌜ now r ≡ lentUnless refusal (now (message .entry)) ⌝ }
-{
-    if refusal == 0 {
-        return message;
-    }
-    &message[..0]
-}
-
 // Make a reader (11).
 pub fn begin<'a>(message: &'a [u8]) -> Begun<'a>
     ensures { λ r. ⌜ begunSeen r ≡ beginOf (now (message .entry)) ⌝ }
 {
     let answer = message::begin_reading(message);
-    let lent = lent_unless(message, answer.refusal);
+    let lent = cursor::lent_unless(message, answer.refusal);
     Begun {
         answer,
         reader: Reader {
@@ -73,7 +55,7 @@ pub fn next<'a>(reader: Reader<'a>) -> Step<'a>
     let at = reader.at;
     let piece = message::record_at(message, at);
     let remain = message::remain_after(message, at);
-    let onward = place_after(message, at);
+    let onward = cursor::place_after(message, at);
     Step {
         piece,
         remain,

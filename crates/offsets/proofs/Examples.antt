@@ -3,14 +3,12 @@ use Prim.Native.Nat.{ℕ, _-_, _^_}
 use mathlib.Core.Path.{_≡_, refl}
 use mathlib.Core.Bool.{true}
 use mathlib.Core.List.{[], _∷_}
-use Rattle.encoding.specs.Below.{allBelow, anyBelow, countBelow, leastBelow, sumBelow}
+use Rattle.encoding.specs.Below.{allBelow}
 use Rattle.encoding.specs.Pieces.{piece}
 use Rattle.encoding.specs.Numbers.{leValue, leBytes, leAt}
 use Rattle.encoding.specs.Refusal.{firstFailed}
 use Rattle.offsets.specs.Limits.{rankCountOk, treeCountOk}
 use Rattle.offsets.specs.Table.{ranks, ranksOk, entry, negative, magnitude, firstOf, trees, firstTree, endTree, treeCount, holds, entriesWithin, countsOk, valid, tableBytes}
-use Rattle.offsets.specs.Partition.{nonEmpty, endBelow, entryOf, entriesBelow, tableOf}
-use Rattle.offsets.specs.Leaves.{leafStart, leafTotal, cut, leafHolds, leafFirst, leafCount, equalShares, leafTable}
 use Rattle.offsets.specs.Calls.{tableRefusal}
 
 -- the 64 bits of −n
@@ -36,8 +34,3 @@ pub shared-tree : (treeCount (tableBytes (0 ∷ 3 ∷ minus 3 ∷ 5 ∷ [])) 1 �
     × (holds (tableBytes (0 ∷ 3 ∷ minus 3 ∷ 5 ∷ [])) 2 2 ≡ true)
 unfolding holds treeCount firstTree endTree firstOf magnitude negative entry leAt piece leValue tableBytes leBytes
 shared-tree = (refl, refl, refl)
-
--- leaf counts 4,4 and 1,1 on three ranks
-pub leaf-tables : (leafTable 3 (4 ∷ 4 ∷ []) ≡ tableBytes (0 ∷ minus 1 ∷ minus 2 ∷ 2 ∷ [])) × (leafTable 3 (1 ∷ 1 ∷ []) ≡ tableBytes (0 ∷ 0 ∷ 1 ∷ 2 ∷ []))
-unfolding leafTable tableOf entriesBelow entryOf endBelow nonEmpty leafFirst leafCount leafHolds equalShares cut leafTotal leafStart sumBelow leastBelow countBelow anyBelow tableBytes leBytes
-leaf-tables = (refl, refl)

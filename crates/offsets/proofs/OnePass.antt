@@ -1,5 +1,5 @@
 -- The table's check in one pass gives what validity says.
-use Prim.Native.Nat.{ℕ, suc, _+_, _-_, _*_, _/_, _^_, _≤_, _<_}
+use Prim.Native.Nat.{ℕ, _+_, _-_, _/_, _^_, _≤_, _<_}
 use mathlib.Core.Path.{_≡_, refl, sym, ap, ap₂, _∙_}
 use mathlib.Core.Bool.{Bool, true, false, cond, _&&_, and-false, and-true}
 use mathlib.Core.List.{List}
@@ -9,19 +9,19 @@ use lib.Dec.{leb, ltb, eqb}
 use lib.ListN.{length}
 use borrow.Author.Tests.{eqb-true, leb-true, le-leb, lt-leb, eq-eqb, ne-eqb}
 use Rattle.encoding.specs.Below.{allBelow}
-use Rattle.encoding.proofs.Below.{tests, and-fst, and-snd, and-intro, iff-eq, all-same, all-and}
+use Rattle.encoding.proofs.Below.{tests, and-fst, and-snd, all-same, all-and}
 use Rattle.offsets.specs.Limits.{maxRanks, rankCountOk, treeCountOk}
-use Rattle.offsets.specs.Table.{tableLength, ranks, ranksOk, entry, trees, negative, magnitude, firstOf, firstTree, endTree, entriesWithin, countsOk, valid}
+use Rattle.offsets.specs.Table.{tableLength, ranks, ranksOk, entry, trees, negative, magnitude, firstTree, endTree, entriesWithin, countsOk, valid}
 use Rattle.offsets.proofs.Tables.{ranks-within, trees-within, small-plain, plain-magnitude}
-use Rattle.offsets.specs.Mirror.Table.{entryOk, entryOkAt, validOnePass}
+use Rattle.offsets.specs.Means.{entryOk, entryOkAt, validOnePass}
 
 -- what a table's length tells
-pub record Ranks (t : List ℕ) (P : ℕ) : Type 0 where
+pub record TableRanks (t : List ℕ) (P : ℕ) : Type 0 where
   pub low : 1 ≤ P
   pub high : P ≤ maxRanks
   pub size : length t ≡ tableLength P
 
-pub ranks-known : (t : List ℕ) → ranksOk t ≡ true → Ranks t (ranks t)
+pub ranks-known : (t : List ℕ) → ranksOk t ≡ true → TableRanks t (ranks t)
 unfolding ranksOk
 ranks-known t h =
     let r : (1 ≤ ranks t) × (ranks t ≤ maxRanks) = ranks-within (ranks t) (and-snd (eqb (length t) (tableLength (ranks t))) (rankCountOk (ranks t)) h) in

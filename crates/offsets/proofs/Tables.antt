@@ -1,5 +1,5 @@
 -- Laws of valid tables.
-use Prim.Native.Nat.{ℕ, zero, suc, _+_, _-_, _*_, _^_, _≤_, _<_}
+use Prim.Native.Nat.{ℕ, zero, suc, _+_, _*_, _^_, _≤_, _<_}
 use native.Mathlib.Nat.{le-refl}
 use native.Mathlib.Numerals.{add-one}
 use native.Mathlib.Omega.{arith}
@@ -90,9 +90,6 @@ module _ (t : List ℕ) (b : Bytes t) (ok : ranksOk t ≡ true) (v : valid t ≡
   unfolding valid
   trees-ok = trees-within (trees t) (and-snd (eqb (entry t 0) 0) (treeCountOk (trees t)) (and-fst _ (entriesWithin t) (and-fst _ (countsOk t) v)))
 
-  pub trees-low : 1 ≤ trees t
-  trees-low = trees-ok .0
-
   pub trees-high : trees t ≤ maxTrees
   trees-high = trees-ok .1
 
@@ -142,3 +139,9 @@ module _ (t : List ℕ) (b : Bytes t) (ok : ranksOk t ≡ true) (v : valid t ≡
   pub last-end : magnitude (entry t (ranks t)) ≡ trees t
   unfolding trees
   last-end = plain-magnitude (trees t) (small-plain (trees t) trees-high)
+
+-- a rank's range in a valid table fits 32 bits
+pub range-fits : (t : List ℕ) (P p : ℕ) → Bytes t → ranksOk t ≡ true → valid t ≡ true → P ≡ ranks t → p < P → (firstTree t p ≤ endTree t p) × (endTree t p ≤ maxTrees)
+range-fits t P p b ok v e h =
+    let l : p < ranks t = omega arith in
+    (first-le-end t b ok v p l, omega (arith, end-trees t b ok v p l, trees-high t b ok v))

@@ -1,8 +1,5 @@
--- Document 01, "Ranks, trees and offset tables", in its order. `Mirror` holds what contracts of inner functions alone cite.
+-- Document 01, "Ranks, trees and offset tables": limits, tables, and the calls that read one.
 pub mod Limits
 pub mod Table
-pub mod Partition
-pub mod Sharing
-pub mod Leaves
 pub mod Calls
-pub mod Mirror
+pub mod Means

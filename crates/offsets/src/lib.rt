@@ -1,12 +1,8 @@
 // Offset tables: which ranks hold which trees.
 ghost use mathlib.Core.Path.{_≡_};
-ghost use Rattle.offsets.specs.Calls.{tableRefusal, tableRange, tableLengthAnswer, writeTable, tableFromLeaves};
-use encoding::answer::Length;
-use encoding::answer::refused;
+ghost use Rattle.offsets.specs.Calls.{tableRefusal, tableRange};
 
-pub mod inner;
-mod leaves;
-mod ranges;
+pub mod table;
 
 // A rank's trees: the first and how many. When refused, `refusal` is the number of the first check that failed and the rest is 0.
 #[repr(C)]
@@ -20,10 +16,10 @@ pub struct Range {
 pub fn check_table(table: &[u8]) -> u32
     ensures { λ r. ⌜ r ≡ tableRefusal (now (table .entry)) ⌝ }
 {
-    if !inner::ranks_ok(table) {
+    if !table::ranks_ok(table) {
         return 2;
     }
-    if !inner::valid(table) {
+    if !table::valid(table) {
         return 3;
     }
     0
@@ -33,78 +29,21 @@ pub fn check_table(table: &[u8]) -> u32
 pub fn table_range(table: &[u8], rank: u32) -> Range
     ensures { λ r. ⌜ r ≡ tableRange (now (table .entry)) rank ⌝ }
 {
-    if !inner::ranks_ok(table) {
-        return inner::range_refused(2);
+    if !table::ranks_ok(table) {
+        return table::range_refused(2);
     }
-    if !inner::valid(table) {
-        return inner::range_refused(3);
+    if !table::valid(table) {
+        return table::range_refused(3);
     }
     let p = rank as usize;
-    if inner::ranks(table) <= p {
-        return inner::range_refused(5);
+    if table::ranks(table) <= p {
+        return table::range_refused(5);
     }
-    let first = inner::first_tree(table, p);
-    let end = inner::end_tree(table, p);
+    let first = table::first_tree(table, p);
+    let end = table::end_tree(table, p);
     Range {
         refusal: 0,
         first: first as u32,
         count: (end - first) as u32,
-    }
-}
-
-// How long the table of so many ranks is (2).
-pub fn table_length(ranks: u32) -> Length
-    ensures { λ r. ⌜ r ≡ tableLengthAnswer ranks ⌝ }
-{
-    if !inner::rank_count_ok(ranks as usize) {
-        return refused(2);
-    }
-    Length {
-        refusal: 0,
-        length: 8 * (ranks as u64 + 1),
-    }
-}
-
-// Write the table of a partition: a first tree and a count for each rank (2, 6, 22). The first of a rank with count 0 isn't read.
-pub fn write_table(ranks: u32, first: &[u32], count: &[u32], out: &mut [u8]) -> Length
-    ensures { λ r. ⌜ (r, now (out .exit)) ≡ writeTable ranks (now (first .entry)) (now (count .entry)) (now (out .entry)) ⌝ }
-{
-    let p = ranks as usize;
-    if !inner::rank_count_ok(p) {
-        return refused(2);
-    }
-    if !ranges::partition_ok(p, first, count) {
-        return refused(6);
-    }
-    let n = 8 * (p + 1);
-    if out.len() < n {
-        return refused(22);
-    }
-    ranges::write(p, first, count, out);
-    Length {
-        refusal: 0,
-        length: n as u64,
-    }
-}
-
-// Write the table that leaf counts give, one count for each tree (2, 6, 22).
-pub fn table_from_leaves(ranks: u32, leaves: &[u32], out: &mut [u8]) -> Length
-    ensures { λ r. ⌜ (r, now (out .exit)) ≡ tableFromLeaves ranks (now (leaves .entry)) (now (out .entry)) ⌝ }
-{
-    let p = ranks as usize;
-    if !inner::rank_count_ok(p) {
-        return refused(2);
-    }
-    if !leaves::leaves_ok(leaves) {
-        return refused(6);
-    }
-    let n = 8 * (p + 1);
-    if out.len() < n {
-        return refused(22);
-    }
-    leaves::write(p, leaves, out);
-    Length {
-        refusal: 0,
-        length: n as u64,
     }
 }

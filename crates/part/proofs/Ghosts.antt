@@ -4,10 +4,10 @@ use mathlib.Core.Path.{_≡_, refl, sym, ap, _∙_}
 use mathlib.Core.Bool.{Bool, true, not, _&&_}
 use mathlib.Core.List.{List}
 use lib.Dec.{ltb, eqb}
-use lib.ListN.{length, getD}
+use lib.ListN.{getD}
 use borrow.Author.Tests.{ltb-true, eqb-true, eq-eqb}
 use Rattle.encoding.specs.Below.{anyBelow, member}
-use Rattle.encoding.proofs.Below.{either, and-fst, and-snd, and-intro, iff-eq, any-at, any-intro, kept-length, kept-member, kept-at, kept-found, kept-ascends}
+use Rattle.encoding.proofs.Below.{either, and-fst, and-snd, and-intro, iff-eq, any-at, any-intro, kept-member, kept-at, kept-found, kept-ascends}
 use Rattle.offsets.specs.Table.{holds}
 use Rattle.records.specs.Shape.{faceCount}
 use Rattle.records.specs.Record.{shapeOf, neighbourOf}
@@ -25,11 +25,6 @@ module _ (core : ℕ → List ℕ) (table : List ℕ) (rank : ℕ) where
   pub ghost-at : (K k d : ℕ) → k < K → isGhost core table rank k ≡ true → getD (ghostsOf core table rank K) (ghostPosition core table rank k) d ≡ k
   unfolding ghostsOf ghostPosition
   ghost-at K k d h e = kept-at K (isGhost core table rank) k h e d
-
-  -- as many as the position past the last
-  pub ghosts-length : (K : ℕ) → length (ghostsOf core table rank K) ≡ ghostPosition core table rank K
-  unfolding ghostsOf ghostPosition
-  ghosts-length K = kept-length K (isGhost core table rank)
 
   -- ghost j is a ghost below K, and j is its position
   pub ghost-found : (K j d : ℕ) → j < ghostPosition core table rank K

@@ -13,7 +13,7 @@ use Rattle.records.specs.Shape.{facesIn}
 use Rattle.records.specs.Record.{coreSize, unused, numberOf, shapeOf, neighbourOf, codeOf, facesOf, faceOf, orientationOf, zerosOk}
 use Rattle.records.specs.Links.{cell, rowOf, rowsOf}
 use Rattle.records.proofs.Forms.{number-word}
-use Rattle.records.proofs.Rows.{with-length, with-number, with-shape, with-zeros, with-neighbour, with-code}
+use Rattle.records.proofs.Rows.{with-number, with-shape, with-zeros, with-neighbour, with-code}
 use Rattle.part.specs.Layout.{treePlace}
 use Rattle.part.specs.Cut.{renamed, renameRow}
 use Rattle.part.specs.Part.{partDimension, partCount, partGhostCount, storedTree, storedGhost, globalIndex, globalTree}
@@ -64,10 +64,6 @@ module _ (rename : ℕ → ℕ) (F : ℕ) (r : List ℕ) where
   renamed-codes f h = ap (λ (x : List ℕ). getD x 2 0 * F + getD x 1 0) (renamed-row f h) ∙ div-add-mod' (codeOf r f) F
 
   module _ (l : length r ≡ 40) where
-    pub renamed-core : length (renamed rename F r) ≡ 40
-    unfolding renamed
-    renamed-core = with-length _ F r l
-
     pub renamed-alike : Alike (renamed rename F r) r
     unfolding renamed
     renamed-alike =
@@ -107,10 +103,6 @@ module _ (part : List ℕ) (bytes : Bytes part) where
     pub stored-core : length (storedTree part i) ≡ 40
     unfolding storedTree
     stored-core = piece-length part (treePlace i) coreSize fits
-
-    pub global-core : length (globalTree part i) ≡ 40
-    unfolding globalTree
-    global-core = renamed-core (globalIndex part) (facesIn (partDimension part)) (storedTree part i) stored-core
 
     -- number, shape, zero bytes and codes are those stored
     pub global-alike : Alike (globalTree part i) (storedTree part i)

@@ -1,7 +1,7 @@
 // The range of a rank and its ghosts.
 use records::index::GlobalIndex;
 ghost use mathlib.Core.Path.{_≡_};
-ghost use Prim.Native.Nat.{_+_, _*_, _≤_, _-_};
+ghost use Prim.Native.Nat.{_+_, _*_, _≤_};
 ghost use lib.ListN.{length};
 ghost use Rattle.encoding.specs.Below.{anyBelow, countBelow};
 ghost use Rattle.encoding.specs.Pieces.{piece};
@@ -15,13 +15,13 @@ ghost use Rattle.part.specs.Checks.{rankChecks};
 pub fn rank_refusal(table: &[u8], rank: u32) -> u32
     ensures { λ r. ⌜ r ≡ firstFailed (rankChecks (now (table .entry)) rank) ⌝ }
 {
-    if !offsets::inner::ranks_ok(table) {
+    if !offsets::table::ranks_ok(table) {
         return 2;
     }
-    if !offsets::inner::valid(table) {
+    if !offsets::table::valid(table) {
         return 3;
     }
-    let ranks = offsets::inner::ranks(table);
+    let ranks = offsets::table::ranks(table);
     if ranks <= rank as usize {
         return 5;
     }

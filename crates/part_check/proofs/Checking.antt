@@ -10,7 +10,7 @@ use borrow.Author.Tests.{lt-ltb, le-ltb, eq-eqb, ne-eqb, eqb-true}
 use Rattle.encoding.specs.Below.{allBelow, anyBelow, leastBelow}
 use Rattle.encoding.specs.Numbers.{u32At}
 use Rattle.encoding.specs.Pieces.{piece, Bytes}
-use Rattle.encoding.proofs.Below.{either, and-fst, and-snd, least-none, least-lt}
+use Rattle.encoding.proofs.Below.{either, iff-eq, and-fst, and-snd, least-none, least-lt}
 use Rattle.records.specs.Shape.{dimensionOf, faceCount}
 use Rattle.records.specs.Record.{coreSize, numberOf, shapeOf, neighbourOf, inForm}
 use Rattle.mesh.specs.Link.{orientationOk}
@@ -31,9 +31,15 @@ use Rattle.part.proofs.Search.{number-there}
 -- ---- trees
 
 module _ (part : List ℕ) (i : ℕ) {at : ℕ} (here : at ≡ treePlace i) where
-  pub numbered-is : (first : ℕ) {v : ℕ} → v ≡ numberOf (piece part at coreSize) → treeNumbered first (storedTree part) i ≡ eqb v (first + i)
-  unfolding treeNumbered storedTree
-  numbered-is first e = rw (← here, e)
+  module _ (first : ℕ) {v : ℕ} (number : v ≡ numberOf (piece part at coreSize)) where
+    pub numbered-below : v < first → false ≡ treeNumbered first (storedTree part) i
+    unfolding treeNumbered storedTree
+    numbered-below h = rw (← here, ← number, ne-eqb v (first + i) (λ e. omega arith))
+
+    pub numbered-is : (t : ℕ) → t + first ≡ v → eqb t i ≡ treeNumbered first (storedTree part) i
+    unfolding treeNumbered storedTree
+    numbered-is t e =
+        rw (← here, ← number) (iff-eq (eqb t i) (eqb v (first + i)) (λ p. eq-eqb v (first + i) (omega (arith, eqb-true t i p))) (λ p. eq-eqb t i (omega (arith, eqb-true v (first + i) p))))
 
   module _ (D n g : ℕ) where
     module _ (f : ℕ) {j : ℕ} (read : j ≡ neighbourOf (piece part at coreSize) f) where

@@ -17,7 +17,7 @@ use records::index::ghost_index;
 use records::index::to_local;
 ghost use mathlib.Core.Path.{_≡_};
 ghost use mathlib.Core.Bool.{_&&_};
-ghost use Prim.Native.Nat.{_+_, _-_, _≤_, _<_};
+ghost use Prim.Native.Nat.{_+_, _≤_, _<_};
 ghost use lib.Dec.{eqb, ltb};
 ghost use lib.ListN.{length};
 ghost use Rattle.encoding.specs.Below.{allBelow, leastBelow};
@@ -37,12 +37,12 @@ fn header_sound(part: &[u8], table: &[u8], rank: u32) -> bool
     if part.len() < 32 {
         return false;
     }
-    let ranks = offsets::inner::ranks(table);
-    let first = offsets::inner::first_tree(table, rank as usize);
-    let end = offsets::inner::end_tree(table, rank as usize);
+    let ranks = offsets::table::ranks(table);
+    let first = offsets::table::first_tree(table, rank as usize);
+    let end = offsets::table::end_tree(table, rank as usize);
     let count = tree_count(part);
     mesh::layout::dimension_ok(dimension(part))
-        & (trees(part) as u64 == offsets::inner::entry(table, ranks))
+        & (trees(part) as u64 == offsets::table::entry(table, ranks))
         & (encoding::bytes::read_u32(part, 8) as usize == ranks)
         & (encoding::bytes::read_u32(part, 12) == rank)
         & (first_tree(part).0 as u64 == first)
@@ -51,13 +51,28 @@ fn header_sound(part: &[u8], table: &[u8], rank: u32) -> bool
         & (part.len() == ghost_at(count, ghost_count(part)))
 }
 
+// ---- numbers
+
+// Whether the local index of the tree's number is its own.
+fn tree_numbered(part: &[u8], first: GlobalIndex, tree: LocalIndex) -> bool
+    requires { ⌜ treePlace (tree .0) + coreSize ≤ length (now part) ⌝ }
+    ensures { λ r. ⌜ r ≡ treeNumbered (first .0) (storedTree (now (part .entry))) (tree .0) ⌝ }
+{
+    let number = records::read::number_of(part, tree_at(tree));
+    if number < first.0 {
+        return false;
+    }
+    let local = to_local(GlobalIndex(number), first);
+    local.0 == tree.0
+}
+
 fn tree_numbers(part: &[u8], first: u32, count: u32) -> bool
-    requires { ⌜ (treePlace count ≤ length (now part)) × (first + count ≤ maxTrees) ⌝ }
+    requires { ⌜ treePlace count ≤ length (now part) ⌝ }
     ensures { λ r. ⌜ r ≡ allBelow count (treeNumbered first (storedTree (now (part .entry)))) ⌝ }
 {
     let mut i = 0;
     while i < count {
-        if records::read::number_of(part, tree_at(LocalIndex(i))) != first + i {
+        if !tree_numbered(part, GlobalIndex(first), LocalIndex(i)) {
             return false;
         }
         i += 1;
@@ -107,6 +122,8 @@ fn numbers_sound(part: &[u8], first: u32, count: u32, ghosts: u32, trees: u32) -
 {
     tree_numbers(part, first, count) & ghost_numbers(part, first, count, ghosts, trees)
 }
+
+// ---- trees
 
 // A tree's link leads back to the local index, a ghost's to the global number.
 fn tree_face(
@@ -193,6 +210,8 @@ fn trees_sound(part: &[u8], count: u32, ghosts: u32, dimension: u32) -> bool
     }
     true
 }
+
+// ---- ghosts
 
 // The position of the ghost with the number, or how many ghosts there are.
 fn ghost_with(part: &[u8], count: u32, ghosts: u32, number: GlobalIndex) -> u32
@@ -333,6 +352,8 @@ fn ghosts_sound(
     }
     true
 }
+
+// ---- the whole
 
 fn records_sound(
     part: &[u8],

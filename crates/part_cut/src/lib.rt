@@ -15,8 +15,8 @@ pub fn part_length(mesh: &[u8], table: &[u8], rank: u32) -> Length
     if refusal != 0 {
         return Length { refusal, length: 0 };
     }
-    let first = offsets::inner::first_tree(table, rank as usize) as u32;
-    let end = offsets::inner::end_tree(table, rank as usize) as u32;
+    let first = offsets::table::first_tree(table, rank as usize) as u32;
+    let end = offsets::table::end_tree(table, rank as usize) as u32;
     let ghosts = part::range::ghost_count(mesh, mesh::layout::trees(mesh), first, end);
     Length {
         refusal: 0,
@@ -32,8 +32,8 @@ pub fn cut_part(mesh: &[u8], table: &[u8], rank: u32, out: &mut [u8]) -> Length
     if refusal != 0 {
         return Length { refusal, length: 0 };
     }
-    let first = offsets::inner::first_tree(table, rank as usize) as u32;
-    let end = offsets::inner::end_tree(table, rank as usize) as u32;
+    let first = offsets::table::first_tree(table, rank as usize) as u32;
+    let end = offsets::table::end_tree(table, rank as usize) as u32;
     let trees = mesh::layout::trees(mesh);
     let count = part::range::ghost_count(mesh, trees, first, end);
     let at = 32 + 64 * ((end - first) as usize);
@@ -44,7 +44,7 @@ pub fn cut_part(mesh: &[u8], table: &[u8], rank: u32, out: &mut [u8]) -> Length
             length: 0,
         };
     }
-    let ranks = offsets::inner::ranks(table) as u32;
+    let ranks = offsets::table::ranks(table) as u32;
     write::write(mesh, trees, ranks, rank, first, end, &mut *out, at, count);
     Length {
         refusal: 0,
@@ -63,7 +63,7 @@ fn cut_refusal(mesh: &[u8], table: &[u8], rank: u32) -> u32
     if !mesh::sound::sound(mesh) {
         return 7;
     }
-    if mesh::layout::trees(mesh) as u64 != offsets::inner::trees(table) {
+    if mesh::layout::trees(mesh) as u64 != offsets::table::trees(table) {
         return 7;
     }
     0

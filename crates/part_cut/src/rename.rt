@@ -6,7 +6,6 @@ use records::index::LocalIndex;
 use records::index::ghost_index;
 use records::index::to_local;
 ghost use mathlib.Core.Path.{_≡_};
-ghost use Prim.Native.Nat.{_-_};
 ghost use Rattle.part_cut.specs.Means.{Held, localRead};
 ghost use Rattle.part.specs.Means.{rowWith, rowsWith};
 

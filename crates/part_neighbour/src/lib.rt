@@ -15,8 +15,8 @@ pub fn neighbour_of(part: &[u8], table: &[u8], rank: u32, local: LocalIndex, fac
     if refusal != 0 {
         return link::refused(refusal);
     }
-    let first = offsets::inner::first_tree(table, rank as usize);
-    let end = offsets::inner::end_tree(table, rank as usize);
+    let first = offsets::table::first_tree(table, rank as usize);
+    let end = offsets::table::end_tree(table, rank as usize);
     if end - first <= i as u64 {
         return link::refused(5);
     }

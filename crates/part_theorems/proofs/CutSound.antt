@@ -243,12 +243,6 @@ module _ (mesh table : List ℕ) (rank : ℕ) (ok : Cuttable mesh table rank) (m
       let h : (holds table rank k || (ltb k K && ghost k)) ≡ true = sym (holds-is k) ∙ e in
       either (holds table rank k) (local-below k) (λ q. ltb-true _ _ (and-fst (ltb k K) (ghost k) (rw q at h)))
 
-  -- the number of a record held, renamed to a local index and back, is itself
-  pub index-back : (k : ℕ) → partHolds (cutPart mesh table rank) k ≡ true → globalIndex (cutPart mesh table rank) (localIndex mesh table rank k) ≡ k
-  index-back k e =
-      let h : (holds table rank k || (ltb k K && ghost k)) ≡ true = sym (holds-is k) ∙ e in
-      either (holds table rank k) (index-tree k) (λ q. index-ghost k (held-below k e) q (and-snd (ltb k K) (ghost k) (rw q at h)))
-
   -- each record held is the mesh's
   pub cut-core : (k : ℕ) → partHolds (cutPart mesh table rank) k ≡ true → partCore (cutPart mesh table rank) k ≡ meshCore mesh k
   unfolding partCore heldCore

@@ -6,9 +6,9 @@ use mathlib.Core.Path.{_≡_, refl, sym, ap, _∙_}
 use mathlib.Core.List.{List, _++_}
 use lib.ListN.{length}
 use Rattle.encoding.specs.Pieces.{Bytes}
-use Rattle.records.specs.Record.{numberOf, shapeOf, neighbourOf, codeOf, facesOf, faceOf, orientationOf, zerosOk}
+use Rattle.records.specs.Record.{numberOf, shapeOf, neighbourOf, codeOf, facesOf, faceOf, orientationOf}
 use Rattle.records.specs.Links.{cell, rowOf, rowsOf, neighbourBytes, codeBytes, withRows, Rows}
-use Rattle.records.proofs.Rows.{with-length, with-number, with-shape, with-faces, with-zeros, with-neighbour, with-code, cell-neighbour, rows-hold, rows-again, rows-back}
+use Rattle.records.proofs.Rows.{with-length, with-number, with-shape, with-faces, with-neighbour, with-code, cell-neighbour, rows-hold, rows-again, rows-back}
 use Rattle.part.specs.Cut.{renamed}
 use Rattle.part.specs.Means.{rowWith, rowsWith}
 use Rattle.part.proofs.Records.{links-length, splice-over, with-hold, with-rows}
@@ -63,9 +63,6 @@ module _ (rename : ℕ → ℕ) (F : ℕ) (r : List ℕ) where
 
     pub renamed-faces : facesOf (renamed rename F r) ≡ facesOf r
     renamed-faces = rw renamed-is (with-faces rows F r l)
-
-    pub renamed-zeros : zerosOk (renamed rename F r) ≡ zerosOk r
-    renamed-zeros = rw renamed-is (with-zeros rows F r l)
 
     module _ (f : ℕ) (h : f < 6) where
       pub renamed-code : codeOf (renamed rename F r) f ≡ codeOf r f

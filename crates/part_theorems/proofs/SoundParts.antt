@@ -195,14 +195,6 @@ module _ (part table : List ℕ) (rank : ℕ) (sound : partSound part table rank
       (λ i h p. rw (p, part-core-tree i h) (tree-long i h))
       (λ j h p o. rw (← p, part-core-ghost j h) (ghost-long j h))
 
-  -- a record held is a tree of f(rank) or a ghost
-  pub part-cases : {C : Type 0} (k : ℕ) → partHolds part k ≡ true → (holds table rank k ≡ true → C)
-      → ((j : ℕ) → j < partGhostCount part → numberOf (storedGhost part j) ≡ k → holds table rank k ≡ false → C) → C
-  unfolding partHolds
-  part-cases k e t g =
-      either (holds table rank k) t
-      (λ o. held-cases _ _ _ _ _ k e (λ i h p. clash (sym (inside-is k) ∙ rw p (local-at _ _ _ _ _ i h)) o) (λ j h p q. g j h p o))
-
   -- ---- for a valid table
 
   module _ (bytes : Bytes table) (ranks-ok : ranksOk table ≡ true) (valid-ok : valid table ≡ true) (below : rank < ranks table) where

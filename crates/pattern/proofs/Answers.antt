@@ -23,7 +23,7 @@ use Rattle.pattern.specs.declared.Ranks.{Ranks}
 use Rattle.pattern.specs.declared.Sender.{Sender}
 use Rattle.pattern.specs.declared.Sender.the-variants.{Rank}
 use Rattle.pattern.specs.Calls.{tableChecks, senderRefusal, senderOf, sentRefusal, treesSent, setRefusal, setAnswer, ranksAnswer, sendSetOf, receiveSetOf}
-use Rattle.pattern.specs.Mirror.{TreeTo, RankOf, SmallNumbers, inSet, rankSet, rankSetOf, senderFits, senderRefused, ranksRefused}
+use Rattle.pattern.specs.Means.{TreeTo, RankOf, SmallNumbers, exchangesTree, rankSet, rankSetOf, senderFits, senderRefused, ranksRefused}
 use Rattle.pattern.specs.Sender.{Tables, senderTo, senderNumber, sentFirst, sentCount}
 use Rattle.pattern.specs.Sets.{sendSet, receiveSet, smallest, largest}
 
@@ -66,7 +66,7 @@ module _ (set : List ℕ) (n : ℕ) (c : n ≡ length set) (out after : List ℕ
 pub set-small : (old new : List ℕ) (p : ℕ) (sending : Bool) → ranksOk old ≡ true → SmallNumbers (rankSet old new p sending)
 unfolding rankSet
 set-small old new p sending ok =
-    let f = inSet old new p sending in
+    let f = exchangesTree old new p sending in
     let P = ranks-known old ok .high in
     let k = kept-length (ranks old) f in
     record {
@@ -225,11 +225,11 @@ module _ (old new : List ℕ) (r : ℕ) (e : r ≡ firstFailed (tableChecks old 
 -- with the rank sending it is the send set, else the receive set
 module _ (old new : List ℕ) (p : ℕ) where
   pub set-sends : rankSet old new p true ≡ sendSet old new p
-  unfolding rankSet sendSet inSet
+  unfolding rankSet sendSet exchangesTree
   set-sends = refl
 
   pub set-receives : rankSet old new p false ≡ receiveSet old new p
-  unfolding rankSet receiveSet inSet
+  unfolding rankSet receiveSet exchangesTree
   set-receives = refl
 
   pub send-is : (out : List ℕ) → rankSetOf old new p true out ≡ sendSetOf old new p out

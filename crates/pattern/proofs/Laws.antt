@@ -12,13 +12,13 @@ use Rattle.encoding.specs.Pieces.{Bytes, splice}
 use Rattle.encoding.proofs.Below.{and-snd, count-le, count-more, count-mono, count-lt, kept-more, kept-length, least-is}
 use Rattle.encoding.proofs.Pieces.{splice-none, splice-cons, splice-next, length-splice}
 use Rattle.offsets.specs.Limits.{maxRanks, maxTrees}
-use Rattle.offsets.specs.Table.{tableLength, ranks, ranksOk, entry, trees, firstTree, endTree}
+use Rattle.offsets.specs.Table.{tableLength, ranks, ranksOk, firstTree, endTree}
 use Rattle.offsets.proofs.OnePass.{ranks-known}
 use Rattle.offsets.proofs.Tables.{end-next, rises, last-end, ranks-low, trees-high}
 use Rattle.pattern.proofs.Senders.{least-end, sent-high, sent-count, sent-first}
 use Rattle.pattern.proofs.Sets.{sends-to}
 use Rattle.pattern.specs.Sender.{Tables, leastHolder, sentFirst, sentCount}
-use Rattle.pattern.specs.Mirror.{TreeOf, RankOf, PairOf, RoomFor, sharesLast, sentLow, sentHigh, inSet, rankSet}
+use Rattle.pattern.specs.Means.{TreeOf, RankOf, PairOf, RoomFor, sharesLast, sentLow, sentHigh, exchangesTree, rankSet}
 use Rattle.pattern.specs.Sets.{sendsTo}
 
 -- ---- what is read stands in the tables
@@ -189,21 +189,21 @@ module _ (f : ℕ → Bool) (P : ℕ) (start : List ℕ) (room : length (keptBel
 -- ---- the sets of a rank
 
 -- the loop's count is the length of the set
-pub set-length : (old new : List ℕ) (p : ℕ) (sending : Bool) (P n : ℕ) {i : ℕ} → P ≡ ranks old → P ≤ maxRanks → i ≤ P → P ≤ i → n ≡ countBelow i (inSet old new p sending)
+pub set-length : (old new : List ℕ) (p : ℕ) (sending : Bool) (P n : ℕ) {i : ℕ} → P ≡ ranks old → P ≤ maxRanks → i ≤ P → P ≤ i → n ≡ countBelow i (exchangesTree old new p sending)
     → (n ≡ length (rankSet old new p sending)) × (n ≤ maxRanks)
 unfolding rankSet
 set-length old new p sending P n {i} e b h l c =
-    let f = inSet old new p sending in
+    let f = exchangesTree old new p sending in
     let t : i ≡ ranks old = omega arith in
     let d : n ≡ countBelow (ranks old) f = rw t at c in
     (d ∙ sym (kept-length (ranks old) f), omega (arith, count-le (ranks old) f))
 
 -- room for the set is room for what the loop keeps
-pub set-room : {old new out : List ℕ} {p P : ℕ} {sending : Bool} → RoomFor old new p sending out → P ≡ ranks old → length (keptBelow P (inSet old new p sending)) ≤ length out
+pub set-room : {old new out : List ℕ} {p P : ℕ} {sending : Bool} → RoomFor old new p sending out → P ≡ ranks old → length (keptBelow P (exchangesTree old new p sending)) ≤ length out
 unfolding rankSet
 set-room f e = rw e (f .room)
 
 -- and what the loop wrote is the set
-pub set-written : (old new start out : List ℕ) (p P : ℕ) (sending : Bool) → P ≡ ranks old → out ≡ splice start 0 (keptBelow P (inSet old new p sending)) → out ≡ splice start 0 (rankSet old new p sending)
+pub set-written : (old new start out : List ℕ) (p P : ℕ) (sending : Bool) → P ≡ ranks old → out ≡ splice start 0 (keptBelow P (exchangesTree old new p sending)) → out ≡ splice start 0 (rankSet old new p sending)
 unfolding rankSet
 set-written old new start out p P sending e w = rw e at w

@@ -14,7 +14,7 @@ use Rattle.offsets.specs.Table.{ranks, ranksOk, valid, trees, entry, negative, 
 use Rattle.offsets.proofs.Tables.{ranks-low, zero-first, plain-magnitude, small-plain, plain-first, shared-first, end-next, end-trees, rises, last-end}
 use Rattle.pattern.specs.declared.Sender.the-variants.{Rank, Nobody}
 use Rattle.pattern.specs.Sender.{Tables, leastHolder, sender, senderTo, sends, sentCount, sentFirst}
-use Rattle.pattern.specs.Mirror.{sentLow, sentHigh}
+use Rattle.pattern.specs.Means.{sentLow, sentHigh}
 use Rattle.pattern.proofs.Counting.{range-true, range-in, range-out, range-meet, count-span, least-span}
 
 -- ---- the trees of a rank
@@ -150,12 +150,6 @@ module _ (old new : List ℕ) (T : Tables old new) where
   pub sender-nobody : (k q : ℕ) → holds new q k ≡ false → senderTo old new k q ≡ Nobody
   unfolding senderTo
   sender-nobody k q e = rw e
-
-  pub nobody-only : (k q : ℕ) → senderTo old new k q ≡ Nobody → holds new q k ≡ false
-  nobody-only k q e =
-      either (holds new q k)
-      (λ h. let d = sender-defined k q h in let z : _≡_ {A = ℕ} 0 1 = cc in absurd (omega arith))
-      (λ h. h)
 
   -- to one rank, the sender never falls from tree to tree
   pub sender-rises : (j k q : ℕ) → j ≤ k → k < trees old → q < ranks old → sender old j q ≤ sender old k q

@@ -13,7 +13,7 @@ use Rattle.offsets.specs.Table.{ranks, trees, entry, magnitude, firstTree, endT
 use Rattle.offsets.proofs.Tables.{count-add, end-trees}
 use Rattle.pattern.specs.Sender.{Tables, sender, sends, sentFirst, sentCount}
 use Rattle.pattern.specs.Sets.{sendsTo, sendSet, getsFrom, receiveSet}
-use Rattle.pattern.specs.Mirror.{sentLow, sentHigh}
+use Rattle.pattern.specs.Means.{sentLow, sentHigh}
 use Rattle.pattern.proofs.Counting.{range-true, range-in, range-out, any-span, count-one, pairs-three}
 use Rattle.pattern.proofs.Senders.{holds-true, holds-in, first-near, end-before, sender-lt, sender-holds, sends-true, sends-in, sends-range, sent-high, sent-count, sent-first, sent-other, sent-new}
 
@@ -30,30 +30,15 @@ module _ (old new : List ℕ) where
   unfolding receiveSet
   receive-member q p = kept-member (ranks old) (getsFrom old new q) p
 
-  -- both hold ranks only
-  pub send-below : (p q : ℕ) → member q (sendSet old new p) ≡ true → q < ranks old
-  send-below p q e = ltb-true q (ranks old) (and-fst _ (sendsTo old new p q) (rw (send-member p q) at e))
-
-  pub receive-below : (q p : ℕ) → member p (receiveSet old new q) ≡ true → p < ranks old
-  receive-below q p e = ltb-true p (ranks old) (and-fst _ (getsFrom old new q p) (rw (receive-member q p) at e))
-
   -- as many as pass
   pub send-length : (p : ℕ) → length (sendSet old new p) ≡ countBelow (ranks old) (sendsTo old new p)
   unfolding sendSet
   send-length p = kept-length (ranks old) (sendsTo old new p)
 
-  pub receive-length : (q : ℕ) → length (receiveSet old new q) ≡ countBelow (ranks old) (getsFrom old new q)
-  unfolding receiveSet
-  receive-length q = kept-length (ranks old) (getsFrom old new q)
-
-  -- both ascend strictly
+  -- it ascends strictly
   pub send-ascends : (p i j d : ℕ) → i < j → j < length (sendSet old new p) → getD (sendSet old new p) i d < getD (sendSet old new p) j d
   unfolding sendSet
   send-ascends p i j d h l = kept-ascends (ranks old) (sendsTo old new p) i j d h (rw (send-length p) at l)
-
-  pub receive-ascends : (q i j d : ℕ) → i < j → j < length (receiveSet old new q) → getD (receiveSet old new q) i d < getD (receiveSet old new q) j d
-  unfolding receiveSet
-  receive-ascends q i j d h l = kept-ascends (ranks old) (getsFrom old new q) i j d h (rw (receive-length q) at l)
 
 -- ---- who is in them
 
@@ -90,9 +75,6 @@ module _ (old new : List ℕ) (T : Tables old new) where
         let h = holds-true new q k (and-fst (holds new q k) (eqb (sender old k q) p) (a .2)) in
         let i : firstTree new q + (k - firstTree new q) ≡ k = omega arith in
         any-intro (treeCount new q) g (k - firstTree new q) (omega arith) (rw i (and-snd (holds new q k) (eqb (sender old k q) p) (a .2))))
-
-    pub gets-from : getsFrom old new q p ≡ ltb (sentLow old new p q) (sentHigh old new p q)
-    gets-from = gets-sends ∙ sends-to
 
     -- q is in the send set of p exactly where p is in the receive set of q
     pub symmetric : member q (sendSet old new p) ≡ member p (receiveSet old new q)

@@ -1,5 +1,4 @@
 -- Laws of the plan's text.
-pub mod Decimals
-pub mod Grammar
-pub mod Writing
+pub mod Answers
+pub mod Refusals
 pub mod Examples

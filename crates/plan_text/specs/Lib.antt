@@ -1,5 +1,3 @@
--- Document 01, "The program `plan`".
-pub mod Text
-pub mod Read
+-- Document 01, "The program `plan`": the output of an input, refused ones included.
 pub mod Plan
-pub mod Mirror
+pub mod Means

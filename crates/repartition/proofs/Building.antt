@@ -2,32 +2,30 @@
 use Prim.Native.Nat.{ℕ, _+_, _-_, _*_, _≤_, _<_}
 use native.Mathlib.Nat.{zero-add, add-zero}
 use native.Mathlib.Omega.{arith}
-use mathlib.Core.Path.{_≡_, refl, sym, ap, ap₂, _∙_}
-use mathlib.Core.Bool.{Bool, true, false, cond, _&&_, _||_}
-use mathlib.Core.List.{List, [], _∷_, _++_, map}
-use lib.Dec.{ltb, eqb}
+use mathlib.Core.Path.{_≡_, sym, ap, ap₂, _∙_}
+use mathlib.Core.Bool.{true, cond}
+use mathlib.Core.List.{List, _++_, map}
+use lib.Dec.{leb}
 use lib.ListN.{length}
 use lib.Seq.{take-add, take-all}
 use borrow.Author.Tests.{lt-ltb, eq-eqb, le-leb}
 use Rattle.encoding.specs.Pieces.{piece, splice, Bytes}
 use Rattle.encoding.specs.Answer.{writeAnswer}
-use Rattle.encoding.specs.Refusal.{check, firstFailed}
+use Rattle.encoding.specs.Refusal.{firstFailed}
 use Rattle.encoding.proofs.Pieces.{piece-length, piece-same, piece-above, length-splice}
-use Rattle.offsets.specs.Table.{ranks, trees, firstTree, treeCount, endTree, holds}
-use Rattle.pattern.specs.Sender.{Tables}
+use Rattle.offsets.specs.Table.{ranks, trees, firstTree, treeCount, holds}
 use Rattle.pattern.specs.Sets.{sendsTo}
 use Rattle.pattern.specs.Calls.{tableChecks}
 use Rattle.records.specs.Links.{rowsOf, neighbourBytes, codeBytes, withRows}
-use Rattle.records.specs.Record.{coreSize, treeSize, neighbourOf}
+use Rattle.records.specs.Record.{coreSize, treeSize}
 use Rattle.records.specs.Shape.{facesIn}
 use Rattle.records.proofs.Forms.{piece-piece}
 use Rattle.records.proofs.Rows.{splice-inside}
-use Rattle.mesh.specs.Mesh.{meshHeader, meshDimension, meshTrees, meshCore, meshRecord, meshSound}
+use Rattle.mesh.specs.Mesh.{meshHeader, meshDimension, meshTrees, meshCore, meshRecord}
 use Rattle.mesh.proofs.Soundness.{sound-fits}
 use Rattle.part.specs.Layout.{treePlace}
-use Rattle.part.specs.Ghosts.{isGhost}
 use Rattle.part.specs.Cut.{renameRow, renamed, localIndex, partTree, cutPart}
-use Rattle.part.specs.Part.{partDimension, partFirst, storedTree, globalIndex, globalTree, partHolds, partCore, partSound}
+use Rattle.part.specs.Part.{storedTree, globalIndex, globalTree, partHolds, partCore}
 use Rattle.part_cut.proofs.Cutting.{Cuttable}
 use Rattle.part.proofs.Records.{links-length, rows-length, rows-core}
 use Rattle.part_theorems.proofs.CutRead.{cut-dimension, cut-first, cut-end, cut-record, cut-stored, cut-data}
@@ -35,7 +33,8 @@ use Rattle.part_theorems.proofs.CutSound.{holds-range, local-below, cut-global,
 use Rattle.message.specs.Build.{partRecord, partMessage, meshMessage}
 use Rattle.message.specs.Calls.{buildChecks, buildMessageOf}
 use Rattle.message.proofs.Messages.{HasPart, rule-from-part}
-use Rattle.repartition.specs.Lists.{Setting, messageOf}
+use Rattle.repartition.specs.Run.{Run, Setting}
+use Rattle.repartition.specs.Lists.{messageOf}
 
 -- ---- renaming the neighbours of a tree record
 
@@ -139,7 +138,7 @@ module _ (mesh old : List ℕ) (p : ℕ) (ok : Cuttable mesh old p) (mesh-bytes 
         rw (cut-dimension mesh old p ok bytes, index-back) at g
 
     -- with neighbours as global numbers it is the mesh's
-    own-record : partRecord part k ≡ meshRecord mesh k
+    pub own-record : partRecord (cutPart mesh old p) k ≡ meshRecord mesh k
     unfolding partRecord
     own-record =
         rw (cut-dimension mesh old p ok bytes, cut-first mesh old p ok bytes)
@@ -158,38 +157,43 @@ module _ (mesh old : List ℕ) (p : ℕ) (ok : Cuttable mesh old p) (mesh-bytes 
 
 -- ---- the message
 
-module _ (mesh old new : List ℕ) (rank epoch : ℕ) (S : Setting mesh old new rank epoch) where
+module _ (run : Run) (S : Setting run) where
   -- an old rank has a part
-  pub old-cuttable : (p : ℕ) → p < ranks old → Cuttable mesh old p
+  pub old-cuttable : (p : ℕ) → p < ranks (run .old) → Cuttable (run .mesh) (run .old) p
   old-cuttable p l =
       record { table-ranks = S .tables .oldRanks; table-valid = S .tables .oldValid; rank-below = l; mesh-sound = S .mesh-sound; same-trees = S .same-trees }
 
-  module _ (p q : ℕ) (l : p < ranks old) (r : q < ranks old) where
+  module _ (p q : ℕ) (l : p < ranks (run .old)) (r : q < ranks (run .old)) where
     abbrev here : List ℕ
-    here = cutPart mesh old p
+    here = cutPart (run .mesh) (run .old) p
 
     -- building from the cut of the mesh is the rule applied to the mesh
-    pub build-is-rule : partMessage (cutPart mesh old p) old new p q epoch ≡ meshMessage mesh old new p q epoch
+    pub build-is-rule : partMessage (cutPart (run .mesh) (run .old) p) (run .old) (run .new) p q (run .epoch) ≡ meshMessage (run .mesh) (run .old) (run .new) p q (run .epoch)
     unfolding partMessage
     build-is-rule =
-        rw (cut-dimension mesh old p (old-cuttable p l) (S .tables .oldBytes))
-        (rule-from-part (partCore here) (partHolds here) (partRecord here) mesh old p new q (S .tables) l r (S .same-trees) (has-part mesh old p (old-cuttable p l) (S .mesh-bytes) (S .tables .oldBytes) (S .same-trees)) epoch)
+        rw (cut-dimension (run .mesh) (run .old) p (old-cuttable p l) (S .tables .oldBytes))
+        (rule-from-part (partCore here) (partHolds here) (partRecord here) (run .mesh) (run .old) p (run .new) q (S .tables) l r (S .same-trees) (has-part (run .mesh) (run .old) p (old-cuttable p l) (S .mesh-bytes) (S .tables .oldBytes) (S .same-trees)) (run .epoch))
 
-    pub message-of : messageOf mesh old new rank epoch p q ≡ meshMessage mesh old new p q epoch
+    pub message-of : messageOf run p q ≡ meshMessage (run .mesh) (run .old) (run .new) p q (run .epoch)
     unfolding messageOf
     message-of = build-is-rule
 
     -- for parts of a sound mesh, the build call answers 9 exactly where p sends q no tree
-    pub build-refusal : firstFailed (buildChecks (cutPart mesh old p) old new p q) ≡ cond (sendsTo old new p q) 0 9
+    pub build-refusal : firstFailed (buildChecks (cutPart (run .mesh) (run .old) p) (run .old) (run .new) p q) ≡ cond (sendsTo (run .old) (run .new) p q) 0 9
     unfolding buildChecks tableChecks firstFailed
     build-refusal =
         let T = S .tables in
-        rw (T .oldRanks, T .newRanks, T .oldValid, T .newValid, eq-eqb (ranks old) (ranks new) (sym (T .sameRanks)), eq-eqb (trees old) (trees new) (sym (T .sameTrees)), lt-ltb p (ranks old) l, lt-ltb q (ranks old) r, cut-sound mesh old p (old-cuttable p l) (S .mesh-bytes) (T .oldBytes))
+        rw (T .oldRanks, T .newRanks, T .oldValid, T .newValid, eq-eqb (ranks (run .old)) (ranks (run .new)) (sym (T .sameRanks)), eq-eqb (trees (run .old)) (trees (run .new)) (sym (T .sameTrees)), lt-ltb p (ranks (run .old)) l, lt-ltb q (ranks (run .old)) r, cut-sound (run .mesh) (run .old) p (old-cuttable p l) (S .mesh-bytes) (T .oldBytes))
+
+    -- its whole answer: 9 where p sends q no tree, 22 where the buffer is shorter than the message, else the message
+    pub build-answer : (out : List ℕ) → buildMessageOf (cutPart (run .mesh) (run .old) p) (run .old) (run .new) p q (run .epoch) out
+        ≡ writeAnswer (cond (sendsTo (run .old) (run .new) p q) (cond (leb (length (messageOf run p q)) (length out)) 0 22) 9) (messageOf run p q) out
+    unfolding buildMessageOf buildChecks tableChecks firstFailed messageOf
+    build-answer out =
+        let T = S .tables in
+        rw (T .oldRanks, T .newRanks, T .oldValid, T .newValid, eq-eqb (ranks (run .old)) (ranks (run .new)) (sym (T .sameRanks)), eq-eqb (trees (run .old)) (trees (run .new)) (sym (T .sameTrees)), lt-ltb p (ranks (run .old)) l, lt-ltb q (ranks (run .old)) r, cut-sound (run .mesh) (run .old) p (old-cuttable p l) (S .mesh-bytes) (T .oldBytes))
 
     -- where p sends q a tree, it writes that message into any buffer that is long enough
-    pub built-bytes : sendsTo old new p q ≡ true → (out : List ℕ) → length (messageOf mesh old new rank epoch p q) ≤ length out
-        → buildMessageOf (cutPart mesh old p) old new p q epoch out ≡ writeAnswer 0 (messageOf mesh old new rank epoch p q) out
-    unfolding buildMessageOf buildChecks tableChecks firstFailed messageOf
-    built-bytes sent out room =
-        let T = S .tables in
-        rw (T .oldRanks, T .newRanks, T .oldValid, T .newValid, eq-eqb (ranks old) (ranks new) (sym (T .sameRanks)), eq-eqb (trees old) (trees new) (sym (T .sameTrees)), lt-ltb p (ranks old) l, lt-ltb q (ranks old) r, cut-sound mesh old p (old-cuttable p l) (S .mesh-bytes) (T .oldBytes), sent, le-leb (length (messageOf mesh old new rank epoch p q)) (length out) room)
+    pub built-bytes : sendsTo (run .old) (run .new) p q ≡ true → (out : List ℕ) → length (messageOf run p q) ≤ length out
+        → buildMessageOf (cutPart (run .mesh) (run .old) p) (run .old) (run .new) p q (run .epoch) out ≡ writeAnswer 0 (messageOf run p q) out
+    built-bytes sent out room = build-answer out ∙ rw (sent, le-leb (length (messageOf run p q)) (length out) room)

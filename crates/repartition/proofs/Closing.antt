@@ -1,20 +1,20 @@
 -- A close on the canonical area.
-use Prim.Native.Nat.{ℕ, zero, suc, _+_, _-_, _*_, _≤_, _<_}
-use native.Mathlib.Nat.{le-refl, mul-suc}
+use Prim.Native.Nat.{ℕ, zero, suc, _+_, _*_, _≤_, _<_}
+use native.Mathlib.Nat.{le-refl}
 use native.Mathlib.Omega.{arith}
 use mathlib.Core.Path.{_≡_, refl, sym, ap, ap₂, _∙_}
-use mathlib.Core.Bool.{Bool, true, false, cond, _&&_}
-use mathlib.Core.List.{List, [], _∷_, _++_, map}
-use lib.Dec.{leb, ltb, eqb}
-use lib.ListN.{length, getD, take, drop}
+use mathlib.Core.Bool.{Bool, true, cond}
+use mathlib.Core.List.{List, [], _++_}
+use lib.Dec.{leb, eqb}
+use lib.ListN.{length, getD, take}
 use lib.Seq.{take-add, take-all}
 use borrow.Author.Tests.{eq-eqb, ne-eqb}
 use Rattle.encoding.specs.Answer.{lengthAnswer, written, writeAnswer}
 use Rattle.encoding.specs.Below.{allBelow, countBelow, leastBelow, keptBelow}
-use Rattle.encoding.specs.Pieces.{piece, Bytes}
+use Rattle.encoding.specs.Pieces.{piece}
 use Rattle.encoding.specs.Refusal.{firstFailed}
 use Rattle.encoding.proofs.Below.{either, all-at, all-same, count-same, count-lt, least-is, kept-same, kept-at, kept-found, kept-ascends}
-use Rattle.offsets.specs.Table.{ranks, trees, firstTree, treeCount, holds}
+use Rattle.offsets.specs.Table.{ranks, firstTree, treeCount}
 use Rattle.pattern.specs.Sender.{sender, sends}
 use Rattle.pattern.specs.Sets.{sendsTo, getsFrom}
 use Rattle.pattern.proofs.Senders.{sends-in}
@@ -23,7 +23,7 @@ use Rattle.records.specs.Links.{rowOf, rowsOf}
 use Rattle.records.specs.Record.{coreSize, treeSize, unused, numberOf, neighbourOf}
 use Rattle.records.specs.Shape.{facesIn}
 use Rattle.records.proofs.Forms.{at-piece}
-use Rattle.mesh.specs.Mesh.{meshHeader, meshDimension, meshTrees, meshCore, meshRecord, meshSound}
+use Rattle.mesh.specs.Mesh.{meshHeader, meshDimension, meshTrees, meshCore, meshRecord}
 use Rattle.part.specs.Ghosts.{isGhost, ghostsOf, ghostPosition}
 use Rattle.part.specs.Cut.{renameRow, renamed, localIndex, partTree, partTrees, partGhosts, ghostCount, cutPart}
 use Rattle.part.specs.Part.{partDimension, partK, partFirst, partCount, partGhostCount, globalTree, storedGhost}
@@ -35,14 +35,15 @@ use Rattle.part_theorems.proofs.SoundParts.{part-view}
 use Rattle.part_theorems.proofs.Views.{view-same}
 use Rattle.message.specs.Rule.{ghostSender}
 use Rattle.message.proofs.Ghosts.{sender-below, sends-some, ghost-sender-lt, ghost-sender-sends}
-use Rattle.assembly.specs.Layout.{slotsOf}
-use Rattle.assembly.specs.Area.{areaDimension, areaK, areaP, areaRank, areaCount, areaGhosts, areaOld, areaNew, areaFirst, heard, treeSlot, treeSlotCore, ghostSlot, areaSound}
-use Rattle.assembly.specs.Close.{allHeard, joinSound, joinIndex, joinedPart, closeChecks, closeOf}
-use Rattle.assembly_laws.proofs.Zones.{Reads}
-use Rattle.repartition.specs.Canonical.{slotHeard, ghostHeard, ghostsHeard, canonical}
-use Rattle.repartition.specs.Lists.{Setting, allDue}
+use Rattle.area.specs.Layout.{slotsOf}
+use Rattle.area.specs.Area.{areaDimension, areaRank, areaGhosts, areaOld, areaNew, heard, treeSlot, treeSlotCore, ghostSlot}
+use Rattle.area.specs.Close.{allHeard, joinSound, joinIndex, joinedPart, closeChecks, closeOf}
+use Rattle.area_theorems.proofs.Zones.{Reads}
+use Rattle.repartition.proofs.Canonical.{slotHeard, ghostHeard, ghostsHeard, canonical}
+use Rattle.repartition.specs.Run.{Run, Setting}
+use Rattle.repartition.specs.Lists.{allDue}
 use Rattle.repartition.proofs.Receive.{InReceive}
-use Rattle.repartition.proofs.Heard.{Kept, record-core, rank-bit, canonical-reads, heard-kept, canonical-sound}
+use Rattle.repartition.proofs.Heard.{record-core, rank-bit, canonical-reads, heard-kept, canonical-sound}
 
 -- records whose neighbours get the same names
 same-names : (a b : ℕ → ℕ) (F : ℕ) (r : List ℕ) → ((f : ℕ) → f < 6 → a (neighbourOf r f) ≡ b (neighbourOf r f)) → renamed a F r ≡ renamed b F r
@@ -65,85 +66,85 @@ slots-are slot bs (suc n) e =
     ∙ sym (take-add (coreSize * n) coreSize bs)
     ∙ ap (λ (m : ℕ). take m bs) more
 
-module _ (mesh old new : List ℕ) (rank epoch : ℕ) (S : Setting mesh old new rank epoch) where
+module _ (run : Run) (S : Setting run) where
   -- the rank has a new part
-  pub new-cuttable : Cuttable mesh new rank
+  pub new-cuttable : Cuttable (run .mesh) (run .new) (run .rank)
   new-cuttable =
       let e = S .tables .sameRanks in
       record { table-ranks = S .tables .newRanks; table-valid = S .tables .newValid; rank-below = omega (arith, S .rank-below); mesh-sound = S .mesh-sound; same-trees = S .same-trees ∙ sym (S .tables .sameTrees) }
 
   abbrev K : ℕ
-  K = meshTrees mesh
+  K = meshTrees (run .mesh)
 
   abbrev core : ℕ → List ℕ
-  core = meshCore mesh
+  core = meshCore (run .mesh)
 
   abbrev first : ℕ
-  first = firstTree new rank
+  first = firstTree (run .new) (run .rank)
 
   abbrev n : ℕ
-  n = treeCount new rank
+  n = treeCount (run .new) (run .rank)
 
   abbrev ghostly : ℕ → Bool
-  ghostly = isGhost (meshCore mesh) new rank
+  ghostly = isGhost (meshCore (run .mesh)) (run .new) (run .rank)
 
   module _ (H : ℕ → Bool) (tail : List ℕ) where
     abbrev a : List ℕ
-    a = canonical mesh old new rank epoch H ++ tail
+    a = canonical run H ++ tail
 
     abbrev g : ℕ
-    g = countBelow K (ghostHeard mesh old new rank epoch H)
+    g = countBelow K (ghostHeard run H)
 
-    reads : Reads a epoch (meshDimension mesh) old new rank H (slotHeard mesh old new rank epoch H) g (ghostsHeard mesh old new rank epoch H K) tail
-    reads = canonical-reads mesh old new rank epoch S H tail
+    reads : Reads a (run .epoch) (meshDimension (run .mesh)) (run .old) (run .new) (run .rank) H (slotHeard run H) g (ghostsHeard run H K) tail
+    reads = canonical-reads run S H tail
 
     -- all are heard where the calls say so
-    pub all-heard : allHeard a ≡ allDue mesh old new rank epoch H
+    pub all-heard : allHeard a ≡ allDue run H
     unfolding allHeard allDue
     all-heard =
         ap (λ (P : ℕ). allBelow P (λ s. cond (getsFrom (areaOld a) (areaNew a) (areaRank a) s) (heard a s) true)) (reads .at-P)
-        ∙ all-same (ranks old) (λ s. cond (getsFrom (areaOld a) (areaNew a) (areaRank a) s) (heard a s) true) (λ s. cond (getsFrom old new rank s) (H s) true)
-        (λ s h. rw (reads .at-old, reads .at-new, reads .at-rank, reads .at-heard s (rank-bit mesh old new rank epoch S H s h)))
+        ∙ all-same (ranks (run .old)) (λ s. cond (getsFrom (areaOld a) (areaNew a) (areaRank a) s) (heard a s) true) (λ s. cond (getsFrom (run .old) (run .new) (run .rank) s) (H s) true)
+        (λ s h. rw (reads .at-old, reads .at-new, reads .at-rank, reads .at-heard s (rank-bit run S H s h)))
 
-    module _ (full : allDue mesh old new rank epoch H ≡ true) where
+    module _ (full : allDue run H ≡ true) where
       -- ---- every tree and ghost is there
 
-      due-heard : (s : ℕ) → s < ranks old → sendsTo old new s rank ≡ true → H s ≡ true
+      due-heard : (s : ℕ) → s < ranks (run .old) → sendsTo (run .old) (run .new) s (run .rank) ≡ true → H s ≡ true
       unfolding allDue
       due-heard s h e =
-          let t = all-at (ranks old) (λ s. cond (getsFrom old new rank s) (H s) true) full s h in
-          rw (gets-sends old new (S .tables) s rank h (S .rank-below) ∙ e) at t
+          let t = all-at (ranks (run .old)) (λ s. cond (getsFrom (run .old) (run .new) (run .rank) s) (H s) true) full s h in
+          rw (gets-sends (run .old) (run .new) (S .tables) s (run .rank) h (S .rank-below) ∙ e) at t
 
-      tree-heard : (i : ℕ) → i < n → H (sender old (first + i) rank) ≡ true
+      tree-heard : (i : ℕ) → i < n → H (sender (run .old) (first + i) (run .rank)) ≡ true
       tree-heard i h =
           let k : ℕ = first + i in
-          let e : sends old new (sender old k rank) rank k ≡ true = sends-in old new (S .tables) rank k (range-local mesh new rank new-cuttable (S .mesh-bytes) (S .tables .newBytes) i h) in
-          due-heard (sender old k rank) (sender-below old new (S .tables) (sender old k rank) rank k (S .rank-below) e) (sends-some old new (S .tables) (sender old k rank) rank k (S .rank-below) e)
+          let e : sends (run .old) (run .new) (sender (run .old) k (run .rank)) (run .rank) k ≡ true = sends-in (run .old) (run .new) (S .tables) (run .rank) k (range-local (run .mesh) (run .new) (run .rank) new-cuttable (S .mesh-bytes) (S .tables .newBytes) i h) in
+          due-heard (sender (run .old) k (run .rank)) (sender-below (run .old) (run .new) (S .tables) (sender (run .old) k (run .rank)) (run .rank) k (S .rank-below) e) (sends-some (run .old) (run .new) (S .tables) (sender (run .old) k (run .rank)) (run .rank) k (S .rank-below) e)
 
-      ghost-there : (k : ℕ) → ghostHeard mesh old new rank epoch H k ≡ ghostly k
+      ghost-there : (k : ℕ) → ghostHeard run H k ≡ ghostly k
       unfolding ghostHeard
       ghost-there k =
           either (ghostly k)
-          (λ e. let s : H (ghostSender core old new rank k) ≡ true = due-heard (ghostSender core old new rank k) (ghost-sender-lt core old new (S .tables) rank k (S .rank-below) e) (ghost-sender-sends core old new (S .tables) rank k (S .rank-below) e) in
+          (λ e. let s : H (ghostSender core (run .old) (run .new) (run .rank) k) ≡ true = due-heard (ghostSender core (run .old) (run .new) (run .rank) k) (ghost-sender-lt core (run .old) (run .new) (S .tables) (run .rank) k (S .rank-below) e) (ghost-sender-sends core (run .old) (run .new) (S .tables) (run .rank) k (S .rank-below) e) in
           rw (e, s))
           (λ e. rw e)
 
-      slot-there : (i : ℕ) → i < n → treeSlot a i ≡ meshRecord mesh (first + i)
+      slot-there : (i : ℕ) → i < n → treeSlot a i ≡ meshRecord (run .mesh) (first + i)
       unfolding slotHeard
       slot-there i h = reads .at-slot i h ∙ rw (tree-heard i h)
 
-      core-there : (i : ℕ) → i < n → treeSlotCore a i ≡ meshCore mesh (first + i)
+      core-there : (i : ℕ) → i < n → treeSlotCore a i ≡ meshCore (run .mesh) (first + i)
       unfolding slotHeard
-      core-there i h = reads .at-core i h ∙ rw (tree-heard i h) (record-core mesh old new rank epoch (first + i))
+      core-there i h = reads .at-core i h ∙ rw (tree-heard i h) (record-core run (first + i))
 
-      ghosts-there : (k : ℕ) → ghostsHeard mesh old new rank epoch H k ≡ partGhosts mesh new rank k
+      ghosts-there : (k : ℕ) → ghostsHeard run H k ≡ partGhosts (run .mesh) (run .new) (run .rank) k
       unfolding ghostsHeard partGhosts
       ghosts-there zero = refl
-      ghosts-there (suc k) = ap₂ (λ (x : List ℕ) (b : Bool). x ++ cond b (meshCore mesh k) []) (ghosts-there k) (ghost-there k)
+      ghosts-there (suc k) = ap₂ (λ (x : List ℕ) (b : Bool). x ++ cond b (meshCore (run .mesh) k) []) (ghosts-there k) (ghost-there k)
 
-      many : g ≡ ghostCount mesh new rank
+      many : g ≡ ghostCount (run .mesh) (run .new) (run .rank)
       unfolding ghostCount ghostPosition
-      many = count-same K (ghostHeard mesh old new rank epoch H) ghostly (λ k h. ghost-there k)
+      many = count-same K (ghostHeard run H) ghostly (λ k h. ghost-there k)
 
       -- ghost j
       abbrev number : ℕ → ℕ
@@ -151,18 +152,18 @@ module _ (mesh old new : List ℕ) (rank epoch : ℕ) (S : Setting mesh old new 
 
       slot-core : (j : ℕ) → j < g → ghostSlot a j ≡ core (number j)
       slot-core j h =
-          heard-kept mesh old new rank epoch S H tail .at-place j h
-          ∙ ap (λ (l : List ℕ). core (getD l j 0)) (kept-same K (ghostHeard mesh old new rank epoch H) ghostly (λ k l. ghost-there k))
+          heard-kept run S H tail .at-place j h
+          ∙ ap (λ (l : List ℕ). core (getD l j 0)) (kept-same K (ghostHeard run H) ghostly (λ k l. ghost-there k))
 
       count-there : g ≡ countBelow K ghostly
-      count-there = count-same K (ghostHeard mesh old new rank epoch H) ghostly (λ k h. ghost-there k)
+      count-there = count-same K (ghostHeard run H) ghostly (λ k h. ghost-there k)
 
       slot-number : (j : ℕ) → j < countBelow K ghostly → numberOf (ghostSlot a j) ≡ number j
       slot-number j h =
-          ap numberOf (slot-core j (omega (arith, count-there))) ∙ heard-kept mesh old new rank epoch S H tail .number (number j) (kept-found K ghostly j 0 h .0)
+          ap numberOf (slot-core j (omega (arith, count-there))) ∙ heard-kept run S H tail .number (number j) (kept-found K ghostly j 0 h .0)
 
       -- its position
-      place : (k : ℕ) → k < K → ghostly k ≡ true → leastBelow (areaGhosts a) (λ j. eqb (numberOf (ghostSlot a j)) k) ≡ ghostPosition core new rank k
+      place : (k : ℕ) → k < K → ghostly k ≡ true → leastBelow (areaGhosts a) (λ j. eqb (numberOf (ghostSlot a j)) k) ≡ ghostPosition core (run .new) (run .rank) k
       unfolding ghostPosition
       place k h e =
           let l : countBelow k ghostly < countBelow K ghostly = count-lt k K ghostly h e in
@@ -180,45 +181,45 @@ module _ (mesh old new : List ℕ) (rank epoch : ℕ) (S : Setting mesh old new 
 
       module _ (i : ℕ) (tree : i < n) where
         abbrev neighbour : ℕ → ℕ
-        neighbour f = neighbourOf (meshCore mesh (first + i)) f
+        neighbour f = neighbourOf (meshCore (run .mesh) (first + i)) f
 
-        same-index : (f : ℕ) → f < 6 → joinIndex a (neighbour f) ≡ localIndex mesh new rank (neighbour f)
+        same-index : (f : ℕ) → f < 6 → joinIndex a (neighbour f) ≡ localIndex (run .mesh) (run .new) (run .rank) (neighbour f)
         unfolding joinIndex localIndex
         same-index f h =
-            neighbour-cases mesh new rank new-cuttable (S .mesh-bytes) (S .tables .newBytes) (first + i) (range-local mesh new rank new-cuttable (S .mesh-bytes) (S .tables .newBytes) i tree) f h
+            neighbour-cases (run .mesh) (run .new) (run .rank) new-cuttable (S .mesh-bytes) (S .tables .newBytes) (first + i) (range-local (run .mesh) (run .new) (run .rank) new-cuttable (S .mesh-bytes) (S .tables .newBytes) i tree) f h
             (λ e. rw (eq-eqb (neighbour f) unused e))
             (λ l e. rw (reads .at-new, reads .at-rank, reads .at-first, e))
             (λ l e b. rw (reads .at-new, reads .at-rank, reads .at-first, reads .at-count, place (neighbour f) l b))
 
-        joined-tree : renamed (joinIndex a) (facesIn (areaDimension a)) (treeSlot a i) ≡ partTree mesh new rank i
+        joined-tree : renamed (joinIndex a) (facesIn (areaDimension a)) (treeSlot a i) ≡ partTree (run .mesh) (run .new) (run .rank) i
         unfolding partTree
         joined-tree =
             rw (reads .at-dimension, slot-there i tree)
-            (same-names (joinIndex a) (localIndex mesh new rank) (facesIn (meshDimension mesh)) (meshRecord mesh (first + i))
-            (λ f h. rw (record-neighbour mesh (first + i) f h) (same-index f h)))
+            (same-names (joinIndex a) (localIndex (run .mesh) (run .new) (run .rank)) (facesIn (meshDimension (run .mesh))) (meshRecord (run .mesh) (first + i))
+            (λ f h. rw (record-neighbour (run .mesh) (first + i) f h) (same-index f h)))
 
-      joined-trees : (m : ℕ) → m ≤ n → slotsOf (λ i. renamed (joinIndex a) (facesIn (areaDimension a)) (treeSlot a i)) m ≡ partTrees mesh new rank m
+      joined-trees : (m : ℕ) → m ≤ n → slotsOf (λ i. renamed (joinIndex a) (facesIn (areaDimension a)) (treeSlot a i)) m ≡ partTrees (run .mesh) (run .new) (run .rank) m
       unfolding slotsOf partTrees
       joined-trees zero h = refl
       joined-trees (suc m) h = ap₂ (λ (x y : List ℕ). x ++ y) (joined-trees m (omega arith)) (joined-tree m (omega arith))
 
-      joined-ghosts : slotsOf (ghostSlot a) g ≡ partGhosts mesh new rank K
+      joined-ghosts : slotsOf (ghostSlot a) g ≡ partGhosts (run .mesh) (run .new) (run .rank) K
       unfolding ghostPosition
       joined-ghosts =
-          let l : length (partGhosts mesh new rank K) ≡ coreSize * countBelow K ghostly = cores-length mesh new rank (S .mesh-sound) K (le-refl K) in
-          slots-are (ghostSlot a) (partGhosts mesh new rank K) g (λ j h. reads .at-ghost j h ∙ ap (λ (b : List ℕ). piece b (coreSize * j) coreSize) (ghosts-there K))
-          ∙ take-all (coreSize * g) (partGhosts mesh new rank K) (omega (arith, l, count-there))
+          let l : length (partGhosts (run .mesh) (run .new) (run .rank) K) ≡ coreSize * countBelow K ghostly = cores-length (run .mesh) (run .new) (run .rank) (S .mesh-sound) K (le-refl K) in
+          slots-are (ghostSlot a) (partGhosts (run .mesh) (run .new) (run .rank) K) g (λ j h. reads .at-ghost j h ∙ ap (λ (b : List ℕ). piece b (coreSize * j) coreSize) (ghosts-there K))
+          ∙ take-all (coreSize * g) (partGhosts (run .mesh) (run .new) (run .rank) K) (omega (arith, l, count-there))
 
       -- the joined part is the cut of the mesh by the new table
-      pub join-is-cut : joinedPart a ≡ cutPart mesh new rank
+      pub join-is-cut : joinedPart a ≡ cutPart (run .mesh) (run .new) (run .rank)
       unfolding joinedPart cutPart
       join-is-cut =
           let e = S .tables .sameRanks in
           rw (reads .at-count, reads .at-ghosts, joined-trees n (le-refl n), joined-ghosts, reads .at-dimension, reads .at-K, reads .at-P, reads .at-rank, reads .at-first, many, S .same-trees, e)
 
-      cut-at : (j : ℕ) → j < ghostCount mesh new rank → storedGhost (cutPart mesh new rank) j ≡ core (number j)
+      cut-at : (j : ℕ) → j < ghostCount (run .mesh) (run .new) (run .rank) → storedGhost (cutPart (run .mesh) (run .new) (run .rank)) j ≡ core (number j)
       unfolding ghostsOf
-      cut-at j h = cut-ghost mesh new rank new-cuttable (S .tables .newBytes) j h
+      cut-at j h = cut-ghost (run .mesh) (run .new) (run .rank) new-cuttable (S .tables .newBytes) j h
 
       -- and sound
       pub join-sound : joinSound a ≡ true
@@ -226,21 +227,21 @@ module _ (mesh old new : List ℕ) (rank epoch : ℕ) (S : Setting mesh old new 
       join-sound =
           let ok = new-cuttable in
           let bytes = S .tables .newBytes in
-          let part : List ℕ = cutPart mesh new rank in
-          let v : viewSound (partFirst part) (partCount part) (partGhostCount part) (globalTree part) (storedGhost part) (partDimension part) (partK part) ≡ true = part-view part new rank (cut-sound mesh new rank ok (S .mesh-bytes) bytes) in
-          let w : viewSound first n (ghostCount mesh new rank) (globalTree part) (storedGhost part) (meshDimension mesh) K ≡ true =
-          rw (cut-first mesh new rank ok bytes, cut-count mesh new rank ok bytes, cut-ghosts mesh new rank ok bytes, cut-dimension mesh new rank ok bytes, cut-K mesh new rank ok bytes) at v in
+          let part : List ℕ = cutPart (run .mesh) (run .new) (run .rank) in
+          let v : viewSound (partFirst part) (partCount part) (partGhostCount part) (globalTree part) (storedGhost part) (partDimension part) (partK part) ≡ true = part-view part (run .new) (run .rank) (cut-sound (run .mesh) (run .new) (run .rank) ok (S .mesh-bytes) bytes) in
+          let w : viewSound first n (ghostCount (run .mesh) (run .new) (run .rank)) (globalTree part) (storedGhost part) (meshDimension (run .mesh)) K ≡ true =
+          rw (cut-first (run .mesh) (run .new) (run .rank) ok bytes, cut-count (run .mesh) (run .new) (run .rank) ok bytes, cut-ghosts (run .mesh) (run .new) (run .rank) ok bytes, cut-dimension (run .mesh) (run .new) (run .rank) ok bytes, cut-K (run .mesh) (run .new) (run .rank) ok bytes) at v in
           rw (reads .at-first, reads .at-count, reads .at-ghosts, reads .at-dimension, reads .at-K, many, ← S .same-trees)
-          (view-same first n (ghostCount mesh new rank) (treeSlotCore a) (globalTree part) (ghostSlot a) (storedGhost part)
-          (λ i h. core-there i h ∙ sym (cut-global mesh new rank ok (S .mesh-bytes) bytes i h))
-          (λ j h. slot-core j (rw many h) ∙ sym (cut-at j h)) (meshDimension mesh) K ∙ w)
+          (view-same first n (ghostCount (run .mesh) (run .new) (run .rank)) (treeSlotCore a) (globalTree part) (ghostSlot a) (storedGhost part)
+          (λ i h. core-there i h ∙ sym (cut-global (run .mesh) (run .new) (run .rank) ok (S .mesh-bytes) bytes i h))
+          (λ j h. slot-core j (rw many h) ∙ sym (cut-at j h)) (meshDimension (run .mesh)) K ∙ w)
 
     -- a close: 20 until the receive set is heard, then 22 if the buffer is shorter than the part, else the part
-    pub close-step : InReceive old new rank H → (out : List ℕ)
-        → closeOf (canonical mesh old new rank epoch H ++ tail) out
-        ≡ writeAnswer (cond (allDue mesh old new rank epoch H) (cond (leb (length (cutPart mesh new rank)) (length out)) 0 22) 20) (cutPart mesh new rank) out
+    pub close-step : InReceive run H → (out : List ℕ)
+        → closeOf (canonical run H ++ tail) out
+        ≡ writeAnswer (cond (allDue run H) (cond (leb (length (cutPart (run .mesh) (run .new) (run .rank))) (length out)) 0 22) 20) (cutPart (run .mesh) (run .new) (run .rank)) out
     unfolding closeOf closeChecks firstFailed writeAnswer lengthAnswer written
     close-step r out =
-        either (allDue mesh old new rank epoch H)
-        (λ t. rw (canonical-sound mesh old new rank epoch S H tail r, all-heard, t, join-sound t, join-is-cut t))
-        (λ t. rw (canonical-sound mesh old new rank epoch S H tail r, all-heard, t))
+        either (allDue run H)
+        (λ t. rw (canonical-sound run S H tail r, all-heard, t, join-sound t, join-is-cut t))
+        (λ t. rw (canonical-sound run S H tail r, all-heard, t))

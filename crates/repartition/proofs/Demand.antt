@@ -1,194 +1,230 @@
 -- The theorem of demand 3.
-use Prim.Native.Nat.{ℕ, _+_, _-_, _<_}
+use Prim.Native.Nat.{ℕ, _+_, _<_, suc, _≤_}
 use native.Mathlib.Nat.{zero-add}
 use native.Mathlib.Omega.{arith}
-use mathlib.Core.Path.{_≡_, refl, sym, ap, ap₂, _∙_}
-use mathlib.Core.Bool.{Bool, true, false, cond, not, _&&_}
+use mathlib.Core.Path.{_≡_, sym, ap, ap₂, _∙_}
+use mathlib.Core.Bool.{Bool, true, false, cond}
 use mathlib.Core.List.{List, [], _∷_, _++_}
 use lib.Dec.{leb, ltb, eqb}
 use lib.ListN.{length, take, drop}
 use lib.Seq.{take-at, drop-at}
-use borrow.Author.Tests.{ltb-true, eq-eqb, eqb-true, leb-true}
+use borrow.Author.Tests.{ltb-true, eq-eqb, lt-ltb, le-leb}
 use Rattle.encoding.specs.Answer.{lengthAnswer, written, writeAnswer}
-use Rattle.encoding.specs.Below.{anyBelow, countBelow}
+use Rattle.encoding.specs.Below.{countBelow}
 use Rattle.encoding.specs.Pieces.{splice}
 use Rattle.encoding.specs.Refusal.{check, firstFailed}
-use Rattle.encoding.proofs.Below.{either, clash, tests, and-fst, and-snd, iff-eq, all-at, any-at, any-intro}
-use Rattle.offsets.specs.Table.{ranks, trees, treeCount, holds}
-use Rattle.pattern.specs.Sender.{sends, sentFirst, sentCount}
+use Rattle.encoding.proofs.Below.{either, clash, tests, all-at}
+use Rattle.offsets.specs.Table.{ranks, trees, treeCount, holds, firstTree}
+use Rattle.pattern.specs.Sender.{sends, Tables}
 use Rattle.pattern.specs.Sets.{sendsTo, getsFrom}
-use Rattle.pattern.proofs.Senders.{sends-true}
-use Rattle.pattern.proofs.Sets.{gets-sends, one-range, sent-in, new-below}
+use Rattle.pattern.proofs.Sets.{gets-sends}
 use Rattle.records.specs.Record.{numberOf}
 use Rattle.mesh.specs.Mesh.{meshDimension, meshTrees, meshCore, meshRecord}
 use Rattle.part.specs.Ghosts.{isGhost}
-use Rattle.message.specs.Layout.{messageTrees, messageTree, messageGhosts, messageGhost}
-use Rattle.message.specs.Build.{meshMessage}
 use Rattle.message.specs.Rule.{ghostGoes}
 use Rattle.message.proofs.Ghosts.{tree-one-message, ghost-one-message}
-use Rattle.assembly.specs.Calls.{openChecks, openAreaOf}
-use Rattle.assembly.specs.Deliver.{among}
-use Rattle.assembly.specs.Layout.{areaSize}
-use Rattle.assembly.specs.Open.{freshArea}
-use Rattle.assembly_laws.proofs.Zones.{area-length}
-use Rattle.repartition.specs.Canonical.{slotHeard, ghostHeard, ghostsHeard, canonical}
-use Rattle.repartition.specs.Lists.{Call, deliver, close, countIn, treeIn, ghostWith, Setting, Built, AllBuilt, messageOf, opened, hears, hearsAll, nobody, allDue, areaAfterAll, answersOf, dueAll, acceptedBy}
-use Rattle.repartition.specs.Demand.{Demand3, size, heardBy, bytesAfter, cameIn}
+use Rattle.area_open.specs.Calls.{openChecks, openAreaOf}
+use Rattle.area.specs.Open.{freshArea}
+use Rattle.area_theorems.proofs.Zones.{area-length}
+use Rattle.repartition.proofs.Canonical.{slotHeard, ghostHeard, ghostsHeard, canonical}
+use Rattle.encoding.specs.declared.answer.Length.{Length}
+use Rattle.pattern.specs.Calls.{tableChecks}
+use Rattle.mesh.proofs.Soundness.{header-parts, sound-header}
+use Rattle.part.specs.Cut.{ghostCount}
+use Rattle.part.specs.Part.{partCount, partGhostCount, storedTree, storedGhost}
+use Rattle.part_theorems.proofs.CutSound.{range-local}
+use Rattle.area.specs.Close.{closeOf}
+use Rattle.repartition.specs.Run.{Run, Setting}
+use Rattle.repartition.specs.Lists.{Call, close, countIn, treeIn, ghostWith, Built, AllBuilt, messageOf, opened, hears, hearsAll, nobody, allDue, areaAfterAll, answersOf, dueAll, acceptedBy, newPart}
+use Rattle.repartition.specs.Refusals.{deliver}
+use Rattle.repartition.specs.Demand.{Demand3, size, heardBy, bytesAfter, cameIn, closeAfter}
 use Rattle.repartition.proofs.Receive.{InReceive, nobody-receive, hears-receive}
 use Rattle.repartition.proofs.Sequences.{Steps, after-all, answers-all, accepted-times}
 use Rattle.repartition.proofs.Building.{message-of}
-use Rattle.repartition.proofs.Heard.{among-kept, canonical-zones, canonical-agree, canonical-apart, fresh-canonical}
-use Rattle.repartition.proofs.Delivering.{built-trees, built-number, built-kept, deliver-step}
-use Rattle.repartition.proofs.Closing.{close-step}
+use Rattle.repartition.proofs.Heard.{canonical-zones, canonical-agree, canonical-apart, fresh-canonical}
+use Rattle.repartition.proofs.Delivering.{deliver-step}
+use Rattle.repartition.proofs.RuleMessages.{trees-in, goes-in}
+use Rattle.repartition.proofs.Records.{front-count, front-ghosts, front-tree, front-ghost}
+use Rattle.repartition.proofs.Closing.{close-step, new-cuttable}
 
-module _ (mesh old new : List ℕ) (rank epoch : ℕ) (S : Setting mesh old new rank epoch) where
+module _ (run : Run) (S : Setting run) where
   -- what one call does
-  pub steps : Steps mesh old new rank epoch S
+  pub steps : Steps run S
   steps =
       record {
-        delivers = λ H r tail p q b. rw (message-of mesh old new rank epoch S p q (b .sender-below) (b .receiver-below)) (deliver-step mesh old new rank epoch S H r tail p q b);
-        closes = λ H r tail out. close-step mesh old new rank epoch S H tail r out;
+        delivers = λ H r tail p q b. rw (message-of run S p q (b .sender-below) (b .receiver-below)) (deliver-step run S H r tail p q b);
+        closes = λ H r tail out. close-step run S H tail r out;
       }
 
   -- ---- who is heard
 
-  receive-all : (cs : List Call) → AllBuilt mesh old new rank epoch cs → (H : ℕ → Bool) → InReceive old new rank H → InReceive old new rank (hearsAll mesh old new rank epoch H cs)
+  pub receive-all : (cs : List Call) → AllBuilt run cs → (H : ℕ → Bool) → InReceive run H → InReceive run (hearsAll run H cs)
   unfolding AllBuilt hearsAll hears
   receive-all [] b H r = r
-  receive-all (deliver p q ∷ cs) b H r = receive-all cs (b .1) (hears mesh old new rank epoch H (deliver p q)) (hears-receive mesh old new rank epoch S H r p q (b .0))
+  receive-all (deliver p q ∷ cs) b H r = receive-all cs (b .1) (hears run H (deliver p q)) (hears-receive run S H r p q (b .0))
   receive-all (close out ∷ cs) b H r = receive-all cs b H r
 
   -- no number from P on is heard
-  unheard : (H : ℕ → Bool) → InReceive old new rank H → (s : ℕ) → ltb s (ranks old) ≡ false → H s ≡ false
+  unheard : (H : ℕ → Bool) → InReceive run H → (s : ℕ) → ltb s (ranks (run .old)) ≡ false → H s ≡ false
   unheard H r s e = either (H s) (λ h. let l = r .below s h in absurd (omega tests)) (λ h. h)
 
   -- ---- the area
 
-  canonical-long : (H : ℕ → Bool) → length (canonical mesh old new rank epoch H) ≡ size mesh old new rank epoch
+  canonical-long : (H : ℕ → Bool) → length (canonical run H) ≡ size run
   unfolding canonical
   canonical-long H =
-      area-length epoch (meshDimension mesh) old new rank H (slotHeard mesh old new rank epoch H) (countBelow (meshTrees mesh) (ghostHeard mesh old new rank epoch H))
-      (ghostsHeard mesh old new rank epoch H (meshTrees mesh)) [] (canonical-zones mesh old new rank epoch S H)
+      area-length (run .epoch) (meshDimension (run .mesh)) (run .old) (run .new) (run .rank) H (slotHeard run H) (countBelow (meshTrees (run .mesh)) (ghostHeard run H))
+      (ghostsHeard run H (meshTrees (run .mesh))) [] (canonical-zones run S H)
+
+  -- the open call accepts a buffer that is long enough
+  open-accepts : (b : List ℕ) → size run ≤ length b → opened run b .0 .refusal ≡ 0
+  unfolding opened openAreaOf openChecks tableChecks firstFailed writeAnswer lengthAnswer
+  open-accepts b long =
+      let T = S .tables in
+      let d = header-parts (run .mesh) (sound-header (run .mesh) (S .mesh-sound)) .0 in
+      rw (T .oldRanks, T .newRanks, T .oldValid, T .newValid, eq-eqb (ranks (run .old)) (ranks (run .new)) (sym (T .sameRanks)), eq-eqb (trees (run .old)) (trees (run .new)) (sym (T .sameTrees)), lt-ltb (run .rank) (ranks (run .old)) (S .rank-below), d, le-leb (size run) (length b) long)
 
   -- the open call wrote the area in which nobody is heard, and left the bytes behind it
-  open-start : (b : List ℕ) → opened mesh old new rank epoch b .0 .refusal ≡ 0
-      → opened mesh old new rank epoch b .1 ≡ canonical mesh old new rank epoch (nobody mesh old new rank epoch) ++ drop (size mesh old new rank epoch) b
+  open-start : (b : List ℕ) → size run ≤ length b → opened run b .1 ≡ canonical run nobody ++ drop (size run) b
   unfolding opened openAreaOf writeAnswer lengthAnswer written splice
-  open-start b e =
-      let R : ℕ = firstFailed (openChecks old new rank (meshDimension mesh) ++ (check (leb (size mesh old new rank epoch) (length b)) 22 ∷ [])) in
-      let fresh : List ℕ = freshArea old new rank (meshDimension mesh) epoch in
-      let f : fresh ≡ canonical mesh old new rank epoch (nobody mesh old new rank epoch) = fresh-canonical mesh old new rank epoch in
-      let l : length fresh ≡ size mesh old new rank epoch = ap length f ∙ canonical-long (nobody mesh old new rank epoch) in
+  open-start b long =
+      let e : opened run b .0 .refusal ≡ 0 = open-accepts b long in
+      let R : ℕ = firstFailed (openChecks (run .old) (run .new) (run .rank) (meshDimension (run .mesh)) ++ (check (leb (size run) (length b)) 22 ∷ [])) in
+      let fresh : List ℕ = freshArea (run .old) (run .new) (run .rank) (meshDimension (run .mesh)) (run .epoch) in
+      let f : fresh ≡ canonical run nobody = fresh-canonical run in
+      let l : length fresh ≡ size run = ap length f ∙ canonical-long nobody in
       either (eqb R 0)
       (λ t. rw t (ap₂ (λ (x : List ℕ) (m : ℕ). x ++ drop m b) f (zero-add (length fresh) ∙ l)))
       (λ t. let z : R ≡ 0 = rw t at e in clash (eq-eqb R 0 z) t)
 
-  module _ (b : List ℕ) (accepted : opened mesh old new rank epoch b .0 .refusal ≡ 0) (cs : List Call) (built : AllBuilt mesh old new rank epoch cs) where
+  module _ (b : List ℕ) (long : size run ≤ length b) (cs : List Call) (built : AllBuilt run cs) where
     abbrev rest : List ℕ
-    rest = drop (size mesh old new rank epoch) b
+    rest = drop (size run) b
 
     abbrev none : ℕ → Bool
-    none = nobody mesh old new rank epoch
+    none = nobody
 
     -- the state after a list
-    pub state-after : bytesAfter mesh old new rank epoch b cs ≡ canonical mesh old new rank epoch (heardBy mesh old new rank epoch cs) ++ rest
+    pub state-after : bytesAfter run b cs ≡ canonical run (heardBy run cs) ++ rest
     state-after =
-        ap (λ (a : List ℕ). areaAfterAll mesh old new rank epoch a cs) (open-start b accepted)
-        ∙ after-all mesh old new rank epoch S steps cs built none (nobody-receive mesh old new rank epoch) rest
+        ap (λ (a : List ℕ). areaAfterAll run a cs) (open-start b long)
+        ∙ after-all run S steps cs built none (nobody-receive run) rest
 
-    area-is : take (size mesh old new rank epoch) (bytesAfter mesh old new rank epoch b cs) ≡ canonical mesh old new rank epoch (heardBy mesh old new rank epoch cs)
-    area-is = ap (take (size mesh old new rank epoch)) state-after ∙ take-at (canonical mesh old new rank epoch (heardBy mesh old new rank epoch cs)) rest _ (canonical-long (heardBy mesh old new rank epoch cs))
+    area-is : take (size run) (bytesAfter run b cs) ≡ canonical run (heardBy run cs)
+    area-is = ap (take (size run)) state-after ∙ take-at (canonical run (heardBy run cs)) rest _ (canonical-long (heardBy run cs))
 
-    behind-is : drop (size mesh old new rank epoch) (bytesAfter mesh old new rank epoch b cs) ≡ rest
-    behind-is = ap (drop (size mesh old new rank epoch)) state-after ∙ drop-at (canonical mesh old new rank epoch (heardBy mesh old new rank epoch cs)) rest _ (canonical-long (heardBy mesh old new rank epoch cs))
+    behind-is : drop (size run) (bytesAfter run b cs) ≡ rest
+    behind-is = ap (drop (size run)) state-after ∙ drop-at (canonical run (heardBy run cs)) rest _ (canonical-long (heardBy run cs))
 
     -- the answers to a list
-    pub answers-are : answersOf mesh old new rank epoch (opened mesh old new rank epoch b .1) cs ≡ dueAll mesh old new rank epoch none cs
+    pub answers-are : answersOf run (opened run b .1) cs ≡ dueAll run none cs
     answers-are =
-        ap (λ (a : List ℕ). answersOf mesh old new rank epoch a cs) (open-start b accepted)
-        ∙ answers-all mesh old new rank epoch S steps cs built none (nobody-receive mesh old new rank epoch) rest
+        ap (λ (a : List ℕ). answersOf run a cs) (open-start b long)
+        ∙ answers-all run S steps cs built none (nobody-receive run) rest
 
     -- ---- each item in exactly one accepted message
 
-    module _ (full : allDue mesh old new rank epoch (heardBy mesh old new rank epoch cs) ≡ true) where
-      sender-heard : (p : ℕ) → p < ranks old → sendsTo old new p rank ≡ true → heardBy mesh old new rank epoch cs p ≡ true
+    module _ (full : allDue run (heardBy run cs) ≡ true) where
+      sender-heard : (p : ℕ) → p < ranks (run .old) → sendsTo (run .old) (run .new) p (run .rank) ≡ true → heardBy run cs p ≡ true
       unfolding allDue
       sender-heard p l e =
-          let t = all-at (ranks old) (λ s. cond (getsFrom old new rank s) (heardBy mesh old new rank epoch cs s) true) full p l in
-          rw (gets-sends old new (S .tables) p rank l (S .rank-below) ∙ e) at t
+          let t = all-at (ranks (run .old)) (λ s. cond (getsFrom (run .old) (run .new) (run .rank) s) (heardBy run cs s) true) full p l in
+          rw (gets-sends (run .old) (run .new) (S .tables) p (run .rank) l (S .rank-below) ∙ e) at t
 
       -- a test that of the messages to the rank passes one sender's alone
-      once : (test : List ℕ → Bool) (p : ℕ) → p < ranks old → sendsTo old new p rank ≡ true → test (messageOf mesh old new rank epoch p rank) ≡ true
-          → ((r : ℕ) → Built mesh old new rank epoch r rank → (r ≡ p → ⊥) → test (messageOf mesh old new rank epoch r rank) ≡ false)
-          → countIn test (cameIn mesh old new rank epoch b cs) ≡ 1
+      once : (test : List ℕ → Bool) (p : ℕ) → p < ranks (run .old) → sendsTo (run .old) (run .new) p (run .rank) ≡ true → test (messageOf run p (run .rank)) ≡ true
+          → ((r : ℕ) → Built run r (run .rank) → (r ≡ p → ⊥) → test (messageOf run r (run .rank)) ≡ false)
+          → countIn test (cameIn run b cs) ≡ 1
       unfolding nobody
       once test p l e at only =
-          ap (λ (a : List ℕ). countIn test (acceptedBy mesh old new rank epoch a cs)) (open-start b accepted)
-          ∙ accepted-times mesh old new rank epoch S steps p test at only cs built none (nobody-receive mesh old new rank epoch) rest
+          ap (λ (a : List ℕ). countIn test (acceptedBy run a cs)) (open-start b long)
+          ∙ accepted-times run S steps p test at only cs built none (nobody-receive run) rest
           ∙ rw (sender-heard p l e)
 
-  -- the trees and the ghosts of a message for the rank
-  module _ (p : ℕ) (b : Built mesh old new rank epoch p rank) (k : ℕ) where
-    abbrev m : List ℕ
-    m = meshMessage mesh old new p rank epoch
+  -- ---- what the parts of demand 3 rest on
 
-    is-message : messageOf mesh old new rank epoch p rank ≡ m
-    is-message = message-of mesh old new rank epoch S p rank (b .sender-below) (S .rank-below)
+  module _ (b : List ℕ) (long : size run ≤ length b) (cs : List Call) (built : AllBuilt run cs) where
+    abbrev H : ℕ → Bool
+    H = heardBy run cs
 
-    trees-in : treeIn k (messageOf mesh old new rank epoch p rank) ≡ sends old new p rank k
-    unfolding treeIn among
-    trees-in =
-        let T = S .tables in
-        let c : messageTrees m ≡ sentCount old new p rank = built-trees mesh old new rank epoch S p rank b in
-        let f : ℕ → Bool = λ i. eqb (numberOf (messageTree m i)) k in
-        rw (is-message, c)
-        (iff-eq (anyBelow (sentCount old new p rank) f) (sends old new p rank k)
-        (λ e. let a = any-at (sentCount old new p rank) f e in
-        let q : sentFirst old new p rank + a .0 ≡ k = sym (built-number mesh old new rank epoch S p rank b (a .0) (a .1)) ∙ eqb-true _ _ (a .2) in
-        sent-in old new T p rank (b .sender-below) (S .rank-below) k (omega arith) (omega arith))
-        (λ e. let w = sends-true old new T p rank k e in
-        let l : k < trees old = new-below old new T rank k (S .rank-below) (w .0) in
-        let r : (leb (sentFirst old new p rank) k && ltb k (sentFirst old new p rank + sentCount old new p rank)) ≡ true = sym (one-range old new T p rank (b .sender-below) (S .rank-below) k l) ∙ e in
-        let low = leb-true (sentFirst old new p rank) k (and-fst (leb (sentFirst old new p rank) k) _ r) in
-        let high = ltb-true k (sentFirst old new p rank + sentCount old new p rank) (and-snd (leb (sentFirst old new p rank) k) _ r) in
-        let i : k - sentFirst old new p rank < sentCount old new p rank = omega arith in
-        any-intro (sentCount old new p rank) f (k - sentFirst old new p rank) i
-        (eq-eqb _ _ (built-number mesh old new rank epoch S p rank b (k - sentFirst old new p rank) i ∙ omega arith))))
+    trees-once : allDue run (heardBy run cs) ≡ true → (k : ℕ) → holds (run .new) (run .rank) k ≡ true → countIn (treeIn k) (cameIn run b cs) ≡ 1
+    trees-once full k h =
+        let w = tree-one-message (run .old) (run .new) (S .tables) (run .rank) k (S .rank-below) h in
+        let from : Built run (w .0) (run .rank) = record { sender-below = w .1; receiver-below = S .rank-below; sends-tree = w .3 } in
+        once b long cs built full (treeIn k) (w .0) (w .1) (w .3) (trees-in run S (w .0) (run .rank) from k ∙ w .2)
+        (λ r br ne. trees-in run S r (run .rank) br k ∙ either (sends (run .old) (run .new) r (run .rank) k) (λ e. absurd (ne (w .4 r e))) (λ e. e))
 
-    abbrev goes : Bool
-    goes = ghostGoes (meshCore mesh) old new (λ k. ltb k (meshTrees mesh)) (meshRecord mesh) p rank k
+    ghosts-once : allDue run (heardBy run cs) ≡ true → (k : ℕ) → k < meshTrees (run .mesh) → isGhost (meshCore (run .mesh)) (run .new) (run .rank) k ≡ true → countIn (ghostWith k) (cameIn run b cs) ≡ 1
+    ghosts-once full k l h =
+        let w = ghost-one-message (run .mesh) (run .old) (run .new) (S .tables) (run .rank) k (S .rank-below) l h in
+        let from : Built run (w .0) (run .rank) = record { sender-below = w .1; receiver-below = S .rank-below; sends-tree = w .3 } in
+        let t : k < trees (run .old) = rw (S .same-trees) at l in
+        once b long cs built full (ghostWith k) (w .0) (w .1) (w .3) (goes-in run S (w .0) (run .rank) from k t ∙ w .2)
+        (λ r br ne. goes-in run S r (run .rank) br k t ∙ either (ghostGoes (meshCore (run .mesh)) (run .old) (run .new) (λ k. ltb k (meshTrees (run .mesh))) (meshRecord (run .mesh)) r (run .rank) k) (λ e. absurd (ne (w .4 r e))) (λ e. e))
 
-    ghosts-in : k < trees old → ghostWith k (messageOf mesh old new rank epoch p rank) ≡ goes
-    unfolding ghostWith
-    ghosts-in h =
-        rw is-message
-        (among-kept (trees old) (ghostGoes (meshCore mesh) old new (λ k. ltb k (meshTrees mesh)) (meshRecord mesh) p rank) (meshCore mesh) (messageGhosts m) (messageGhost m) (built-kept mesh old new rank epoch S p rank b) k h)
+    -- a close after the list
+    close-is : (out : List ℕ) → closeAfter run b cs out ≡ writeAnswer (cond (allDue run H) (cond (leb (length (newPart run)) (length out)) 0 22) 20) (newPart run) out
+    close-is out =
+        ap (λ (a : List ℕ). closeOf a out) (state-after b long cs built)
+        ∙ close-step run S H (drop (size run) b) (receive-all cs built nobody (nobody-receive run)) out
 
-  -- Demand 3. Take any sound whole mesh, two valid tables that agree in P and in the mesh's K, a rank of theirs and an epoch; two buffers of any content and length that the open call accepted for the mesh's dimension; and any two lists of deliver and close calls, in any order and with repeats, where each delivery is the message that an old rank built from its part of the mesh, for this rank or another. Then the areas after the lists are equal in every byte exactly when the same senders are heard by the lists; the bytes behind the area stay; the first delivery of each message meant for the rank is accepted, a repeated one gets 15, one for another rank 13; a close gets 20 until the receive set is heard, then 22 if its buffer is shorter than the part, and else its buffer begins with the part that cutting the mesh by the new table gives, and its answer is that length; and once all are heard, each tree and each ghost of that part came in exactly one accepted message.
-  pub demand-3 : (b c : List ℕ) → opened mesh old new rank epoch b .0 .refusal ≡ 0 → opened mesh old new rank epoch c .0 .refusal ≡ 0
-      → (cs ds : List Call) → AllBuilt mesh old new rank epoch cs → AllBuilt mesh old new rank epoch ds → Demand3 mesh old new rank epoch b c cs ds
-  demand-3 b c ab ac cs ds bc bd =
-      let Hc : ℕ → Bool = heardBy mesh old new rank epoch cs in
-      let Hd : ℕ → Bool = heardBy mesh old new rank epoch ds in
-      let rc : InReceive old new rank Hc = receive-all cs bc (nobody mesh old new rank epoch) (nobody-receive mesh old new rank epoch) in
-      let rd : InReceive old new rank Hd = receive-all ds bd (nobody mesh old new rank epoch) (nobody-receive mesh old new rank epoch) in
-      record {
-        same-area = λ e. area-is b ab cs bc ∙ canonical-agree mesh old new rank epoch Hc Hd e ∙ sym (area-is c ac ds bd);
-        same-heard = λ e s.
-            either (ltb s (ranks old))
-            (λ l. canonical-apart mesh old new rank epoch S Hc Hd (sym (area-is b ab cs bc) ∙ e ∙ area-is c ac ds bd) s (ltb-true s (ranks old) l))
-            (λ l. unheard Hc rc s l ∙ sym (unheard Hd rd s l));
-        behind = behind-is b ab cs bc;
-        answers = answers-are b ab cs bc;
-        tree-once = λ full k h.
-            let w = tree-one-message old new (S .tables) rank k (S .rank-below) h in
-            let built : Built mesh old new rank epoch (w .0) rank = record { sender-below = w .1; receiver-below = S .rank-below; sends-tree = w .3 } in
-            once b ab cs bc full (treeIn k) (w .0) (w .1) (w .3) (trees-in (w .0) built k ∙ w .2)
-            (λ r br ne. trees-in r br k ∙ either (sends old new r rank k) (λ e. absurd (ne (w .4 r e))) (λ e. e));
-        ghost-once = λ full k l h.
-            let w = ghost-one-message mesh old new (S .tables) rank k (S .rank-below) l h in
-            let built : Built mesh old new rank epoch (w .0) rank = record { sender-below = w .1; receiver-below = S .rank-below; sends-tree = w .3 } in
-            let t : k < trees old = rw (S .same-trees) at l in
-            once b ab cs bc full (ghostWith k) (w .0) (w .1) (w .3) (ghosts-in (w .0) built k t ∙ w .2)
-            (λ r br ne. ghosts-in r br k t ∙ either (goes r br k) (λ e. absurd (ne (w .4 r e))) (λ e. e));
-      }
+    -- one that is accepted: all are heard, and the buffer begins with the part
+    accepted-close : (out : List ℕ) → closeAfter run b cs out .0 .refusal ≡ 0
+        → (allDue run (heardBy run cs) ≡ true) × (closeAfter run b cs out .1 ≡ newPart run ++ drop (length (newPart run)) out)
+    unfolding writeAnswer lengthAnswer written splice
+    accepted-close out e =
+        either (allDue run H)
+        (λ t. either (leb (length (newPart run)) (length out))
+        (λ u. (t, ap (λ (x : Length × List ℕ). x .1) (close-is out) ∙ rw (t, u) (ap (λ (m : ℕ). newPart run ++ drop m out) (zero-add (length (newPart run))))))
+        (λ u. absurd (no-zero 21 (sym (ap (λ (x : Length × List ℕ). x .0 .refusal) (close-is out) ∙ rw (t, u)) ∙ e))))
+        (λ t. absurd (no-zero 19 (sym (ap (λ (x : Length × List ℕ). x .0 .refusal) (close-is out) ∙ rw t) ∙ e)))
+      where
+        no-zero : (n : ℕ) → suc n ≡ 0 → ⊥
+        no-zero n e = omega arith
+
+    abbrev T : Tables (run .old) (run .new)
+    T = S .tables
+
+    tree-records : (out : List ℕ) → closeAfter run b cs out .0 .refusal ≡ 0 → (i : ℕ) → i < partCount (closeAfter run b cs out .1)
+        → countIn (treeIn (numberOf (storedTree (closeAfter run b cs out .1) i))) (cameIn run b cs) ≡ 1
+    tree-records out e i h =
+        let ok = new-cuttable run S in
+        let c = accepted-close out e in
+        let rest : List ℕ = drop (length (newPart run)) out in
+        let l : i < treeCount (run .new) (run .rank) = rw (c .1, front-count (run .mesh) (run .new) (run .rank) ok (S .mesh-bytes) (T .newBytes) rest) at h in
+        rw (c .1, front-tree (run .mesh) (run .new) (run .rank) ok (S .mesh-bytes) (T .newBytes) rest i l)
+        (trees-once (c .0) (firstTree (run .new) (run .rank) + i) (range-local (run .mesh) (run .new) (run .rank) ok (S .mesh-bytes) (T .newBytes) i l))
+
+    ghost-records : (out : List ℕ) → closeAfter run b cs out .0 .refusal ≡ 0 → (j : ℕ) → j < partGhostCount (closeAfter run b cs out .1)
+        → countIn (ghostWith (numberOf (storedGhost (closeAfter run b cs out .1) j))) (cameIn run b cs) ≡ 1
+    ghost-records out e j h =
+        let ok = new-cuttable run S in
+        let c = accepted-close out e in
+        let rest : List ℕ = drop (length (newPart run)) out in
+        let l : j < ghostCount (run .mesh) (run .new) (run .rank) = rw (c .1, front-ghosts (run .mesh) (run .new) (run .rank) ok (S .mesh-bytes) (T .newBytes) rest) at h in
+        let g = front-ghost (run .mesh) (run .new) (run .rank) ok (S .mesh-bytes) (T .newBytes) rest j l in
+        rw (c .1) (ghosts-once (c .0) (numberOf (storedGhost (newPart run ++ rest) j)) (g .0) (g .1))
+
+-- the theorem of demand 3
+pub demand-3 : Demand3
+demand-3 run S b c long-b long-c cs ds built-c built-d =
+    let Hc : ℕ → Bool = heardBy run cs in
+    let Hd : ℕ → Bool = heardBy run ds in
+    let rc : InReceive run Hc = receive-all run S cs built-c nobody (nobody-receive run) in
+    let rd : InReceive run Hd = receive-all run S ds built-d nobody (nobody-receive run) in
+    let ac = area-is run S b long-b cs built-c in
+    let ad = area-is run S c long-c ds built-d in
+    record {
+      opens = open-accepts run S b long-b;
+      same-area = λ e. ac ∙ canonical-agree run Hc Hd e ∙ sym ad;
+      same-heard = λ e s.
+          either (ltb s (ranks (run .old)))
+          (λ l. canonical-apart run S Hc Hd (sym ac ∙ e ∙ ad) s (ltb-true s (ranks (run .old)) l))
+          (λ l. unheard run S Hc rc s l ∙ sym (unheard run S Hd rd s l));
+      behind = behind-is run S b long-b cs built-c;
+      answers = answers-are run S b long-b cs built-c;
+      tree-once = trees-once run S b long-b cs built-c;
+      ghost-once = ghosts-once run S b long-b cs built-c;
+      tree-record-once = tree-records run S b long-b cs built-c;
+      ghost-record-once = ghost-records run S b long-b cs built-c;
+    }

@@ -23,16 +23,18 @@ use Rattle.pattern.proofs.Counting.{count-imp}
 use Rattle.mesh.specs.Mesh.{meshHeader, meshDimension, meshTrees, meshCore, meshRecord}
 use Rattle.mesh.proofs.Soundness.{header-parts, sound-header, sound-fits, sound-core, sound-form, sound-number}
 use Rattle.part.specs.Ghosts.{isGhost}
-use Rattle.assembly.specs.Layout.{heardWords, ghostBound}
-use Rattle.assembly.specs.Area.{areaGhosts, heard, ghostSlot, areaSound}
-use Rattle.assembly.specs.Open.{freshArea}
-use Rattle.assembly.specs.Deliver.{among, oneOf}
-use Rattle.assembly_laws.proofs.Joined.{piece-first, piece-last}
-use Rattle.assembly_laws.proofs.Zones.{Zones, Reads, words-enough, few-ranks, range-end, area-reads, area-same}
-use Rattle.assembly_laws.proofs.Kept.{ghostAt}
-use Rattle.assembly_laws.proofs.Sound.{Held, zeros-zero, area-sound}
-use Rattle.repartition.specs.Canonical.{slotHeard, ghostHeard, ghostsHeard, canonical}
-use Rattle.repartition.specs.Lists.{Setting, nobody}
+use Rattle.area.specs.Layout.{heardWords, ghostBound}
+use Rattle.area.specs.Area.{areaGhosts, heard, ghostSlot, areaSound}
+use Rattle.area.specs.Open.{freshArea}
+use Rattle.area.specs.Deliver.{among, oneOf}
+use Rattle.area_theorems.proofs.Joined.{piece-first, piece-last}
+use Rattle.area_theorems.proofs.Zones.{Zones, Reads, few-ranks, range-end, area-reads, area-same}
+use Rattle.area.proofs.Headers.{words-enough}
+use Rattle.area_theorems.proofs.Kept.{ghostAt}
+use Rattle.area_theorems.proofs.Sound.{Held, zeros-zero, area-sound}
+use Rattle.repartition.proofs.Canonical.{slotHeard, ghostHeard, ghostsHeard, canonical}
+use Rattle.repartition.specs.Run.{Run, Setting}
+use Rattle.repartition.specs.Lists.{nobody}
 use Rattle.repartition.proofs.Receive.{InReceive}
 use Rattle.repartition.proofs.Counting.{ghosts-fit}
 
@@ -73,46 +75,46 @@ module _ (K : ℕ) (f : ℕ → Bool) (core : ℕ → List ℕ) (count : ℕ) (r
 
 -- ---- the canonical area
 
-module _ (mesh old new : List ℕ) (rank epoch : ℕ) where
+module _ (run : Run) where
   -- the core of a tree's record
-  pub record-core : (k : ℕ) → piece (meshRecord mesh k) 0 coreSize ≡ meshCore mesh k
+  pub record-core : (k : ℕ) → piece (meshRecord (run .mesh) k) 0 coreSize ≡ meshCore (run .mesh) k
   unfolding meshRecord meshCore
-  record-core k = piece-piece mesh (meshHeader + treeSize * k) treeSize 0 coreSize (omega arith) ∙ ap (λ (at : ℕ). piece mesh at coreSize) (add-zero (meshHeader + treeSize * k))
+  record-core k = piece-piece (run .mesh) (meshHeader + treeSize * k) treeSize 0 coreSize (omega arith) ∙ ap (λ (at : ℕ). piece (run .mesh) at coreSize) (add-zero (meshHeader + treeSize * k))
 
-  module _ (S : Setting mesh old new rank epoch) (H : ℕ → Bool) where
+  module _ (S : Setting run) (H : ℕ → Bool) where
     abbrev K : ℕ
-    K = meshTrees mesh
+    K = meshTrees (run .mesh)
 
-    abbrev T : Tables old new
+    abbrev T : Tables (run .old) (run .new)
     T = S .tables
 
     abbrev slot : ℕ → List ℕ
-    slot = slotHeard mesh old new rank epoch H
+    slot = slotHeard run H
 
     abbrev test : ℕ → Bool
-    test = ghostHeard mesh old new rank epoch H
+    test = ghostHeard run H
 
     abbrev ghosts : ℕ → List ℕ
-    ghosts = ghostsHeard mesh old new rank epoch H
+    ghosts = ghostsHeard run H
 
     -- the trees of the rank are trees of the mesh
-    pub own-tree : (i : ℕ) → i < treeCount new rank → firstTree new rank + i < meshTrees mesh
-    own-tree i h = omega (arith, range-end old new rank T (S .rank-below), S .same-trees)
+    pub own-tree : (i : ℕ) → i < treeCount (run .new) (run .rank) → firstTree (run .new) (run .rank) + i < meshTrees (run .mesh)
+    own-tree i h = omega (arith, range-end (run .old) (run .new) (run .rank) T (S .rank-below), S .same-trees)
 
     -- a tree's record has 64 bytes
-    pub record-long : (k : ℕ) → k < meshTrees mesh → length (meshRecord mesh k) ≡ treeSize
+    pub record-long : (k : ℕ) → k < meshTrees (run .mesh) → length (meshRecord (run .mesh) k) ≡ treeSize
     unfolding meshRecord
-    record-long k h = piece-length mesh (meshHeader + treeSize * k) treeSize (sound-fits mesh (S .mesh-sound) k h)
+    record-long k h = piece-length (run .mesh) (meshHeader + treeSize * k) treeSize (sound-fits (run .mesh) (S .mesh-sound) k h)
 
-    slot-long : (i : ℕ) → i < treeCount new rank → length (slot i) ≡ treeSize
+    slot-long : (i : ℕ) → i < treeCount (run .new) (run .rank) → length (slot i) ≡ treeSize
     unfolding slotHeard
     slot-long i h =
-        either (H (sender old (firstTree new rank + i) rank))
-        (λ t. rw t (record-long (firstTree new rank + i) (own-tree i h)))
+        either (H (sender (run .old) (firstTree (run .new) (run .rank) + i) (run .rank)))
+        (λ t. rw t (record-long (firstTree (run .new) (run .rank) + i) (own-tree i h)))
         (λ t. rw t (length-replicate {A = ℕ} treeSize 0))
 
-    core-long : (k : ℕ) → k < K → length (meshCore mesh k) ≡ coreSize
-    core-long k h = sound-core mesh (S .mesh-sound) k h
+    core-long : (k : ℕ) → k < K → length (meshCore (run .mesh) k) ≡ coreSize
+    core-long k h = sound-core (run .mesh) (S .mesh-sound) k h
 
     -- the ghosts heard below k, of 40 bytes each
     ghosts-length : (k : ℕ) → k ≤ K → length (ghosts k) ≡ coreSize * countBelow k test
@@ -124,7 +126,7 @@ module _ (mesh old new : List ℕ) (rank epoch : ℕ) where
         (λ t. rw (length-append, ghosts-length k (omega arith), t) (omega arith))
 
     -- ghost j is the core of the one with j before it
-    ghosts-at : (k : ℕ) → k ≤ K → (j : ℕ) → j < countBelow k test → piece (ghosts k) (coreSize * j) coreSize ≡ meshCore mesh (getD (keptBelow k test) j 0)
+    ghosts-at : (k : ℕ) → k ≤ K → (j : ℕ) → j < countBelow k test → piece (ghosts k) (coreSize * j) coreSize ≡ meshCore (run .mesh) (getD (keptBelow k test) j 0)
     unfolding ghostsHeard countBelow keptBelow
     ghosts-at zero h j l = absurd (omega arith)
     ghosts-at (suc k) h j l =
@@ -136,30 +138,30 @@ module _ (mesh old new : List ℕ) (rank epoch : ℕ) where
         (λ t. let l' : j < n + 1 = rw t at l in
         rw t
         (below-suc j n (omega arith)
-        (λ a. piece-first G (meshCore mesh k) (coreSize * j) coreSize (omega arith) ∙ ghosts-at k (omega arith) j a
-        ∙ ap (meshCore mesh) (sym (List·getD-append (keptBelow k test) (k ∷ []) 0 j (omega arith))))
-        (λ e. piece-last G (meshCore mesh k) (coreSize * j) coreSize (rw e lG) (core-long k (omega arith))
-        ∙ ap (meshCore mesh) (sym (getD-at (keptBelow k test) k [] 0 j (omega arith))))))
+        (λ a. piece-first G (meshCore (run .mesh) k) (coreSize * j) coreSize (omega arith) ∙ ghosts-at k (omega arith) j a
+        ∙ ap (meshCore (run .mesh)) (sym (List·getD-append (keptBelow k test) (k ∷ []) 0 j (omega arith))))
+        (λ e. piece-last G (meshCore (run .mesh) k) (coreSize * j) coreSize (rw e lG) (core-long k (omega arith))
+        ∙ ap (meshCore (run .mesh)) (sym (getD-at (keptBelow k test) k [] 0 j (omega arith))))))
         (λ t. let l' : j < n = omega (arith, rw t at l) in
         rw (t, append-nil G, append-nil (keptBelow k test)) (ghosts-at k (omega arith) j l'))
 
     -- a ghost heard is a ghost of the rank
-    pub heard-ghost : (k : ℕ) → ghostHeard mesh old new rank epoch H k ≡ true → isGhost (meshCore mesh) new rank k ≡ true
+    pub heard-ghost : (k : ℕ) → ghostHeard run H k ≡ true → isGhost (meshCore (run .mesh)) (run .new) (run .rank) k ≡ true
     unfolding ghostHeard
-    heard-ghost k e = and-fst (isGhost (meshCore mesh) new rank k) _ e
+    heard-ghost k e = and-fst (isGhost (meshCore (run .mesh)) (run .new) (run .rank) k) _ e
 
     -- so there are slots for them
-    pub heard-fit : countBelow (meshTrees mesh) (ghostHeard mesh old new rank epoch H) ≤ ghostBound (facesIn (meshDimension mesh)) (treeCount new rank)
-    heard-fit = omega (arith, count-imp K test (isGhost (meshCore mesh) new rank) (λ k h. heard-ghost k), ghosts-fit mesh old new rank epoch S)
+    pub heard-fit : countBelow (meshTrees (run .mesh)) (ghostHeard run H) ≤ ghostBound (facesIn (meshDimension (run .mesh))) (treeCount (run .new) (run .rank))
+    heard-fit = omega (arith, count-imp K test (isGhost (meshCore (run .mesh)) (run .new) (run .rank)) (λ k h. heard-ghost k), ghosts-fit run S)
 
     -- the zones of the canonical area
-    pub canonical-zones : Zones epoch (meshDimension mesh) old new rank (slotHeard mesh old new rank epoch H)
-        (countBelow (meshTrees mesh) (ghostHeard mesh old new rank epoch H)) (ghostsHeard mesh old new rank epoch H (meshTrees mesh))
+    pub canonical-zones : Zones (run .epoch) (meshDimension (run .mesh)) (run .old) (run .new) (run .rank) (slotHeard run H)
+        (countBelow (meshTrees (run .mesh)) (ghostHeard run H)) (ghostsHeard run H (meshTrees (run .mesh)))
     canonical-zones =
         record {
           tables = T;
           is-rank = S .rank-below;
-          is-dimension = header-parts mesh (sound-header mesh (S .mesh-sound)) .0;
+          is-dimension = header-parts (run .mesh) (sound-header (run .mesh) (S .mesh-sound)) .0;
           small-epoch = S .epoch-word;
           slots-long = slot-long;
           ghosts-long = ghosts-length K (le-refl K);
@@ -167,46 +169,46 @@ module _ (mesh old new : List ℕ) (rank epoch : ℕ) where
         }
 
     -- what is read from it, whatever stands behind it
-    pub canonical-reads : (tail : List ℕ) → Reads (canonical mesh old new rank epoch H ++ tail) epoch (meshDimension mesh) old new rank H (slotHeard mesh old new rank epoch H)
-        (countBelow (meshTrees mesh) (ghostHeard mesh old new rank epoch H)) (ghostsHeard mesh old new rank epoch H (meshTrees mesh)) tail
+    pub canonical-reads : (tail : List ℕ) → Reads (canonical run H ++ tail) (run .epoch) (meshDimension (run .mesh)) (run .old) (run .new) (run .rank) H (slotHeard run H)
+        (countBelow (meshTrees (run .mesh)) (ghostHeard run H)) (ghostsHeard run H (meshTrees (run .mesh))) tail
     unfolding canonical
-    canonical-reads tail = area-reads epoch (meshDimension mesh) old new rank H slot (countBelow K test) (ghosts K) tail canonical-zones
+    canonical-reads tail = area-reads (run .epoch) (meshDimension (run .mesh)) (run .old) (run .new) (run .rank) H slot (countBelow K test) (ghosts K) tail canonical-zones
 
     -- a rank has a bit
-    pub rank-bit : (s : ℕ) → s < ranks old → s < 64 * heardWords (ranks old)
-    rank-bit s h = omega (arith, words-enough (ranks old) (few-ranks old new T))
+    pub rank-bit : (s : ℕ) → s < ranks (run .old) → s < 64 * heardWords (ranks (run .old))
+    rank-bit s h = omega (arith, words-enough (ranks (run .old)) (few-ranks (run .old) (run .new) T))
 
     -- its ghost slots hold the ghosts heard
-    pub heard-kept : (tail : List ℕ) → Kept (meshTrees mesh) (ghostHeard mesh old new rank epoch H) (meshCore mesh)
-        (areaGhosts (canonical mesh old new rank epoch H ++ tail)) (ghostSlot (canonical mesh old new rank epoch H ++ tail))
+    pub heard-kept : (tail : List ℕ) → Kept (meshTrees (run .mesh)) (ghostHeard run H) (meshCore (run .mesh))
+        (areaGhosts (canonical run H ++ tail)) (ghostSlot (canonical run H ++ tail))
     heard-kept tail =
         record {
           many = canonical-reads tail .at-ghosts;
           at-place = λ j h. canonical-reads tail .at-ghost j h ∙ ghosts-at K (le-refl K) j h;
-          number = sound-number mesh (S .mesh-sound);
+          number = sound-number (run .mesh) (S .mesh-sound);
         }
 
     -- k is among them where it is a ghost heard
-    pub among-heard : (tail : List ℕ) (k : ℕ) → k < meshTrees mesh
-        → among (areaGhosts (canonical mesh old new rank epoch H ++ tail)) (ghostSlot (canonical mesh old new rank epoch H ++ tail)) k ≡ ghostHeard mesh old new rank epoch H k
+    pub among-heard : (tail : List ℕ) (k : ℕ) → k < meshTrees (run .mesh)
+        → among (areaGhosts (canonical run H ++ tail)) (ghostSlot (canonical run H ++ tail)) k ≡ ghostHeard run H k
     among-heard tail k h =
-        let a : List ℕ = canonical mesh old new rank epoch H ++ tail in
-        among-kept K test (meshCore mesh) (areaGhosts a) (ghostSlot a) (heard-kept tail) k h
+        let a : List ℕ = canonical run H ++ tail in
+        among-kept K test (meshCore (run .mesh)) (areaGhosts a) (ghostSlot a) (heard-kept tail) k h
 
     -- and then with its core
-    pub one-heard : (tail : List ℕ) (k : ℕ) → k < meshTrees mesh → ghostHeard mesh old new rank epoch H k ≡ true
-        → oneOf (areaGhosts (canonical mesh old new rank epoch H ++ tail)) (ghostSlot (canonical mesh old new rank epoch H ++ tail)) k ≡ meshCore mesh k
+    pub one-heard : (tail : List ℕ) (k : ℕ) → k < meshTrees (run .mesh) → ghostHeard run H k ≡ true
+        → oneOf (areaGhosts (canonical run H ++ tail)) (ghostSlot (canonical run H ++ tail)) k ≡ meshCore (run .mesh) k
     one-heard tail k h e =
-        let a : List ℕ = canonical mesh old new rank epoch H ++ tail in
-        one-kept K test (meshCore mesh) (areaGhosts a) (ghostSlot a) (heard-kept tail) k h e
+        let a : List ℕ = canonical run H ++ tail in
+        one-kept K test (meshCore (run .mesh)) (areaGhosts a) (ghostSlot a) (heard-kept tail) k h e
 
     -- ---- it is sound
 
-    slot-core : (i : ℕ) → H (sender old (firstTree new rank + i) rank) ≡ true → piece (slot i) 0 coreSize ≡ meshCore mesh (firstTree new rank + i)
+    slot-core : (i : ℕ) → H (sender (run .old) (firstTree (run .new) (run .rank) + i) (run .rank)) ≡ true → piece (slot i) 0 coreSize ≡ meshCore (run .mesh) (firstTree (run .new) (run .rank) + i)
     unfolding slotHeard
-    slot-core i t = rw t (record-core (firstTree new rank + i))
+    slot-core i t = rw t (record-core (firstTree (run .new) (run .rank) + i))
 
-    slot-zero : (i : ℕ) → H (sender old (firstTree new rank + i) rank) ≡ false → allZero (slot i) ≡ true
+    slot-zero : (i : ℕ) → H (sender (run .old) (firstTree (run .new) (run .rank) + i) (run .rank)) ≡ false → allZero (slot i) ≡ true
     unfolding slotHeard
     slot-zero i t = rw t (zeros-zero treeSize)
 
@@ -214,22 +216,22 @@ module _ (mesh old new : List ℕ) (rank epoch : ℕ) where
     at j = getD (keptBelow K test) j 0
 
     ghost-number : (j : ℕ) → j < countBelow K test → numberOf (ghostAt (ghosts K) j) ≡ at j
-    ghost-number j h = ap numberOf (ghosts-at K (le-refl K) j h) ∙ sound-number mesh (S .mesh-sound) (at j) (kept-found K test j 0 h .0)
+    ghost-number j h = ap numberOf (ghosts-at K (le-refl K) j h) ∙ sound-number (run .mesh) (S .mesh-sound) (at j) (kept-found K test j 0 h .0)
 
     ghost-in-form : (j : ℕ) → j < countBelow K test → inForm (numberOf (ghostAt (ghosts K) j)) (ghostAt (ghosts K) j) ≡ true
-    ghost-in-form j h = rw (ghost-number j h, ghosts-at K (le-refl K) j h) (sound-form mesh (S .mesh-sound) (at j) (kept-found K test j 0 h .0))
+    ghost-in-form j h = rw (ghost-number j h, ghosts-at K (le-refl K) j h) (sound-form (run .mesh) (S .mesh-sound) (at j) (kept-found K test j 0 h .0))
 
-    ghost-out : (k : ℕ) → test k ≡ true → holds new rank k ≡ false
+    ghost-out : (k : ℕ) → test k ≡ true → holds (run .new) (run .rank) k ≡ false
     unfolding isGhost
-    ghost-out k e = not-true (holds new rank k) (and-fst (not (holds new rank k)) _ (heard-ghost k e))
+    ghost-out k e = not-true (holds (run .new) (run .rank) k) (and-fst (not (holds (run .new) (run .rank) k)) _ (heard-ghost k e))
 
-    canonical-held : InReceive old new rank H → Held old new rank H slot (countBelow K test) (ghosts K)
+    canonical-held : InReceive run H → Held (run .old) (run .new) (run .rank) H slot (countBelow K test) (ghosts K)
     canonical-held r =
         record {
           bit-rank = λ s h t. r .below s t;
           bit-due = λ s h t. r .due s t;
-          tree-form = λ i h t. rw (slot-core i t) (sound-form mesh (S .mesh-sound) (firstTree new rank + i) (own-tree i h));
-          tree-number = λ i h t. rw (slot-core i t) (sound-number mesh (S .mesh-sound) (firstTree new rank + i) (own-tree i h));
+          tree-form = λ i h t. rw (slot-core i t) (sound-form (run .mesh) (S .mesh-sound) (firstTree (run .new) (run .rank) + i) (own-tree i h));
+          tree-number = λ i h t. rw (slot-core i t) (sound-number (run .mesh) (S .mesh-sound) (firstTree (run .new) (run .rank) + i) (own-tree i h));
           tree-zero = λ i h t. slot-zero i t;
           ghosts-held =
               record {
@@ -242,59 +244,59 @@ module _ (mesh old new : List ℕ) (rank epoch : ℕ) where
         }
 
     -- where only ranks of the receive set are heard, the area is sound
-    pub canonical-sound : (tail : List ℕ) → InReceive old new rank H → areaSound (canonical mesh old new rank epoch H ++ tail) ≡ true
+    pub canonical-sound : (tail : List ℕ) → InReceive run H → areaSound (canonical run H ++ tail) ≡ true
     unfolding canonical
-    canonical-sound tail r = area-sound epoch (meshDimension mesh) old new rank H slot (countBelow K test) (ghosts K) tail canonical-zones (canonical-held r)
+    canonical-sound tail r = area-sound (run .epoch) (meshDimension (run .mesh)) (run .old) (run .new) (run .rank) H slot (countBelow K test) (ghosts K) tail canonical-zones (canonical-held r)
 
   -- ---- what it depends on
 
   -- two heard sets of ranks of the receive set that agree below P are equal
-  heard-agree : (H₁ H₂ : ℕ → Bool) → InReceive old new rank H₁ → InReceive old new rank H₂ → ((s : ℕ) → s < ranks old → H₁ s ≡ H₂ s) → (s : ℕ) → H₁ s ≡ H₂ s
+  heard-agree : (H₁ H₂ : ℕ → Bool) → InReceive run H₁ → InReceive run H₂ → ((s : ℕ) → s < ranks (run .old) → H₁ s ≡ H₂ s) → (s : ℕ) → H₁ s ≡ H₂ s
   heard-agree H₁ H₂ r₁ r₂ e s =
       iff-eq (H₁ s) (H₂ s) (λ t. sym (e s (r₁ .below s t)) ∙ t) (λ t. e s (r₂ .below s t) ∙ t)
 
   -- equal heard sets give equal areas
-  pub canonical-agree : (H₁ H₂ : ℕ → Bool) → ((s : ℕ) → H₁ s ≡ H₂ s) → canonical mesh old new rank epoch H₁ ≡ canonical mesh old new rank epoch H₂
-  canonical-agree H₁ H₂ e = ap (canonical mesh old new rank epoch) (fun-ext e)
+  pub canonical-agree : (H₁ H₂ : ℕ → Bool) → ((s : ℕ) → H₁ s ≡ H₂ s) → canonical run H₁ ≡ canonical run H₂
+  canonical-agree H₁ H₂ e = ap (canonical run) (fun-ext e)
 
   -- the area depends on the ranks below P
-  pub canonical-same : (H₁ H₂ : ℕ → Bool) → InReceive old new rank H₁ → InReceive old new rank H₂ → ((s : ℕ) → s < ranks old → H₁ s ≡ H₂ s)
-      → canonical mesh old new rank epoch H₁ ≡ canonical mesh old new rank epoch H₂
+  pub canonical-same : (H₁ H₂ : ℕ → Bool) → InReceive run H₁ → InReceive run H₂ → ((s : ℕ) → s < ranks (run .old) → H₁ s ≡ H₂ s)
+      → canonical run H₁ ≡ canonical run H₂
   canonical-same H₁ H₂ r₁ r₂ e = canonical-agree H₁ H₂ (heard-agree H₁ H₂ r₁ r₂ e)
 
   -- equal areas have heard the same ranks, whatever stands behind them
-  pub canonical-apart-behind : Setting mesh old new rank epoch → (H₁ H₂ : ℕ → Bool) (tail₁ tail₂ : List ℕ)
-      → canonical mesh old new rank epoch H₁ ++ tail₁ ≡ canonical mesh old new rank epoch H₂ ++ tail₂ → (s : ℕ) → s < ranks old → H₁ s ≡ H₂ s
+  pub canonical-apart-behind : Setting run → (H₁ H₂ : ℕ → Bool) (tail₁ tail₂ : List ℕ)
+      → canonical run H₁ ++ tail₁ ≡ canonical run H₂ ++ tail₂ → (s : ℕ) → s < ranks (run .old) → H₁ s ≡ H₂ s
   canonical-apart-behind S H₁ H₂ tail₁ tail₂ e s h =
       sym (canonical-reads S H₁ tail₁ .at-heard s (rank-bit S H₁ s h)) ∙ ap (λ (a : List ℕ). heard a s) e ∙ canonical-reads S H₂ tail₂ .at-heard s (rank-bit S H₂ s h)
 
-  pub canonical-apart : Setting mesh old new rank epoch → (H₁ H₂ : ℕ → Bool) → canonical mesh old new rank epoch H₁ ≡ canonical mesh old new rank epoch H₂
-      → (s : ℕ) → s < ranks old → H₁ s ≡ H₂ s
+  pub canonical-apart : Setting run → (H₁ H₂ : ℕ → Bool) → canonical run H₁ ≡ canonical run H₂
+      → (s : ℕ) → s < ranks (run .old) → H₁ s ≡ H₂ s
   canonical-apart S H₁ H₂ e = canonical-apart-behind S H₁ H₂ [] [] (ap (λ (a : List ℕ). a ++ []) e)
 
   -- ---- the fresh area
 
-  nobody-none : (s : ℕ) → false ≡ nobody mesh old new rank epoch s
+  nobody-none : (s : ℕ) → false ≡ nobody s
   unfolding nobody
   nobody-none s = refl
 
-  nobody-ghost : (k : ℕ) → ghostHeard mesh old new rank epoch (nobody mesh old new rank epoch) k ≡ false
+  nobody-ghost : (k : ℕ) → ghostHeard run (nobody) k ≡ false
   unfolding ghostHeard nobody
-  nobody-ghost k = and-false (isGhost (meshCore mesh) new rank k)
+  nobody-ghost k = and-false (isGhost (meshCore (run .mesh)) (run .new) (run .rank) k)
 
-  nobody-ghosts : (k : ℕ) → ghostsHeard mesh old new rank epoch (nobody mesh old new rank epoch) k ≡ []
+  nobody-ghosts : (k : ℕ) → ghostsHeard run (nobody) k ≡ []
   unfolding ghostsHeard
   nobody-ghosts zero = refl
   nobody-ghosts (suc k) = rw (nobody-ghosts k, nobody-ghost k)
 
-  nobody-slot : (i : ℕ) → slotHeard mesh old new rank epoch (nobody mesh old new rank epoch) i ≡ replicate treeSize 0
+  nobody-slot : (i : ℕ) → slotHeard run (nobody) i ≡ replicate treeSize 0
   unfolding slotHeard nobody
   nobody-slot i = refl
 
   -- in the fresh area nobody is heard
-  pub fresh-canonical : freshArea old new rank (meshDimension mesh) epoch ≡ canonical mesh old new rank epoch (nobody mesh old new rank epoch)
+  pub fresh-canonical : freshArea (run .old) (run .new) (run .rank) (meshDimension (run .mesh)) (run .epoch) ≡ canonical run (nobody)
   unfolding freshArea canonical
   fresh-canonical =
-      rw (nobody-ghosts (meshTrees mesh), count-none (meshTrees mesh) (ghostHeard mesh old new rank epoch (nobody mesh old new rank epoch)) (λ k h. nobody-ghost k))
-      (area-same epoch (meshDimension mesh) old new rank (λ s. false) (nobody mesh old new rank epoch) (λ i. replicate treeSize 0) (slotHeard mesh old new rank epoch (nobody mesh old new rank epoch)) 0 []
+      rw (nobody-ghosts (meshTrees (run .mesh)), count-none (meshTrees (run .mesh)) (ghostHeard run (nobody)) (λ k h. nobody-ghost k))
+      (area-same (run .epoch) (meshDimension (run .mesh)) (run .old) (run .new) (run .rank) (λ s. false) (nobody) (λ i. replicate treeSize 0) (slotHeard run (nobody)) 0 []
       (λ s h. nobody-none s) (λ i h. sym (nobody-slot i)))

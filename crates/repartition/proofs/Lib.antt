@@ -1,4 +1,5 @@
 -- Laws and theorems.
+pub mod Canonical
 pub mod Receive
 pub mod Sequences
 pub mod Counting
@@ -6,6 +7,11 @@ pub mod Heard
 pub mod Delivering
 pub mod Building
 pub mod PartMessages
+pub mod RuleMessages
 pub mod Closing
+pub mod Records
 pub mod Demand
+pub mod AfterList
 pub mod Examples
+pub mod Promises
+pub mod Refusals

@@ -1,4 +1,8 @@
--- Demand 3: lists of deliver and close calls on an area.
-pub mod Canonical
+-- The promises over all layers: demand 3 in one piece, demand 2 sentence by sentence, and document 01's examples.
+pub mod Run
 pub mod Lists
 pub mod Demand
+pub mod AfterList
+pub mod Promises
+pub mod Refusals
+pub mod Examples

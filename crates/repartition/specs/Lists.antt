@@ -1,4 +1,4 @@
--- Lists of deliver and close calls on one area: what they do, by the contracts of deliver and close, and what the calls alone say.
+-- Lists of deliver and close calls on one area: what they do, by the values in the contracts of deliver and close, and what the calls alone say.
 use Prim.Native.Nat.{ℕ, _+_, _<_}
 use mathlib.Core.Bool.{Bool, true, false, cond, _&&_, _||_}
 use mathlib.Core.Path.{_≡_}
@@ -7,18 +7,17 @@ use lib.Dec.{leb, eqb}
 use lib.ListN.{length}
 use Rattle.encoding.specs.Answer.{writeAnswer}
 use Rattle.encoding.specs.Below.{allBelow}
-use Rattle.encoding.specs.Pieces.{Bytes}
 use Rattle.encoding.specs.declared.answer.Length.{Length}
-use Rattle.offsets.specs.Table.{ranks, trees}
-use Rattle.pattern.specs.Sender.{Tables}
+use Rattle.offsets.specs.Table.{ranks}
 use Rattle.pattern.specs.Sets.{sendsTo, getsFrom}
-use Rattle.mesh.specs.Mesh.{meshDimension, meshTrees, meshSound}
+use Rattle.mesh.specs.Mesh.{meshDimension}
 use Rattle.part.specs.Cut.{cutPart}
 use Rattle.message.specs.Layout.{messageTrees, messageGhosts, messageTree, messageGhost}
 use Rattle.message.specs.Build.{partMessage}
-use Rattle.assembly.specs.Calls.{openAreaOf}
-use Rattle.assembly.specs.Deliver.{among, deliverOf}
-use Rattle.assembly.specs.Close.{closeOf}
+use Rattle.area_open.specs.Calls.{openAreaOf}
+use Rattle.area.specs.Deliver.{among, deliverOf}
+use Rattle.area.specs.Close.{closeOf}
+use Rattle.repartition.specs.Run.{Run}
 
 -- a call: deliver the message from rank p to rank q, or close into a buffer
 pub data Call : Type 0 where
@@ -42,21 +41,16 @@ treeIn k m = among (messageTrees m) (messageTree m) k
 unfoldable pub ghostWith : ℕ → List ℕ → Bool
 ghostWith k m = among (messageGhosts m) (messageGhost m) k
 
-module _ (mesh old new : List ℕ) (rank epoch : ℕ) where
-  -- what the theorem is about: two tables, a rank of theirs, a sound whole mesh with their K, and an epoch
-  pub record Setting : Type 0 where
-    pub tables : Tables old new
-    pub rank-below : rank < ranks old
-    pub mesh-bytes : Bytes mesh
-    pub mesh-sound : meshSound mesh ≡ true
-    pub same-trees : meshTrees mesh ≡ trees old
-    pub epoch-word : epoch < 4294967296
+-- nobody is heard
+unfoldable pub nobody : ℕ → Bool
+nobody s = false
 
+module _ (run : Run) where
   -- p builds a message for q: both are ranks and p sends q a tree
   pub record Built (p q : ℕ) : Type 0 where
-    pub sender-below : p < ranks old
-    pub receiver-below : q < ranks old
-    pub sends-tree : sendsTo old new p q ≡ true
+    pub sender-below : p < ranks (run .old)
+    pub receiver-below : q < ranks (run .old)
+    pub sends-tree : sendsTo (run .old) (run .new) p q ≡ true
 
   -- every delivery of the list is the message that an old rank built
   unfoldable pub AllBuilt : List Call → Type 0
@@ -66,13 +60,18 @@ module _ (mesh old new : List ℕ) (rank epoch : ℕ) where
 
   -- the message that p builds for q from its part of the mesh
   unfoldable pub messageOf : ℕ → ℕ → List ℕ
-  messageOf p q = partMessage (cutPart mesh old p) old new p q epoch
+  messageOf p q = partMessage (cutPart (run .mesh) (run .old) p) (run .old) (run .new) p q (run .epoch)
 
-  -- what a call does to the area, and answers: the values in the contracts of deliver and close
+  -- the open call on a buffer, for the mesh's dimension: its answer, and the buffer after it
+  unfoldable pub opened : List ℕ → Length × List ℕ
+  opened buffer = openAreaOf (run .old) (run .new) (run .rank) (meshDimension (run .mesh)) (run .epoch) buffer
+
+  -- what a call does to the area
   unfoldable pub areaAfter : List ℕ → Call → List ℕ
   areaAfter a (deliver p q) = deliverOf a (messageOf p q) .1
   areaAfter a (close out) = a
 
+  -- and what it answers
   unfoldable pub answerOf : List ℕ → Call → Answer
   answerOf a (deliver p q) = delivery (deliverOf a (messageOf p q) .0)
   answerOf a (close out) = closing (closeOf a out)
@@ -91,34 +90,29 @@ module _ (mesh old new : List ℕ) (rank epoch : ℕ) where
   acceptedBy a [] = []
   acceptedBy a (deliver p q ∷ cs) =
       cond (eqb (deliverOf a (messageOf p q) .0) 0) (messageOf p q ∷ acceptedBy (areaAfter a (deliver p q)) cs) (acceptedBy (areaAfter a (deliver p q)) cs)
-  acceptedBy a (close out ∷ cs) = acceptedBy a cs
-
-  -- the open call on a buffer, for the mesh's dimension: its answer, and the buffer after it
-  unfoldable pub opened : List ℕ → Length × List ℕ
-  opened buffer = openAreaOf old new rank (meshDimension mesh) epoch buffer
+  acceptedBy a (close out ∷ cs) = acceptedBy (areaAfter a (close out)) cs
 
   -- who is heard after a call, and after a list: the senders whose messages for the rank were delivered
   unfoldable pub hears : (ℕ → Bool) → Call → ℕ → Bool
-  hears H (deliver p q) s = H s || (eqb q rank && eqb s p)
+  hears H (deliver p q) s = H s || (eqb q (run .rank) && eqb s p)
   hears H (close out) s = H s
 
   unfoldable pub hearsAll : (ℕ → Bool) → List Call → ℕ → Bool
   hearsAll H [] = H
   hearsAll H (c ∷ cs) = hearsAll (hears H c) cs
 
-  -- nobody
-  unfoldable pub nobody : ℕ → Bool
-  nobody s = false
-
   -- every sender of the receive set is heard
   unfoldable pub allDue : (ℕ → Bool) → Bool
-  allDue H = allBelow (ranks old) (λ s. cond (getsFrom old new rank s) (H s) true)
+  allDue H = allBelow (ranks (run .old)) (λ s. cond (getsFrom (run .old) (run .new) (run .rank) s) (H s) true)
+
+  -- the part of the rank under the new table
+  abbrev pub newPart : List ℕ
+  newPart = cutPart (run .mesh) (run .new) (run .rank)
 
   -- what document 01 says that a call answers, once H are heard: a delivery for another rank gets 13, a repeated one 15, every other is accepted; a close gets 20 until all are heard, then 22 if its buffer is shorter than the part, else it writes the new table's part
   unfoldable pub due : (ℕ → Bool) → Call → Answer
-  due H (deliver p q) = delivery (cond (eqb q rank) (cond (H p) 15 0) 13)
-  due H (close out) =
-      closing (writeAnswer (cond (allDue H) (cond (leb (length (cutPart mesh new rank)) (length out)) 0 22) 20) (cutPart mesh new rank) out)
+  due H (deliver p q) = delivery (cond (eqb q (run .rank)) (cond (H p) 15 0) 13)
+  due H (close out) = closing (writeAnswer (cond (allDue H) (cond (leb (length newPart) (length out)) 0 22) 20) newPart out)
 
   unfoldable pub dueAll : (ℕ → Bool) → List Call → List Answer
   dueAll H [] = []

@@ -1,10 +1,12 @@
 // The C interface: include/vejgodat.h says what each function takes, checks and answers. A slice is a pointer and a count.
 ghost use mathlib.Core.Path.{_≡_};
-ghost use Rattle.offsets.specs.Calls.{tableRefusal, tableRange, tableLengthAnswer, writeTable, tableFromLeaves};
+ghost use Rattle.offsets.specs.Calls.{tableRefusal, tableRange};
+ghost use Rattle.offsets_write.specs.Calls.{tableLengthAnswer, writeTable};
+ghost use Rattle.leaves.specs.Calls.{tableFromLeaves};
 ghost use Rattle.mesh.specs.Mesh.{meshRefusal};
-ghost use Rattle.assembly.specs.Calls.{areaLengthOf, openAreaOf, progressOf};
-ghost use Rattle.assembly.specs.Close.{closeLengthOf, closeOf};
-ghost use Rattle.assembly.specs.Deliver.{deliverOf};
+ghost use Rattle.area_open.specs.Calls.{areaLengthOf, openAreaOf, progressOf};
+ghost use Rattle.area.specs.Close.{closeLengthOf, closeOf};
+ghost use Rattle.area.specs.Deliver.{deliverOf};
 ghost use Rattle.message.specs.Calls.{messageRefusal, messageLengthOf, buildMessageOf};
 ghost use Rattle.part_cut.specs.Calls.{partLengthOf, cutPartOf};
 ghost use Rattle.part_check.specs.Calls.{partRefusal};
@@ -12,7 +14,7 @@ ghost use Rattle.part_neighbour.specs.Calls.{neighbourAnswer};
 ghost use Rattle.lookup.specs.Lookup.{foundRecord};
 ghost use Rattle.part_neighbour.specs.Neighbour.{flatAnswer};
 ghost use Rattle.pattern.specs.Calls.{senderOf, treesSent, sendSetOf, receiveSetOf};
-use assembly::Progress;
+use area_open::Progress;
 use encoding::answer::Length;
 use lookup::Found;
 use offsets::Range;
@@ -21,6 +23,14 @@ use pattern::Ranks;
 use pattern::SenderAnswer;
 use records::index::GlobalIndex;
 use records::index::LocalIndex;
+
+// 10000 major + 100 minor + patch
+#[no_mangle]
+pub extern "C" fn vejgodat_version() -> u32
+    ensures { λ r. ⌜ r ≡ 200 ⌝ }
+{
+    200
+}
 
 #[no_mangle]
 pub extern "C" fn vejgodat_check_table(table: &[u8]) -> u32
@@ -33,7 +43,7 @@ pub extern "C" fn vejgodat_check_table(table: &[u8]) -> u32
 pub extern "C" fn vejgodat_table_length(ranks: u32) -> Length
     ensures { λ r. ⌜ r ≡ tableLengthAnswer ranks ⌝ }
 {
-    offsets::table_length(ranks)
+    offsets_write::table_length(ranks)
 }
 
 #[no_mangle]
@@ -52,14 +62,14 @@ pub extern "C" fn vejgodat_write_table(
 ) -> Length
     ensures { λ r. ⌜ (r, now (out .exit)) ≡ writeTable ranks (now (first .entry)) (now (count .entry)) (now (out .entry)) ⌝ }
 {
-    offsets::write_table(ranks, first, count, out)
+    offsets_write::write_table(ranks, first, count, out)
 }
 
 #[no_mangle]
 pub extern "C" fn vejgodat_table_from_leaves(ranks: u32, leaves: &[u32], out: &mut [u8]) -> Length
     ensures { λ r. ⌜ (r, now (out .exit)) ≡ tableFromLeaves ranks (now (leaves .entry)) (now (out .entry)) ⌝ }
 {
-    offsets::table_from_leaves(ranks, leaves, out)
+    leaves::table_from_leaves(ranks, leaves, out)
 }
 
 #[no_mangle]
@@ -188,7 +198,7 @@ pub extern "C" fn vejgodat_build_message(
 pub extern "C" fn vejgodat_area_length(old: &[u8], new: &[u8], rank: u32, dimension: u32) -> Length
     ensures { λ r. ⌜ r ≡ areaLengthOf (now (old .entry)) (now (new .entry)) rank dimension ⌝ }
 {
-    assembly::area_length(old, new, rank, dimension)
+    area_open::area_length(old, new, rank, dimension)
 }
 
 #[no_mangle]
@@ -202,7 +212,7 @@ pub extern "C" fn vejgodat_open_area(
 ) -> Length
     ensures { λ r. ⌜ (r, now (out .exit)) ≡ openAreaOf (now (old .entry)) (now (new .entry)) rank dimension epoch (now (out .entry)) ⌝ }
 {
-    assembly::open_area(old, new, rank, dimension, epoch, out)
+    area_open::open_area(old, new, rank, dimension, epoch, out)
 }
 
 #[no_mangle]
@@ -216,14 +226,14 @@ pub extern "C" fn vejgodat_deliver(area: &mut [u8], message: &[u8]) -> u32
 pub extern "C" fn vejgodat_progress_of(area: &[u8]) -> Progress
     ensures { λ r. ⌜ r ≡ progressOf (now (area .entry)) ⌝ }
 {
-    assembly::progress_of(area)
+    area_open::progress_of(area)
 }
 
 #[no_mangle]
 pub extern "C" fn vejgodat_part_of_area_length(area: &[u8]) -> Length
     ensures { λ r. ⌜ r ≡ closeLengthOf (now (area .entry)) ⌝ }
 {
-    close_checks::part_of_area_length(area)
+    close::part_of_area_length(area)
 }
 
 #[no_mangle]

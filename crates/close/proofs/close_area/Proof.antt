@@ -1,4 +1,4 @@
-use Rattle.close_checks.proofs.Checks.{read-long}
+use Rattle.close.proofs.Lengths.{read-long}
 use Rattle.close.proofs.Closing.{close-refused, close-short, join-room, close-done}
 use borrow.Author.Needs.{needs}
 use Rattle.close.proofs.close_area.Statement.{statement}

@@ -53,10 +53,10 @@ use Rattle.message_reader.proofs.Begun.Laws as S′
 use Rattle.message_reader.proofs.Reader as T
 use Rattle.message_reader.proofs.Reader.Laws as T′
 use Rattle.message_reader.proofs.Handed.{begun-is}
-use Rattle.message_reader.proofs.lent_unless as lent
-use Rattle.message_reader.proofs.lent_unless.Symbol as lent-def
-use Rattle.message_reader.proofs.lent_unless.Symbol.{name as #message-reader·lent-unless}
-use Rattle.message_reader.proofs.lent_unless.Met as lent-thm
+use Rattle.message_reader.proofs.cursor.lent_unless as lent
+use Rattle.message_reader.proofs.cursor.lent_unless.Symbol as lent-def
+use Rattle.message_reader.proofs.cursor.lent_unless.Symbol.{name as #message-reader·cursor·lent-unless}
+use Rattle.message_reader.proofs.cursor.lent_unless.Met as lent-thm
 use Rattle.message_reader.proofs.begin.Key.{name as #message-reader·begin}
 use Rattle.message_reader.proofs.begin as begin
 use Rattle.message_reader.proofs.begin.Statement as stated
@@ -134,7 +134,7 @@ module _ {M : Type 1} (𝓤 : URA M) (H : Heap 𝓤) (A : Atoms 𝓤) (W : Given
       use1 W (‵ (T.the-row α .own (made r p .reader) (T′.lowered (made r p .reader) ∷ []))) (own-shut 𝓤 H A W (T.the-type α) (T′.the-laws α) (p, (0, tt))) $
       nothing ! $ move ! (1 ∷ 0 ∷ []) $ fjoin ! $ move ! (1 ∷ 0 ∷ []) $ fjoin ! $ by ! (own-shut 𝓤 H A W (S.the-type α) (S′.the-laws α) (r, (made r p .reader, tt)))
 
-  module _ (C : Calls 𝓤 H) (Λ : Loops 𝓤 H) (fm : FmC 𝓤 H (W .laws) C) (known-answer : Triple 𝓤 (C #message·begin-reading) (BeginReading 𝓤 H A mem run)) (known-lent : Triple 𝓤 (C #message-reader·lent-unless) (LentUnless 𝓤 H A mem run)) where
+  module _ (C : Calls 𝓤 H) (Λ : Loops 𝓤 H) (fm : FmC 𝓤 H (W .laws) C) (known-answer : Triple 𝓤 (C #message·begin-reading) (BeginReading 𝓤 H A mem run)) (known-lent : Triple 𝓤 (C #message-reader·cursor·lent-unless) (LentUnless 𝓤 H A mem run)) where
     refusal-fits : (r : Length) (u : Val) → Is N.the-row r (u ∷ []) → r .refusal < 2 ^ 32
     refusal-fits r u is = LL.owed N.the-type N′.the-laws r (u ∷ []) is .0 .1
 
@@ -171,13 +171,13 @@ module _ {M : Type 1} (𝓤 : URA M) (H : Heap 𝓤) (A : Atoms 𝓤) (W : Given
         by ! (exits r t (begun-is (now s) r (now t) e f)))))))))))))))
 
 module _ {M : Type 1} (𝓤 : URA M) (H : Heap 𝓤) (A : Atoms 𝓤) (W : Given 𝓤 H A) (mem : Memory → SProp 𝓤) (run : Routine → Fun 𝓤) where
-  begin-walks : (C : Calls 𝓤 H) (Λ : Loops 𝓤 H) → FmC 𝓤 H (W .laws) C → Triple 𝓤 (C #message·begin-reading) (BeginReading 𝓤 H A mem run) → Triple 𝓤 (C #message-reader·lent-unless) (LentUnless 𝓤 H A mem run)
+  begin-walks : (C : Calls 𝓤 H) (Λ : Loops 𝓤 H) → FmC 𝓤 H (W .laws) C → Triple 𝓤 (C #message·begin-reading) (BeginReading 𝓤 H A mem run) → Triple 𝓤 (C #message-reader·cursor·lent-unless) (LentUnless 𝓤 H A mem run)
       → Walks 𝓤 H A begin.ended stayed (WpFn 𝓤 H C Λ code.function) (begin.clauses 𝓤 H A mem run)
   begin-walks C Λ fm known-answer known-lent = walked 𝓤 H A begin.ended stayed (begin.clauses 𝓤 H A mem run) (WpFn 𝓤 H C Λ code.function) (λ κs. (slice-vals, tt)) (λ κs. (shr-slice-tells (named 0) (κs .0) u8, tt))
       (λ κs qs bounds a g are. via 𝓤 _ (fst∗ 𝓤 _ (emp 𝓤)) (walk 𝓤 H A W mem run (κs .0) (qs .0) (a .0) C Λ fm known-answer known-lent (are .0)))
 
 begin-meets : {M : Type 1} (𝓤 : URA M) (H : Heap 𝓤) (A : Atoms 𝓤) (W : Given 𝓤 H A) (mem : Memory → SProp 𝓤) (run : Routine → Fun 𝓤) (𝓣 : Tables 𝓤 H)
-    → Triple 𝓤 (𝓣 .C #message·begin-reading) (BeginReading 𝓤 H A mem run) → Triple 𝓤 (𝓣 .C #message-reader·lent-unless) (LentUnless 𝓤 H A mem run)
+    → Triple 𝓤 (𝓣 .C #message·begin-reading) (BeginReading 𝓤 H A mem run) → Triple 𝓤 (𝓣 .C #message-reader·cursor·lent-unless) (LentUnless 𝓤 H A mem run)
     → Meets 𝓤 H A begin.signature (WpFn 𝓤 H (𝓣 .C) (𝓣 .Λ) code.function) (begin.spec 𝓤 H A mem run)
 begin-meets 𝓤 H A W mem run 𝓣 known-answer known-lent = walk-meets 𝓤 H A begin.ended stayed W (goes-none-slice 𝓤 H A W 1 (0 ∷ []) tt (plain (λ _. u8)) yes, tt) (begin.clauses 𝓤 H A mem run) (WpFn 𝓤 H (𝓣 .C) (𝓣 .Λ) code.function) (WpFn-mono 𝓤 H (W .laws) 𝓣 code.function)
     (begin-walks 𝓤 H A W mem run (𝓣 .C) (𝓣 .Λ) (fmOf 𝓤 H (W .laws) 𝓣) known-answer known-lent)
@@ -189,4 +189,4 @@ begin-spec 𝓤 H 𝓜 𝓖 𝓡 =
     (tables 𝓤 H 𝓜 𝓡 code.env .C) (tables 𝓤 H 𝓜 𝓡 code.env .Λ) #message-reader·begin code.function (code.unfolded 𝓤 H 𝓜 𝓡)
     (begin-meets 𝓤 H (𝓖 .A) (givenOf 𝓤 H 𝓜 𝓖) (𝓜 .mem) (𝓡 .run) (tablesOf 𝓤 H 𝓜 (tables 𝓤 H 𝓜 𝓡 code.env))
     (cited 𝓤 H (BeginReading 𝓤 H (𝓖 .A) (𝓜 .mem) (𝓡 .run)) 𝓜 𝓡 code.env #message·begin-reading answer-def.routine code.calls-message·begin-reading (answer-thm.met 𝓤 H 𝓜 𝓖 𝓡))
-    (cited 𝓤 H (LentUnless 𝓤 H (𝓖 .A) (𝓜 .mem) (𝓡 .run)) 𝓜 𝓡 code.env #message-reader·lent-unless lent-def.routine code.calls-message-reader·lent-unless (lent-thm.met 𝓤 H 𝓜 𝓖 𝓡)))
+    (cited 𝓤 H (LentUnless 𝓤 H (𝓖 .A) (𝓜 .mem) (𝓡 .run)) 𝓜 𝓡 code.env #message-reader·cursor·lent-unless lent-def.routine code.calls-message-reader·cursor·lent-unless (lent-thm.met 𝓤 H 𝓜 𝓖 𝓡)))

@@ -1,4 +1,4 @@
-use Rattle.offsets.proofs.RangeFits.{range-fits}
+use Rattle.offsets.proofs.Tables.{range-fits}
 use Prim.Native.Nat.{_≤_}
 use Rattle.offsets.specs.Limits.{maxTrees}
 use Rattle.offsets.specs.Table.{treeCount, firstTree, endTree}
@@ -6,7 +6,7 @@ use Rattle.offsets.specs.Calls.{tableRange, rangeAnswer, rangeRefusal}
 use Rattle.encoding.specs.Refusal.{firstFailed}
 use native.Mathlib.Omega.{arith}
 use borrow.Author.Tests.{not-true, not-false, le-ltb, lt-ltb}
-use mathlib.Core.Path.{_∙_, sym, ap}
+use mathlib.Core.Path.{_∙_, sym}
 use borrow.Author.Needs.{needs}
 use Rattle.offsets.proofs.table_range.Statement.{statement}
 use Rattle.offsets.proofs.table_range.Tie as tie

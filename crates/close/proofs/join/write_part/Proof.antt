@@ -1,7 +1,7 @@
 use Rattle.records.specs.Shape.{facesIn}
 use native.Mathlib.Omega.{arith}
 use mathlib.Core.Path.{ap, _∙_}
-use Rattle.assembly.proofs.Progressing.{sound-holds}
+use Rattle.area.proofs.Soundness.{sound-holds}
 use Rattle.close.proofs.Joining.{trees-room, ghosts-room, join-written}
 use borrow.Author.Needs.{needs}
 use Rattle.close.proofs.join.write_part.Statement.{statement}
@@ -51,8 +51,8 @@ trees-requires c κs =
     let shared-slice-known = c .before .before .before .before .before .before .before .before .before .before .shared-slice-known in
     omega (arith, sound-holds _ (pre .isSound) (λ i. shared-slice-known .given i .fits) .long)
 
-cast-write-header : tie.Need-cast-write-header
-cast-write-header c =
+cast-write-eight : tie.Need-cast-write-eight
+cast-write-eight c =
     let ranks = c .before .before .before .before .before .before .before .before .ranks in
     let pre = c .before .before .before .before .before .before .before .before .before .before .before .before .pre in
     let shared-slice-known = c .before .before .before .before .before .before .before .before .before .before .before .shared-slice-known in
@@ -64,14 +64,14 @@ rank-requires c κs =
     let shared-slice-known = c .before .before .before .before .before .before .before .before .before .before .before .shared-slice-known in
     omega (arith, sound-holds _ (pre .isSound) (λ i. shared-slice-known .given i .fits) .long)
 
-cast-write-header-2 : tie.Need-cast-write-header-2
-cast-write-header-2 c =
+cast-write-eight-2 : tie.Need-cast-write-eight-2
+cast-write-eight-2 c =
     let pre = c .before .before .before .before .before .before .before .before .before .before .before .before .before .pre in
     let shared-slice-known = c .before .before .before .before .before .before .before .before .before .before .before .before .shared-slice-known in
     omega (arith, c .rank .ensures, sound-holds _ (pre .isSound) (λ i. shared-slice-known .given i .fits) .rankBelow, sound-holds _ (pre .isSound) (λ i. shared-slice-known .given i .fits) .ranksHigh)
 
-write-header-requires : tie.Need-write-header-requires
-write-header-requires c κs = search needs
+write-eight-requires : tie.Need-write-eight-requires
+write-eight-requires c κs = search needs
 
 write-trees-requires : tie.Need-write-trees-requires
 write-trees-requires c κs =
@@ -127,10 +127,10 @@ returns c =
     let ghost-slots-place = c .before .before .before .before .before .before .before .before .before .before .before .before .before .before .before .ghost-slots-place in
     let trees = c .before .before .before .before .before .before .before .before .before .before .before .before .trees in
     let rank = c .before .before .before .before .before .before .before .before .before .before .before .rank in
-    let write-header = c .before .before .before .before .before .before .before .before .before .before .write-header in
+    let write-eight = c .before .before .before .before .before .before .before .before .before .before .write-eight in
     let write-trees = c .before .before .before .before .before .before .write-trees in
     let write-ghosts = c .before .before .write-ghosts in
-    join-written _ _ pre (λ i. shared-slice-known .given i .fits) (record { is-P = ranks .ensures; is-first = first-tree .ensures .0; is-n = count .ensures; is-g = ghosts .ensures; is-F = faces-in .ensures .0 ∙ ap facesIn (dimension .ensures); is-from = slots-place .ensures .0; is-at = ghost-slots-place .ensures .0 }) (dimension .ensures) (trees .ensures) (rank .ensures) (write-header .ensures) (write-trees .ensures) (write-ghosts .ensures)
+    join-written _ _ pre (λ i. shared-slice-known .given i .fits) (record { is-P = ranks .ensures; is-first = first-tree .ensures .0; is-n = count .ensures; is-g = ghosts .ensures; is-F = faces-in .ensures .0 ∙ ap facesIn (dimension .ensures); is-from = slots-place .ensures .0; is-at = ghost-slots-place .ensures .0 }) (dimension .ensures) (trees .ensures) (rank .ensures) (write-eight .ensures) (write-trees .ensures) (write-ghosts .ensures)
 
 pub write-part-spec : {M : Type 1} → statement M
 write-part-spec =
@@ -145,10 +145,10 @@ write-part-spec =
     ghost-slots-place-requires
     faces-in-requires
     trees-requires
-    cast-write-header
+    cast-write-eight
     rank-requires
-    cast-write-header-2
-    write-header-requires
+    cast-write-eight-2
+    write-eight-requires
     write-trees-requires
     cast-write-ghosts
     mul-write-ghosts

@@ -1,5 +1,5 @@
 use Rattle.deliver.proofs.Ready.{first-read, trees-placed}
-use Rattle.assembly.proofs.Headers.{tabled}
+use Rattle.area.proofs.Headers.{tabled}
 use native.Mathlib.Omega.{arith}
 use borrow.Author.Needs.{needs}
 use Rattle.deliver.proofs.write.trees_place.Statement.{statement}

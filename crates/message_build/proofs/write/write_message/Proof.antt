@@ -1,3 +1,4 @@
+use Rattle.message.specs.Layout.{messageHeaderBytes}
 use Rattle.message_build.proofs.Whole.{header-held, header-room, records-room, message-written}
 use borrow.Author.Needs.{needs}
 use Rattle.message_build.proofs.write.write_message.Statement.{statement}
@@ -21,10 +22,11 @@ sent-requires c κs = search needs
 member-count-requires : tie.Need-member-count-requires
 member-count-requires c κs = search needs
 
-write-header-requires : tie.Need-write-header-requires
-write-header-requires c κs = header-room _ _ _ _ _ _ _ _ (c .before .before .before .before .before .before .before .before .before .before .before .pre)
+write-eight-requires : tie.Need-write-eight-requires
+write-eight-requires c κs = header-room _ _ _ _ _ _ _ _ (c .before .before .before .before .before .before .before .before .before .before .before .pre)
 
 write-records-requires : tie.Need-write-records-requires
+unfolding messageHeaderBytes
 write-records-requires c κs =
     let pre = c .before .before .before .before .before .before .before .before .before .before .before .before .before .before .before .pre in
     let dimension = c .before .before .before .before .before .before .before .before .before .dimension in
@@ -32,13 +34,14 @@ write-records-requires c κs =
     let ranks = c .before .before .before .before .before .before .before .ranks in
     let sent = c .before .before .before .before .before .before .sent in
     let member-count = c .before .before .before .before .before .member-count in
-    let write-header = c .before .before .before .write-header in
-    records-room _ _ _ _ _ _ _ _ pre (dimension .ensures) (trees .ensures) (ranks .ensures .0) (sent .ensures .0) (sent .ensures .1) (member-count .ensures) (write-header .ensures)
+    let write-eight = c .before .before .before .write-eight in
+    records-room _ _ _ _ _ _ _ _ pre (dimension .ensures) (trees .ensures) (ranks .ensures .0) (sent .ensures .0) (sent .ensures .1) (member-count .ensures) (write-eight .ensures)
 
 same-length : tie.Need-same-length
 same-length c = search needs
 
 returns : tie.Need-returns
+unfolding messageHeaderBytes
 returns c =
     let pre = c .before .before .before .before .before .before .before .before .before .before .before .before .before .before .before .before .before .before .pre in
     let dimension = c .before .before .before .before .before .before .before .before .before .before .before .before .dimension in
@@ -46,9 +49,9 @@ returns c =
     let ranks = c .before .before .before .before .before .before .before .before .before .before .ranks in
     let sent = c .before .before .before .before .before .before .before .before .before .sent in
     let member-count = c .before .before .before .before .before .before .before .before .member-count in
-    let write-header = c .before .before .before .before .before .before .write-header in
+    let write-eight = c .before .before .before .before .before .before .write-eight in
     let write-records = c .before .before .write-records in
-    message-written _ _ _ _ _ _ _ _ pre (dimension .ensures) (trees .ensures) (ranks .ensures .0) (sent .ensures .0) (sent .ensures .1) (member-count .ensures) (write-header .ensures) (write-records .ensures)
+    message-written _ _ _ _ _ _ _ _ pre (dimension .ensures) (trees .ensures) (ranks .ensures .0) (sent .ensures .0) (sent .ensures .1) (member-count .ensures) (write-eight .ensures) (write-records .ensures)
 
 pub write-message-spec : {M : Type 1} → statement M
 write-message-spec =
@@ -60,7 +63,7 @@ write-message-spec =
     cast-ranks
     sent-requires
     member-count-requires
-    write-header-requires
+    write-eight-requires
     write-records-requires
     same-length
     returns)

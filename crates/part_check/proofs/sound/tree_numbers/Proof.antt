@@ -1,9 +1,8 @@
-use Rattle.part_check.proofs.Checking.{numbered-is}
-use Rattle.part_check.specs.Means.{treeNumbered}
 use Rattle.part.specs.Part.{storedTree}
+use Rattle.part_check.specs.Means.{treeNumbered}
 use Rattle.encoding.proofs.Below.{all-more, all-fails, all-to}
 use Rattle.encoding.specs.Below.{allBelow}
-use borrow.Author.Tests.{eq-eqb, ne-eqb}
+use borrow.Author.Tests.{not-true, not-false}
 use native.Mathlib.Omega.{arith}
 use mathlib.Core.Bool.{true}
 use mathlib.Core.Path.{_≡_, sym, _∙_}
@@ -22,21 +21,11 @@ loop-holds : tie.Need-loop-holds Inv-loop μ-loop
 unfolding allBelow
 loop-holds c = search needs
 
-tree-at-requires : tie.Need-tree-at-requires Inv-loop μ-loop
-tree-at-requires c κs = search needs
-
-number-of-requires : tie.Need-number-of-requires Inv-loop μ-loop
-number-of-requires c κs = search needs
-
-add-if1 : tie.Need-add-if1 Inv-loop μ-loop
-add-if1 c = search needs
+tree-numbered-requires : tie.Need-tree-numbered-requires Inv-loop μ-loop
+tree-numbered-requires c κs = search needs
 
 returns : tie.Need-returns Inv-loop μ-loop
-returns c =
-    let loop-test = c .before .before .before .loop-test in
-    let tree-at = c .before .before .tree-at in
-    let number-of = c .before .number-of in
-    sym (all-fails _ _ _ (loop-test .taken) (numbered-is _ _ (tree-at .ensures) _ (number-of .ensures) ∙ ne-eqb _ _ (c .if1 .taken)))
+returns c = sym (all-fails _ _ _ (c .before .before .loop-test .taken) (sym (c .before .tree-numbered .ensures) ∙ not-true _ (c .if1 .taken)))
 
 add-i : tie.Need-add-i Inv-loop μ-loop
 add-i c = search needs
@@ -45,11 +34,7 @@ loop-less : tie.Need-loop-less Inv-loop μ-loop
 loop-less c = search needs
 
 loop-again : tie.Need-loop-again Inv-loop μ-loop
-loop-again c =
-    let loop = c .before .before .before .before .loop in
-    let tree-at = c .before .before .tree-at in
-    let number-of = c .before .number-of in
-    (omega arith, all-more _ _ (loop .inv .1) (numbered-is _ _ (tree-at .ensures) _ (number-of .ensures) ∙ eq-eqb _ _ (c .if1 .left)))
+loop-again c = (omega arith, all-more _ _ (c .before .before .before .loop .inv .1) (sym (c .before .tree-numbered .ensures) ∙ not-false _ (c .if1 .left)))
 
 returns-2 : tie.Need-returns-2 Inv-loop μ-loop
 returns-2 c = sym (all-to _ _ _ (c .before .loop .inv .0) (omega arith) (c .before .loop .inv .1))
@@ -61,9 +46,7 @@ tree-numbers-spec =
     Inv-loop
     μ-loop
     loop-holds
-    tree-at-requires
-    number-of-requires
-    add-if1
+    tree-numbered-requires
     returns
     add-i
     loop-less

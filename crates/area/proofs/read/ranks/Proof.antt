@@ -1,0 +1,17 @@
+use Rattle.area.specs.Area.{areaP}
+use borrow.Author.Needs.{needs}
+use Rattle.area.proofs.read.ranks.Statement.{statement}
+use Rattle.area.proofs.read.ranks.Tie as tie
+
+read-u32-requires : tie.Need-read-u32-requires
+read-u32-requires c κs = search needs
+
+cast-result : tie.Need-cast-result
+cast-result c = search needs
+
+returns : tie.Need-returns
+unfolding areaP
+returns c = c .read-u32 .ensures
+
+pub ranks-spec : {M : Type 1} → statement M
+ranks-spec = tie.close (tie.spec read-u32-requires cast-result returns)

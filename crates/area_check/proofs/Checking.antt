@@ -1,0 +1,203 @@
+-- What the functions over an area find is what the definitions say.
+use Prim.Native.Nat.{ℕ, _+_, _-_, _*_, _≤_, _<_}
+use native.Mathlib.Omega.{arith}
+use mathlib.Core.Path.{_≡_, sym, ap, ap₂, _∙_}
+use mathlib.Core.Bool.{Bool, true, false, not, _&&_, and-assoc}
+use mathlib.Core.List.{List}
+use lib.Dec.{leb, ltb, eqb}
+use lib.ListN.{length, take, drop}
+use borrow.Author.Tests.{lt-ltb, le-ltb, le-leb, lt-leb, ne-eqb}
+use Rattle.encoding.specs.Below.{allBelow}
+use Rattle.encoding.specs.Pieces.{piece}
+use Rattle.encoding.specs.Words.{allZero}
+use Rattle.encoding.proofs.Below.{all-same, all-fails, all-to}
+use Rattle.offsets.specs.Limits.{maxTrees}
+use Rattle.offsets.specs.Table.{firstTree, endTree}
+use Rattle.offsets.proofs.Tables.{trees-high}
+use Rattle.pattern.specs.Sender.{sentFirst, sentCount}
+use Rattle.pattern.specs.Sets.{sendsTo}
+use Rattle.pattern.proofs.Sets.{gets-sends}
+use Rattle.records.specs.Record.{coreSize, treeSize, numberOf, inForm}
+use Rattle.records.specs.Shape.{facesIn}
+use Rattle.message.specs.Layout.{afterLast}
+use Rattle.area.specs.Layout.{heardWords, ghostBound, slotsPlace, ghostSlotsPlace}
+use Rattle.area.specs.Area.{areaDimension, areaK, areaP, areaRank, areaCount, areaGhosts, areaOld, areaNew, areaFirst, areaHeaderSound, heard, bitSound, treeSlotSound, ghostHeldSound, areaBound, ghostSlotSound, areaSound}
+use Rattle.area.specs.Means.{HeaderHolds, Tabled, fromFirst, fromCount, fromPlace, coreAt}
+use Rattle.area_check.specs.Means.{slotHeld, rangeSound, ghostHeldAt}
+use Rattle.area.proofs.Headers.{ghosts-place-is}
+use Rattle.area.proofs.Ranges.{range-trees, from-within}
+use Rattle.area_check.proofs.Slots.{ranges-slots, ghost-held-is, ghosts-split}
+
+-- ---- the heard senders
+
+module _ {a old new : List ℕ} (t : Tabled a old new) where
+  module _ (s : ℕ) {h : Bool} (is-h : h ≡ heard a s) where
+    pub bit-silent : h ≡ false → true ≡ bitSound a s
+    unfolding bitSound
+    bit-silent f = rw (← is-h, f)
+
+    module _ (ok : h ≡ true) {P : ℕ} (is-P : P ≡ areaP a) where
+      pub bit-past : P ≤ s → false ≡ bitSound a s
+      unfolding bitSound
+      bit-past f = rw (← is-h, ok, le-ltb s (areaP a) (omega arith))
+
+      pub bit-read : s < P → {rank : ℕ} {r : Bool} → rank ≡ areaRank a → r ≡ sendsTo old new s rank → r ≡ bitSound a s
+      unfolding bitSound
+      bit-read l e q =
+          let g = gets-sends (areaOld a) (areaNew a) (t .header .tables) s (areaRank a) (omega (arith, t .header .ranksAre)) (omega (arith, t .header .ranksAre, t .header .rankBelow)) in
+          q ∙ rw (← is-h, ok, lt-ltb s (areaP a) (omega arith), g, e, t .isOld, t .isNew)
+
+-- all bits of the words
+module _ (a : List ℕ) {P words : ℕ} (is-P : P ≡ areaP a) (is-words : words ≡ heardWords P) where
+  bits-end : 64 * words ≡ 64 * heardWords (areaP a)
+  bits-end = rw (is-words, is-P)
+
+  pub bits-fail : {s : ℕ} → s < 64 * words → bitSound a s ≡ false → false ≡ allBelow (64 * heardWords (areaP a)) (bitSound a)
+  bits-fail {s} l f = sym (all-fails (64 * heardWords (areaP a)) (bitSound a) s (omega (arith, bits-end)) f)
+
+  pub bits-pass : {s : ℕ} → s ≤ 64 * words → 64 * words ≤ s → allBelow s (bitSound a) ≡ true → true ≡ allBelow (64 * heardWords (areaP a)) (bitSound a)
+  bits-pass {s} l m e = sym (all-to (64 * heardWords (areaP a)) (bitSound a) s (omega (arith, bits-end)) (omega (arith, bits-end)) e)
+
+-- ---- the tree slots
+
+pub slot-read : (a : List ℕ) (at k : ℕ) {f : Bool} {number : ℕ} → f ≡ inForm k (piece a at coreSize) → number ≡ numberOf (piece a at coreSize) → (f && eqb number k) ≡ slotHeld a at k
+unfolding slotHeld
+slot-read a at k e d = rw (e, d)
+
+module _ {a old new : List ℕ} (t : Tabled a old new) {s rank first count : ℕ} (l : s < areaP a) (is-rank : rank ≡ areaRank a)
+    (is-first : first ≡ sentFirst old new s rank) (is-count : count ≡ sentCount old new s rank) where
+  first-is : first ≡ fromFirst a s
+  first-is = is-first ∙ rw (t .isOld, t .isNew, is-rank)
+
+  count-is : count ≡ fromCount a s
+  count-is = is-count ∙ rw (t .isOld, t .isNew, is-rank)
+
+  pub range-none : count ≡ 0 → true ≡ rangeSound a s
+  unfolding rangeSound
+  range-none z = rw (← count-is, z)
+
+  module _ (some : count ≡ 0 → ⊥) {F : ℕ} (is-F : F ≡ firstTree new rank) where
+    start-is : F ≡ areaFirst a
+    unfolding areaFirst
+    start-is = is-F ∙ rw (t .isNew, is-rank)
+
+    -- the bounds of the trees due
+    pub record Due : Type 0 where
+      pub low : F ≤ first
+      pub high : first - F + count ≤ areaCount a
+      pub most : first + count ≤ maxTrees
+
+    pub due : Due
+    due =
+        let w = from-within a (t .header) s l (λ z. some (count-is ∙ z)) in
+        let T = t .header .tables in
+        record {
+          low = omega (arith, start-is, first-is, w .0);
+          high = omega (arith, start-is, first-is, count-is, w .0, w .1);
+          most = omega (arith, first-is, count-is, w .1, range-trees a (t .header), trees-high (areaOld a) (T .oldBytes) (T .oldRanks) (T .oldValid));
+        }
+
+    -- the first tree due has local index i
+    module _ (i : ℕ) (is-i : i + F ≡ first) {P base : ℕ} (is-P : P ≡ areaP a) (is-base : base ≡ slotsPlace P) {h : Bool} (is-h : h ≡ heard a s) where
+      place-is : base + treeSize * i ≡ fromPlace a s
+      unfolding fromPlace
+      place-is =
+          let e : i ≡ first - F = omega arith in
+          ap (λ (x : ℕ). base + treeSize * x) e ∙ rw (is-base, is-P, first-is, start-is)
+
+      counted : eqb (fromCount a s) 0 ≡ false
+      counted = ne-eqb (fromCount a s) 0 (λ z. some (count-is ∙ z))
+
+      pub range-held : h ≡ true → {r : Bool} → r ≡ allBelow count (λ j. slotHeld a (base + treeSize * i + treeSize * j) (first + j)) → r ≡ rangeSound a s
+      unfolding rangeSound
+      range-held ok e =
+          e
+          ∙ ap (λ (n : ℕ). allBelow n (λ j. slotHeld a (base + treeSize * i + treeSize * j) (first + j))) count-is
+          ∙ ap₂ (λ (x y : ℕ). allBelow (fromCount a s) (λ j. slotHeld a (x + treeSize * j) (y + j))) place-is first-is
+          ∙ rw (counted, ← is-h, ok)
+
+      pub range-zero : h ≡ false → {r : Bool} → r ≡ allZero (take (base + treeSize * i + treeSize * count - (base + treeSize * i)) (drop (base + treeSize * i) a)) → r ≡ rangeSound a s
+      unfolding rangeSound piece
+      range-zero f e =
+          let n : base + treeSize * i + treeSize * count - (base + treeSize * i) ≡ treeSize * count = omega arith in
+          e
+          ∙ ap (λ (m : ℕ). allZero (take m (drop (base + treeSize * i) a))) n
+          ∙ ap₂ (λ (x y : ℕ). allZero (take (treeSize * y) (drop x a))) place-is count-is
+          ∙ rw (counted, ← is-h, f)
+
+module _ {a : List ℕ} (H : HeaderHolds a) {P : ℕ} (is-P : P ≡ areaP a) {s : ℕ} where
+  pub ranges-fail : s < P → rangeSound a s ≡ false → false ≡ allBelow (areaCount a) (treeSlotSound a)
+  ranges-fail l f = sym (all-fails (areaP a) (rangeSound a) s (omega arith) f) ∙ ranges-slots a H
+
+  pub ranges-pass : s ≤ P → P ≤ s → allBelow s (rangeSound a) ≡ true → true ≡ allBelow (areaCount a) (treeSlotSound a)
+  ranges-pass l m e = sym (all-to (areaP a) (rangeSound a) s (omega arith) (omega arith) e) ∙ ranges-slots a H
+
+-- ---- the ghost slots
+
+module _ (a : List ℕ) (at j : ℕ) where
+  pub after-first : j ≡ 0 → true ≡ afterLast (coreAt a at) j
+  unfolding afterLast
+  after-first z = rw z
+
+  pub after-read : (j ≡ 0 → ⊥) → {x y : ℕ} → x ≡ numberOf (piece a (at + coreSize * (j - 1)) coreSize) → y ≡ numberOf (piece a (at + coreSize * (j - 1) + coreSize) coreSize) → ltb x y ≡ afterLast (coreAt a at) j
+  unfolding afterLast coreAt
+  after-read some e d =
+      let n : at + coreSize * (j - 1) + coreSize ≡ at + coreSize * j = omega arith in
+      rw (ne-eqb j 0 some, e, d, n)
+
+  pub ghost-read : (K first end : ℕ) {f l : Bool} {number : ℕ} → number ≡ numberOf (piece a (at + coreSize * j) coreSize) → f ≡ inForm number (piece a (at + coreSize * j) coreSize) → l ≡ afterLast (coreAt a at) j
+      → (f && ltb number K && not (leb first number && ltb number end) && l) ≡ ghostHeldAt a at K first end j
+  unfolding ghostHeldAt coreAt
+  ghost-read K first end e d q = rw (d, q, e)
+
+module _ {a old new : List ℕ} (t : Tabled a old new) {g n dimension bound : ℕ} (is-g : g ≡ areaGhosts a) (is-n : n ≡ areaCount a) (is-dimension : dimension ≡ areaDimension a) (is-bound : bound ≡ ghostBound (facesIn dimension) n) where
+  bound-is : bound ≡ areaBound a
+  unfolding areaBound
+  bound-is = is-bound ∙ rw (is-dimension, is-n)
+
+  pub ghosts-over : bound < g → false ≡ (leb (areaGhosts a) (areaBound a) && allBelow (areaBound a) (ghostSlotSound a))
+  ghosts-over h = rw (lt-leb (areaGhosts a) (areaBound a) (omega (arith, bound-is)))
+
+  module _ (fit : g ≤ bound) {P at : ℕ} (is-P : P ≡ areaP a) (is-at : at ≡ ghostSlotsPlace P n) where
+    -- the held ghosts, and all slots, are in the buffer
+    pub ghosts-room : (at + coreSize * g ≤ length a) × (at + coreSize * bound ≤ length a)
+    ghosts-room =
+        let p = ghosts-place-is P n in
+        let w : heardWords P ≡ heardWords (areaP a) = ap heardWords is-P in
+        (omega (arith, t .header .long, bound-is), omega (arith, t .header .long, bound-is))
+
+    module _ {K rank first end : ℕ} {r : Bool} (is-K : K ≡ areaK a) (is-rank : rank ≡ areaRank a) (is-first : first ≡ firstTree new rank) (is-end : end ≡ endTree new rank) (is-r : r ≡ allBelow g (ghostHeldAt a at K first end)) where
+      held-is : r ≡ allBelow (areaGhosts a) (ghostHeldSound a)
+      held-is =
+          let f1 : first ≡ firstTree (areaNew a) (areaRank a) = is-first ∙ rw (t .isNew, is-rank) in
+          let e1 : end ≡ endTree (areaNew a) (areaRank a) = is-end ∙ rw (t .isNew, is-rank) in
+          let a1 : at ≡ ghostSlotsPlace (areaP a) (areaCount a) = is-at ∙ rw (is-P, is-n) in
+          is-r ∙ rw (is-g, a1, is-K, f1, e1) (all-same (areaGhosts a) _ (ghostHeldSound a) (λ j l. ghost-held-is a (t .header) j))
+
+      all-is : (leb (areaGhosts a) (areaBound a) && allBelow (areaBound a) (ghostSlotSound a)) ≡ (r && allZero (piece a (at + coreSize * g) (coreSize * (bound - g))))
+      all-is =
+          let a1 : at ≡ ghostSlotsPlace (areaP a) (areaCount a) = is-at ∙ rw (is-P, is-n) in
+          let l : areaGhosts a ≤ areaBound a = omega (arith, bound-is) in
+          rw (le-leb (areaGhosts a) (areaBound a) l, ghosts-split a (t .header) l, held-is, a1, is-g, bound-is)
+
+      pub ghosts-fail : r ≡ false → false ≡ (leb (areaGhosts a) (areaBound a) && allBelow (areaBound a) (ghostSlotSound a))
+      ghosts-fail f = sym (all-is ∙ rw f)
+
+      pub ghosts-read : r ≡ true → {z : Bool} → z ≡ allZero (take (at + coreSize * bound - (at + coreSize * g)) (drop (at + coreSize * g) a)) → z ≡ (leb (areaGhosts a) (areaBound a) && allBelow (areaBound a) (ghostSlotSound a))
+      unfolding piece
+      ghosts-read ok e =
+          let n : at + coreSize * bound - (at + coreSize * g) ≡ coreSize * (bound - g) = omega arith in
+          e ∙ ap (λ (m : ℕ). allZero (take m (drop (at + coreSize * g) a))) n ∙ sym (all-is ∙ rw ok)
+
+-- ---- the area
+
+pub area-header-fails : (a : List ℕ) → areaHeaderSound a ≡ false → false ≡ areaSound a
+unfolding areaSound
+area-header-fails a e = rw e
+
+pub area-read : (a : List ℕ) → areaHeaderSound a ≡ true → {b s g : Bool} → b ≡ allBelow (64 * heardWords (areaP a)) (bitSound a) → s ≡ allBelow (areaCount a) (treeSlotSound a)
+    → g ≡ (leb (areaGhosts a) (areaBound a) && allBelow (areaBound a) (ghostSlotSound a)) → (b && s && g) ≡ areaSound a
+unfolding areaSound
+area-read a h e d q =
+    rw (h, e, d, q)
+    (sym (and-assoc (allBelow (64 * heardWords (areaP a)) (bitSound a) && allBelow (areaCount a) (treeSlotSound a)) (leb (areaGhosts a) (areaBound a)) (allBelow (areaBound a) (ghostSlotSound a))))

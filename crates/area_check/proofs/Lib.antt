@@ -1,0 +1,3 @@
+-- Laws, for this crate's proofs.
+pub mod Slots
+pub mod Checking

@@ -1,0 +1,2 @@
+// Whether an area is sound. No calls for users.
+pub mod sound;

@@ -1,0 +1,64 @@
+-- What the functions find is what the checks of a close say.
+use Prim.Native.Nat.{ℕ, _≤_, _<_}
+use native.Mathlib.Omega.{arith}
+use mathlib.Core.Path.{_≡_, sym, _∙_}
+use mathlib.Core.Bool.{Bool, true, false}
+use mathlib.Core.List.{List}
+use Rattle.encoding.specs.Below.{allBelow}
+use Rattle.encoding.specs.Refusal.{firstFailed}
+use Rattle.encoding.proofs.Below.{either, all-fails, all-to}
+use Rattle.pattern.specs.Sets.{sendsTo, getsFrom}
+use Rattle.pattern.proofs.Sets.{gets-sends}
+use Rattle.area.specs.Area.{areaP, areaRank, areaOld, areaNew, heard, areaSound}
+use Rattle.area.specs.Close.{allHeard, joinSound, closeChecks}
+use Rattle.area.specs.Means.{Tabled}
+use Rattle.close_check.specs.Means.{senderHeard}
+
+-- ---- the heard senders
+
+module _ {a old new : List ℕ} (t : Tabled a old new) (s : ℕ) (l : s < areaP a) {rank : ℕ} (is-rank : rank ≡ areaRank a) {b : Bool} (is-b : b ≡ sendsTo old new s rank) where
+  due-is : getsFrom (areaOld a) (areaNew a) (areaRank a) s ≡ b
+  due-is =
+      gets-sends (areaOld a) (areaNew a) (t .header .tables) s (areaRank a) (omega (arith, t .header .ranksAre)) (omega (arith, t .header .ranksAre, t .header .rankBelow))
+      ∙ sym (is-b ∙ rw (t .isOld, t .isNew, is-rank))
+
+  pub sender-free : b ≡ false → true ≡ senderHeard a s
+  unfolding senderHeard
+  sender-free e = rw (due-is, e)
+
+  pub sender-due : {h : Bool} → b ≡ true → h ≡ heard a s → h ≡ senderHeard a s
+  unfolding senderHeard
+  sender-due e p = rw (due-is, e, p)
+
+module _ (a : List ℕ) {P s : ℕ} (is-P : P ≡ areaP a) where
+  pub heard-fails : s < P → senderHeard a s ≡ false → false ≡ allHeard a
+  unfolding allHeard senderHeard
+  heard-fails h e = sym (all-fails (areaP a) (senderHeard a) s (omega arith) e)
+
+  pub heard-passes : s ≤ P → P ≤ s → allBelow s (senderHeard a) ≡ true → true ≡ allHeard a
+  unfolding allHeard senderHeard
+  heard-passes h k e = sym (all-to (areaP a) (senderHeard a) s (omega arith) (omega arith) e)
+
+-- ---- the refusal
+
+module _ (a : List ℕ) where
+  pub refused-area : areaSound a ≡ false → 10 ≡ firstFailed (closeChecks a)
+  unfolding closeChecks firstFailed
+  refused-area e = rw e
+
+  pub closes-sound : firstFailed (closeChecks a) ≡ 0 → areaSound a ≡ true
+  closes-sound z = either (areaSound a) (λ e. e) (λ e. absurd (omega (arith, refused-area e)))
+
+  module _ (sound : areaSound a ≡ true) where
+    pub refused-heard : allHeard a ≡ false → 20 ≡ firstFailed (closeChecks a)
+    unfolding closeChecks firstFailed
+    refused-heard e = rw (sound, e)
+
+    module _ (all : allHeard a ≡ true) where
+      pub refused-join : joinSound a ≡ false → 21 ≡ firstFailed (closeChecks a)
+      unfolding closeChecks firstFailed
+      refused-join e = rw (sound, all, e)
+
+      pub not-refused : joinSound a ≡ true → 0 ≡ firstFailed (closeChecks a)
+      unfolding closeChecks firstFailed
+      not-refused e = rw (sound, all, e)

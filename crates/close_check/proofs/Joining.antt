@@ -1,0 +1,179 @@
+-- Where an area is sound and every due sender is heard, the tests left for its records are those of the joined part's soundness.
+use Prim.Native.Nat.{ℕ, _+_, _-_, _*_, _≤_, _<_}
+use native.Mathlib.Omega.{arith}
+use mathlib.Core.Path.{_≡_, refl, sym, ap, ap₂, _∙_}
+use mathlib.Core.Bool.{Bool, true, false, cond, _&&_}
+use mathlib.Core.List.{List}
+use lib.Dec.{eqb}
+use lib.ListN.{length}
+use borrow.Author.Tests.{eqb-true, eqb-false, eq-eqb, lt-ltb}
+use Rattle.encoding.specs.Pieces.{Bytes}
+use Rattle.encoding.proofs.Below.{and-fst, and-snd, either, all-at, all-same, any-intro}
+use Rattle.offsets.specs.Limits.{maxTrees}
+use Rattle.offsets.specs.Table.{ranks, firstTree, endTree, treeCount, holds}
+use Rattle.offsets.proofs.Tables.{count-add, trees-high}
+use Rattle.pattern.specs.Sender.{sender}
+use Rattle.pattern.specs.Sets.{getsFrom}
+use Rattle.pattern.proofs.Senders.{sender-lt}
+use Rattle.records.specs.Shape.{faceCount}
+use Rattle.records.specs.Record.{numberOf, shapeOf, inForm}
+use Rattle.records.proofs.Forms.{form-shape}
+use Rattle.part.specs.View.{isLocal, treeLink, ghostLink, localSound, ghostAfter, ghostBeside, ghostSound, viewSound}
+use Rattle.part.specs.Means.{inRange, neighbourIn}
+use Rattle.mesh.specs.Means.{linkByDimension, linkBetween}
+use Rattle.area.specs.Layout.{slotsPlace, ghostSlotsPlace}
+use Rattle.area.specs.Area.{areaDimension, areaK, areaP, areaRank, areaCount, areaGhosts, areaOld, areaNew, areaFirst, heard, treeSlotCore, ghostSlot, dueHeard, treeSlotSound, areaSound}
+use Rattle.area.specs.Close.{allHeard, joinSound}
+use Rattle.area.specs.Means.{HeaderHolds}
+use Rattle.area.proofs.Headers.{slots-place-is}
+use Rattle.area.proofs.Ranges.{range-trees}
+use Rattle.area.proofs.Tabled.{tabled-long}
+use Rattle.area.proofs.Soundness.{sound-holds}
+use Rattle.area_theorems.proofs.Kept.{Ghosts}
+use Rattle.area_theorems.proofs.Again.{area-parts, sound-ghosts}
+use Rattle.close_check.specs.Means.{treeFrom, ghostFrom, Slots, linkOfTree, linkOfGhost, treeJoins, ghostJoins, recordsJoin, Complete}
+use Rattle.close_check.proofs.Links.{tree-link-is, ghost-link-is}
+use Rattle.close_check.proofs.ByDimension.{records-by-dimension}
+
+module _ (a : List ℕ) (bytes : Bytes a) (sound : areaSound a ≡ true) where
+  H : HeaderHolds a
+  H = sound-holds a sound bytes
+
+  abbrev at : ℕ
+  at = slotsPlace (areaP a)
+
+  abbrev n : ℕ
+  n = areaCount a
+
+  abbrev g : ℕ
+  g = areaGhosts a
+
+  -- the first tree
+  abbrev first : ℕ
+  first = areaFirst a
+
+  abbrev tree : ℕ → List ℕ
+  tree = treeFrom a (slotsPlace (areaP a))
+
+  abbrev ghostly : ℕ → List ℕ
+  ghostly = ghostFrom a (slotsPlace (areaP a)) (areaCount a)
+
+  rank-old : areaRank a < ranks (areaOld a)
+  rank-old = omega (arith, H .ranksAre, H .rankBelow)
+
+  rank-new : areaRank a < ranks (areaNew a)
+  rank-new = omega (arith, rank-old, H .tables .sameRanks)
+
+  range-end : endTree (areaNew a) (areaRank a) ≡ areaFirst a + areaCount a
+  unfolding areaFirst
+  range-end =
+      sym (count-add (areaNew a) (H .tables .newBytes) (H .tables .newRanks) (H .tables .newValid) (areaRank a) rank-new)
+      ∙ ap (λ (m : ℕ). firstTree (areaNew a) (areaRank a) + m) (sym (H .countIs))
+
+  pub range-most : areaFirst a + areaCount a ≤ maxTrees
+  range-most = omega (arith, range-trees a H, trees-high (areaOld a) (H .tables .oldBytes) (H .tables .oldRanks) (H .tables .oldValid))
+
+  -- ---- the ghosts
+
+  held-ghosts : Ghosts (areaK a) (areaNew a) (areaRank a) (areaGhosts a) (ghostFrom a (slotsPlace (areaP a)) (areaCount a))
+  unfolding ghostFrom ghostSlot ghostSlotsPlace
+  held-ghosts = sound-ghosts a bytes sound
+
+  ghost-outside : (j : ℕ) → j < areaGhosts a → inRange (areaFirst a) (areaFirst a + areaCount a) (numberOf (ghostFrom a (slotsPlace (areaP a)) (areaCount a) j)) ≡ false
+  unfolding inRange holds areaFirst
+  ghost-outside j h = rw range-end at (held-ghosts .outside j h)
+
+  ghost-behind : (j : ℕ) → j < areaGhosts a → ghostAfter first n g tree ghostly j ≡ true
+  unfolding ghostAfter
+  ghost-behind j h =
+      either (eqb j 0) (λ e. rw e)
+      (λ e. let z : (j ≡ 0 → ⊥) = eqb-false j 0 e in
+      rw e (lt-ltb (numberOf (ghostly (j - 1))) (numberOf (ghostly j)) (held-ghosts .ascends (j - 1) j (omega arith) h)))
+
+  -- ---- the trees
+
+  module _ (all : allHeard a ≡ true) where
+    -- the sender of each is due, and so heard
+    tree-heard : (i : ℕ) → i < areaCount a → dueHeard a i ≡ true
+    unfolding allHeard dueHeard areaFirst getsFrom
+    tree-heard i h =
+        let k : ℕ = firstTree (areaNew a) (areaRank a) + i in
+        let s : ℕ = sender (areaOld a) k (areaRank a) in
+        let l : s < ranks (areaOld a) = sender-lt (areaOld a) (areaNew a) (H .tables) k (areaRank a) (omega (arith, range-trees a H)) rank-old in
+        let due : getsFrom (areaOld a) (areaNew a) (areaRank a) s ≡ true =
+        any-intro (treeCount (areaNew a) (areaRank a)) (λ m. eqb (sender (areaOld a) (firstTree (areaNew a) (areaRank a) + m) (areaRank a)) s) i (omega (arith, H .countIs)) (eq-eqb s s refl) in
+        rw due at (all-at (areaP a) (λ m. cond (getsFrom (areaOld a) (areaNew a) (areaRank a) m) (heard a m) true) all s (omega (arith, H .ranksAre)))
+
+    tree-slot : (i : ℕ) → i < areaCount a → (inForm (areaFirst a + i) (treeFrom a (slotsPlace (areaP a)) i) && eqb (numberOf (treeFrom a (slotsPlace (areaP a)) i)) (areaFirst a + i)) ≡ true
+    unfolding treeSlotSound treeSlotCore treeFrom
+    tree-slot i h = rw (tree-heard i h) at (area-parts a sound .tree i h)
+
+    tree-numbered : (i : ℕ) → i < areaCount a → numberOf (treeFrom a (slotsPlace (areaP a)) i) ≡ areaFirst a + i
+    tree-numbered i h = eqb-true _ _ (and-snd (inForm (areaFirst a + i) (treeFrom a (slotsPlace (areaP a)) i)) (eqb (numberOf (treeFrom a (slotsPlace (areaP a)) i)) (areaFirst a + i)) (tree-slot i h))
+
+    pub area-slots : Slots a (slotsPlace (areaP a)) (areaFirst a) (areaCount a) (areaGhosts a)
+    area-slots =
+        record {
+          behind = omega (arith, slots-place-is (areaP a));
+          fits = omega (arith, slots-place-is (areaP a), H .long, area-parts a sound .fit);
+          most = range-most;
+          numbered = tree-numbered;
+          outside = ghost-outside;
+          ascends = held-ghosts .ascends;
+        }
+
+    tree-same : (D i : ℕ) → i < areaCount a → localSound first n g tree ghostly D i ≡ treeJoins linkBetween a at first n g D i
+    unfolding localSound treeJoins
+    tree-same D i h =
+        rw (
+          tree-slot i h,
+          all-same (faceCount (shapeOf (tree i))) (treeLink first n g tree ghostly (first + i)) (linkOfTree linkBetween a at first n g i) (λ f l. tree-link-is a at first n g area-slots i h f),
+        )
+
+    ghost-same : (D j : ℕ) → j < areaGhosts a → ghostSound first n g tree ghostly D (areaK a) j ≡ ghostJoins linkBetween a at first n g D (areaK a) j
+    unfolding ghostSound ghostJoins ghostBeside neighbourIn isLocal inRange
+    ghost-same D j h =
+        rw (
+          held-ghosts .form j h,
+          lt-ltb (numberOf (ghostly j)) (areaK a) (held-ghosts .below j h),
+          ghost-outside j h,
+          ghost-behind j h,
+          all-same (faceCount (shapeOf (ghostly j))) (ghostLink first n g tree ghostly (areaK a) (numberOf (ghostly j))) (linkOfGhost linkBetween a at first n g (areaK a) j) (λ f l. ghost-link-is a at first n g area-slots j h (areaK a) f),
+        )
+
+    -- ---- the part
+
+    join-view : joinSound a ≡ viewSound first n g tree ghostly (areaDimension a) (areaK a)
+    unfolding joinSound treeSlotCore ghostSlot ghostSlotsPlace treeFrom ghostFrom
+    join-view = refl
+
+    pub join-is : joinSound a ≡ recordsJoin (linkByDimension (areaDimension a)) a at first n g (areaDimension a) (areaK a)
+    unfolding viewSound recordsJoin
+    join-is =
+        join-view
+        ∙ ap₂ (λ (x y : Bool). x && y)
+        (all-same n (localSound first n g tree ghostly (areaDimension a)) (treeJoins linkBetween a at first n g (areaDimension a)) (tree-same (areaDimension a)))
+        (all-same g (ghostSound first n g tree ghostly (areaDimension a) (areaK a)) (ghostJoins linkBetween a at first n g (areaDimension a) (areaK a)) (ghost-same (areaDimension a)))
+        ∙ sym (records-by-dimension (areaDimension a) a at first n g (areaK a)
+        (λ i h. form-shape (first + i) (tree i) (and-fst (inForm (first + i) (tree i)) (eqb (numberOf (tree i)) (first + i)) (tree-slot i h)))
+        (λ j h. form-shape (numberOf (ghostly j)) (ghostly j) (held-ghosts .form j h)))
+
+-- the same with what the code has read
+module _ (a new : List ℕ) (bytes : Bytes a) (C : Complete a new) {rank first : ℕ} (is-rank : rank ≡ areaRank a) (is-first : first ≡ firstTree new rank) where
+  first-is : first ≡ areaFirst a
+  unfolding areaFirst
+  first-is = is-first ∙ rw (C .isNew, is-rank)
+
+  pub first-word : first ≤ maxTrees
+  first-word = omega (arith, first-is, range-most a bytes (C .sound))
+
+  module _ {P at n g : ℕ} (is-P : P ≡ areaP a) (is-at : at ≡ slotsPlace P) (is-n : n ≡ areaCount a) (is-g : g ≡ areaGhosts a) where
+    pub slots-read : Slots a at first n g
+    slots-read = rw (is-at, is-P, first-is, is-n, is-g) (area-slots a bytes (C .sound) (C .all))
+
+    pub join-read : {D K : ℕ} {r : Bool} → D ≡ areaDimension a → K ≡ areaK a → r ≡ recordsJoin (linkByDimension D) a at first n g D K → r ≡ joinSound a
+    join-read d k e = e ∙ rw (is-at, is-P, first-is, is-n, is-g, d, k) (sym (join-is a bytes (C .sound) (C .all)))
+
+-- the new table has the rank's entries
+pub complete-long : {a new : List ℕ} {rank : ℕ} → Complete a new → rank ≡ areaRank a → 8 * (rank + 1 + 1) ≤ length new
+complete-long C e = tabled-long (record { header = C .header; isOld = refl; isNew = C .isNew }) e

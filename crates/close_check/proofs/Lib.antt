@@ -1,0 +1,6 @@
+-- Laws, for this crate's proofs and for the crates above.
+pub mod Places
+pub mod Links
+pub mod ByDimension
+pub mod Joining
+pub mod Checks

@@ -1,0 +1,45 @@
+use Rattle.close_check.proofs.Links.{tree-read}
+use borrow.Author.Needs.{needs}
+use Rattle.close_check.proofs.join.tree_joins.Statement.{statement}
+use Rattle.close_check.proofs.join.tree_joins.Tie as tie
+
+cast-shape-of : tie.Need-cast-shape-of
+cast-shape-of c = search needs
+
+mul-shape-of : tie.Need-mul-shape-of
+mul-shape-of c = search needs
+
+add-shape-of : tie.Need-add-shape-of
+add-shape-of c = search needs
+
+shape-of-requires : tie.Need-shape-of-requires
+shape-of-requires c κs = search needs
+
+face-count-requires : tie.Need-face-count-requires
+face-count-requires c κs = search needs
+
+dimension-of-requires : tie.Need-dimension-of-requires
+dimension-of-requires c κs = search needs
+
+tree-links-requires : tie.Need-tree-links-requires
+tree-links-requires c κs = search needs
+
+returns : tie.Need-returns
+returns c =
+    let shape-of = c .before .before .before .shape-of in
+    let face-count = c .before .before .face-count in
+    let dimension-of = c .before .dimension-of in
+    tree-read _ _ _ _ _ _ _ (shape-of .ensures) (face-count .ensures .0) (dimension-of .ensures) (c .tree-links .ensures)
+
+pub tree-joins-spec : {M : Type 1} → statement M
+tree-joins-spec =
+    tie.close
+    (tie.spec
+    cast-shape-of
+    mul-shape-of
+    add-shape-of
+    shape-of-requires
+    face-count-requires
+    dimension-of-requires
+    tree-links-requires
+    returns)

@@ -1,0 +1,54 @@
+use Prim.Native.Nat.{_≤_, _-_}
+use mathlib.Core.Path.{_≡_, sym, _∙_}
+use mathlib.Core.Bool.{true}
+use native.Mathlib.Omega.{arith}
+use borrow.Author.Tests.{not-true, not-false}
+use Rattle.encoding.specs.Below.{allBelow}
+use Rattle.encoding.proofs.Below.{all-more, all-fails, all-to}
+use Rattle.mesh.specs.Means.{linkByDimension}
+use Rattle.close_check.specs.Means.{linkOfTree}
+use borrow.Author.Needs.{needs}
+use Rattle.close_check.proofs.join.tree_links.Statement.{statement}
+use Rattle.close_check.proofs.join.tree_links.Tie as tie
+
+abbrev Inv-loop : tie.InvT-loop
+Inv-loop area at first count ghosts dimension tree faces face₀ face = (face ≤ faces) × (allBelow face (linkOfTree (linkByDimension dimension) area at first count ghosts (tree .0)) ≡ true)
+
+abbrev μ-loop : tie.MeasureT-loop
+μ-loop area at first count ghosts dimension tree faces face₀ face = faces - face
+
+loop-holds : tie.Need-loop-holds Inv-loop μ-loop
+unfolding allBelow
+loop-holds c = search needs
+
+tree-link-requires : tie.Need-tree-link-requires Inv-loop μ-loop
+tree-link-requires c κs = search needs
+
+returns : tie.Need-returns Inv-loop μ-loop
+returns c = sym (all-fails _ _ _ (c .before .before .loop-test .taken) (sym (c .before .tree-link .ensures) ∙ not-true _ (c .if1 .taken)))
+
+add-face : tie.Need-add-face Inv-loop μ-loop
+add-face c = search needs
+
+loop-less : tie.Need-loop-less Inv-loop μ-loop
+loop-less c = search needs
+
+loop-again : tie.Need-loop-again Inv-loop μ-loop
+loop-again c = (omega arith, all-more _ _ (c .before .before .before .loop .inv .1) (sym (c .before .tree-link .ensures) ∙ not-false _ (c .if1 .left)))
+
+returns-2 : tie.Need-returns-2 Inv-loop μ-loop
+returns-2 c = sym (all-to _ _ _ (c .before .loop .inv .0) (omega arith) (c .before .loop .inv .1))
+
+pub tree-links-spec : {M : Type 1} → statement M
+tree-links-spec =
+    tie.close
+    (tie.spec
+    Inv-loop
+    μ-loop
+    loop-holds
+    tree-link-requires
+    returns
+    add-face
+    loop-less
+    loop-again
+    returns-2)

@@ -1,0 +1,2 @@
+-- What the inner functions of the checks of a close give.
+pub mod Means

@@ -1,0 +1,91 @@
+-- Means, no part of what is promised: what inner functions require, and values that mirror their code; proofs/ says that they decide area's Close.
+use Prim.Native.Nat.{ℕ, _+_, _-_, _*_, _≤_, _<_}
+use mathlib.Core.Path.{_≡_}
+use mathlib.Core.Bool.{Bool, true, false, cond, _&&_}
+use mathlib.Core.List.{List}
+use lib.Dec.{ltb, eqb}
+use lib.ListN.{length}
+use Rattle.encoding.specs.Below.{allBelow, anyBelow, leastBelow}
+use Rattle.encoding.specs.Pieces.{piece}
+use Rattle.offsets.specs.Limits.{maxTrees}
+use Rattle.pattern.specs.Sets.{getsFrom}
+use Rattle.records.specs.Shape.{dimensionOf, faceCount}
+use Rattle.records.specs.Record.{coreSize, treeSize, numberOf, shapeOf, neighbourOf}
+use Rattle.mesh.specs.Link.{orientationOk}
+use Rattle.part.specs.View.{held, heldCore}
+use Rattle.part.specs.Means.{inRange, neighbourIn, ghostHas}
+use Rattle.area.specs.Area.{areaRank, areaOld, areaNew, heard, areaSound}
+use Rattle.area.specs.Close.{allHeard}
+use Rattle.area.specs.Means.{HeaderHolds}
+
+-- sender s is heard if it is due
+unfoldable pub senderHeard : List ℕ → ℕ → Bool
+senderHeard a s = cond (getsFrom (areaOld a) (areaNew a) (areaRank a) s) (heard a s) true
+
+-- ---- n tree slots from byte `at` on, whose trees are those from first on, and g ghosts behind them
+
+-- the core of tree i
+unfoldable pub treeFrom : List ℕ → ℕ → ℕ → List ℕ
+treeFrom a at i = piece a (at + treeSize * i) coreSize
+
+-- ghost j
+unfoldable pub ghostFrom : List ℕ → ℕ → ℕ → ℕ → List ℕ
+ghostFrom a at n j = piece a (at + treeSize * n + coreSize * j) coreSize
+
+-- slots in which a record can be looked up by its number
+pub record Slots (a : List ℕ) (at first n g : ℕ) : Type 0 where
+  pub behind : 0 < at
+  pub fits : at + treeSize * n + coreSize * g ≤ length a
+  pub most : first + n ≤ maxTrees
+  pub numbered : (i : ℕ) → i < n → numberOf (treeFrom a at i) ≡ first + i
+  pub outside : (j : ℕ) → j < g → inRange first (first + n) (numberOf (ghostFrom a at n j)) ≡ false
+  pub ascends : (i j : ℕ) → i < j → j < g → numberOf (ghostFrom a at n i) < numberOf (ghostFrom a at n j)
+
+module _ (a : List ℕ) (at first n g : ℕ) where
+  -- where the record with number k begins; 0 where none has it
+  unfoldable pub placeOf : ℕ → ℕ
+  placeOf k =
+      cond (inRange first (first + n) k) (at + treeSize * (k - first))
+      (cond (anyBelow g (ghostHas (ghostFrom a at n) k)) (at + treeSize * n + coreSize * leastBelow g (ghostHas (ghostFrom a at n) k)) 0)
+
+-- the tests of the records, by either rule of a link: mesh's linkBetween, or its linkByDimension, which reads links by the dimension; proofs/ByDimension.antt: over all records both find the same
+module _ (link : ℕ → List ℕ → ℕ → List ℕ → Bool) (a : List ℕ) (at first n g : ℕ) where
+  -- the link of face f of tree i to tree k
+  unfoldable pub treeTo : ℕ → ℕ → ℕ → Bool
+  treeTo i f k =
+      held first n g (treeFrom a at) (ghostFrom a at n) k
+      && link (first + i) (treeFrom a at i) f (heldCore first n g (treeFrom a at) (ghostFrom a at n) k)
+
+  unfoldable pub linkOfTree : ℕ → ℕ → Bool
+  linkOfTree i f = treeTo i f (neighbourOf (treeFrom a at i) f)
+
+  -- and of ghost j
+  unfoldable pub ghostTo : ℕ → ℕ → ℕ → ℕ → Bool
+  ghostTo K j f k =
+      cond (held first n g (treeFrom a at) (ghostFrom a at n) k)
+      (link (numberOf (ghostFrom a at n j)) (ghostFrom a at n j) f (heldCore first n g (treeFrom a at) (ghostFrom a at n) k))
+      (ltb k K && orientationOk (ghostFrom a at n j) f)
+
+  unfoldable pub linkOfGhost : ℕ → ℕ → ℕ → Bool
+  linkOfGhost K j f = ghostTo K j f (neighbourOf (ghostFrom a at n j) f)
+
+  -- tree i, but for what a sound area says of it
+  unfoldable pub treeJoins : ℕ → ℕ → Bool
+  treeJoins D i = eqb (dimensionOf (shapeOf (treeFrom a at i))) D && allBelow (faceCount (shapeOf (treeFrom a at i))) (linkOfTree i)
+
+  -- and ghost j
+  unfoldable pub ghostJoins : ℕ → ℕ → ℕ → Bool
+  ghostJoins D K j =
+      eqb (dimensionOf (shapeOf (ghostFrom a at n j))) D
+      && anyBelow (faceCount (shapeOf (ghostFrom a at n j))) (neighbourIn first (first + n) (ghostFrom a at n j))
+      && allBelow (faceCount (shapeOf (ghostFrom a at n j))) (linkOfGhost K j)
+
+  unfoldable pub recordsJoin : ℕ → ℕ → Bool
+  recordsJoin D K = allBelow n (treeJoins D) && allBelow g (ghostJoins D K)
+
+-- a sound area with every due sender heard, and its new table
+pub record Complete (a new : List ℕ) : Type 0 where
+  pub header : HeaderHolds a
+  pub isNew : new ≡ areaNew a
+  pub sound : areaSound a ≡ true
+  pub all : allHeard a ≡ true

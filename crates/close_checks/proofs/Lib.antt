@@ -1,6 +1,0 @@
--- Laws, for this crate's proofs and for the crates above.
-pub mod Places
-pub mod Links
-pub mod Quick
-pub mod Joining
-pub mod Checks

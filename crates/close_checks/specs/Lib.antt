@@ -1,2 +1,0 @@
--- What the inner functions of the checks of a close give.
-pub mod Mirror

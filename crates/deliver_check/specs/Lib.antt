@@ -1,0 +1,2 @@
+-- The checks of a delivery.
+pub mod Means

@@ -1,2 +1,0 @@
--- The checks of a delivery.
-pub mod Mirror

@@ -1,0 +1,3 @@
+-- Laws of leaf counts.
+pub mod LeafCounts
+pub mod Examples

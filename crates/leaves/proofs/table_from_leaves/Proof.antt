@@ -1,0 +1,102 @@
+use Rattle.leaves.proofs.LeafCounts.{leaf-table-length}
+use Rattle.leaves.specs.Calls.{tableFromLeaves, leavesRefusal}
+use Rattle.offsets.specs.Table.{tableLength}
+use Rattle.encoding.specs.Answer.{writeAnswer, lengthAnswer, written}
+use Rattle.encoding.specs.Refusal.{firstFailed}
+use lib.ListN.{length}
+use borrow.Author.Tests.{not-true, not-false, le-leb, lt-leb}
+use mathlib.Core.Path.{_∙_, sym}
+use borrow.Author.Needs.{needs}
+use Rattle.leaves.proofs.table_from_leaves.Statement.{statement}
+use Rattle.leaves.proofs.table_from_leaves.Tie as tie
+
+rank-count-ok-requires : tie.Need-rank-count-ok-requires
+rank-count-ok-requires c κs = search needs
+
+refused-requires : tie.Need-refused-requires
+refused-requires c κs = search needs
+
+returns : tie.Need-returns
+unfolding tableFromLeaves leavesRefusal firstFailed writeAnswer lengthAnswer written
+returns c = simp (c .refused .ensures, ← c .before .before .rank-count-ok .ensures, not-true (c .before .before .rank-count-ok .result) (c .before .if1 .taken))
+
+leaves-ok-requires : tie.Need-leaves-ok-requires
+leaves-ok-requires c κs = search needs
+
+refused-requires-2 : tie.Need-refused-requires-2
+refused-requires-2 c κs = search needs
+
+returns-2 : tie.Need-returns-2
+unfolding tableFromLeaves leavesRefusal firstFailed writeAnswer lengthAnswer written
+returns-2 c =
+    let rank-count-ok = c .before .before .before .before .rank-count-ok in
+    let if1 = c .before .before .before .if1 in
+    let leaves-ok = c .before .before .leaves-ok in
+    let if2 = c .before .if2 in
+    simp (c .refused2 .ensures, ← rank-count-ok .ensures, not-false (rank-count-ok .result) (if1 .left), ← leaves-ok .ensures, not-true (leaves-ok .result) (if2 .taken))
+
+add-n : tie.Need-add-n
+add-n c = search needs
+
+mul-n : tie.Need-mul-n
+mul-n c = search needs
+
+refused-requires-3 : tie.Need-refused-requires-3
+refused-requires-3 c κs = search needs
+
+returns-3 : tie.Need-returns-3
+unfolding tableFromLeaves leavesRefusal firstFailed writeAnswer lengthAnswer written
+returns-3 c =
+    let rank-count-ok = c .before .before .before .before .before .rank-count-ok in
+    let if1 = c .before .before .before .before .if1 in
+    let leaves-ok = c .before .before .before .leaves-ok in
+    let if2 = c .before .before .if2 in
+    let args = c .before .before .before .before .before .before .before .before .args in
+    let if3 = c .before .if3 in
+    simp (c .refused3 .ensures, ← rank-count-ok .ensures, not-false (rank-count-ok .result) (if1 .left), ← leaves-ok .ensures, not-false (leaves-ok .result) (if2 .left), lt-leb (tableLength (args .ranks)) (length (args .out .now)) (if3 .taken))
+
+total-requires : tie.Need-total-requires
+total-requires c κs = sym (c .before .before .leaves-ok .ensures) ∙ not-false _ (c .before .if2 .left)
+
+write-requires : tie.Need-write-requires
+write-requires c κs =
+    let rank-count-ok = c .before .before .before .before .before .before .rank-count-ok in
+    let if1 = c .before .before .before .before .before .if1 in
+    let leaves-ok = c .before .before .before .before .leaves-ok in
+    let if2 = c .before .before .before .if2 in
+    let if3 = c .before .before .if3 in
+    record { ranksFit = sym (rank-count-ok .ensures) ∙ not-false _ (if1 .left); leavesFit = sym (leaves-ok .ensures) ∙ not-false _ (if2 .left); total = c .before .total .ensures .0; room = if3 .left }
+
+same-length : tie.Need-same-length
+same-length c = search needs
+
+returns-4 : tie.Need-returns-4
+unfolding tableFromLeaves leavesRefusal firstFailed writeAnswer lengthAnswer written
+returns-4 c =
+    let rank-count-ok = c .before .before .before .before .before .before .before .before .before .rank-count-ok in
+    let if1 = c .before .before .before .before .before .before .before .before .if1 in
+    let leaves-ok = c .before .before .before .before .before .before .before .leaves-ok in
+    let if2 = c .before .before .before .before .before .before .if2 in
+    let args = c .before .before .before .before .before .before .before .before .before .before .before .before .args in
+    let if3 = c .before .before .before .before .before .if3 in
+    let write = c .before .before .write in
+    simp (← rank-count-ok .ensures, not-false (rank-count-ok .result) (if1 .left), ← leaves-ok .ensures, not-false (leaves-ok .result) (if2 .left), le-leb (tableLength (args .ranks)) (length (args .out .now)) (if3 .left), write .ensures, leaf-table-length (args .ranks) (args .leaves .now))
+
+pub table-from-leaves-spec : {M : Type 1} → statement M
+table-from-leaves-spec =
+    tie.close
+    (tie.spec
+    rank-count-ok-requires
+    refused-requires
+    returns
+    leaves-ok-requires
+    refused-requires-2
+    returns-2
+    add-n
+    mul-n
+    refused-requires-3
+    returns-3
+    total-requires
+    write-requires
+    same-length
+    returns-4)

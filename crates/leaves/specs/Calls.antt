@@ -1,0 +1,19 @@
+-- What the public call answers, refusals included, and what it leaves in the lent buffer.
+use Prim.Native.Nat.{ℕ}
+use mathlib.Core.List.{List, [], _∷_}
+use lib.Dec.{leb}
+use lib.ListN.{length}
+use Rattle.encoding.specs.Refusal.{check, firstFailed}
+use Rattle.encoding.specs.Answer.{writeAnswer}
+use Rattle.encoding.specs.declared.answer.Length.{Length}
+use Rattle.offsets.specs.Limits.{rankCountOk}
+use Rattle.offsets.specs.Table.{tableLength}
+use Rattle.leaves.specs.Leaves.{leavesOk, leafTable}
+
+-- write the table that leaf counts give
+unfoldable pub leavesRefusal : ℕ → List ℕ → List ℕ → ℕ
+leavesRefusal P ls out =
+    firstFailed (check (rankCountOk P) 2 ∷ check (leavesOk ls) 6 ∷ check (leb (tableLength P) (length out)) 22 ∷ [])
+
+unfoldable pub tableFromLeaves : ℕ → List ℕ → List ℕ → Length × List ℕ
+tableFromLeaves P ls out = writeAnswer (leavesRefusal P ls out) (leafTable P ls) out

@@ -1,0 +1,4 @@
+-- Document 01, "Ranks, trees and offset tables": the table that leaf counts give.
+pub mod Leaves
+pub mod Calls
+pub mod Means

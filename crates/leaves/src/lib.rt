@@ -1,0 +1,32 @@
+// The table that leaf counts give.
+ghost use mathlib.Core.Path.{_≡_};
+ghost use Rattle.leaves.specs.Calls.{tableFromLeaves};
+use encoding::answer::Length;
+use encoding::answer::refused;
+use offsets::table::rank_count_ok;
+
+mod counts;
+mod shares;
+mod table;
+
+// Write the table that leaf counts give, one count for each tree (2, 6, 22).
+pub fn table_from_leaves(ranks: u32, leaves: &[u32], out: &mut [u8]) -> Length
+    ensures { λ r. ⌜ (r, now (out .exit)) ≡ tableFromLeaves ranks (now (leaves .entry)) (now (out .entry)) ⌝ }
+{
+    let p = ranks as usize;
+    if !rank_count_ok(p) {
+        return refused(2);
+    }
+    if !counts::leaves_ok(leaves) {
+        return refused(6);
+    }
+    let n = 8 * (p + 1);
+    if out.len() < n {
+        return refused(22);
+    }
+    table::write(p, leaves, counts::total(leaves), out);
+    Length {
+        refusal: 0,
+        length: n as u64,
+    }
+}

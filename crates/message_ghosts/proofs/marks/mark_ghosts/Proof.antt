@@ -1,0 +1,103 @@
+use Rattle.message_ghosts.proofs.Marking.{header-fits, trees-start, sent-small, sent-from, sent-tree, trees-next, trees-end}
+use Rattle.message_ghosts.specs.Means.{Added, goesFrom}
+use mathlib.Core.Path.{_∙_}
+use native.Mathlib.Omega.{arith}
+use Prim.Native.Nat.{_≤_, _-_}
+use borrow.Author.Needs.{needs}
+use Rattle.message_ghosts.proofs.marks.mark_ghosts.Statement.{statement}
+use Rattle.message_ghosts.proofs.marks.mark_ghosts.Tie as tie
+
+abbrev Inv-loop : tie.InvT-loop
+Inv-loop part old new p q marks₀ from to own count low n i₀ marks i = (i ≤ n) × Added marks₀ marks (goesFrom part old new p q low i)
+
+abbrev μ-loop : tie.MeasureT-loop
+μ-loop part old new p q marks₀ from to own count low n i₀ marks i = n - i
+
+first-tree-requires : tie.Need-first-tree-requires Inv-loop μ-loop
+first-tree-requires c κs = header-fits _ _ _ _ _ (c .before .before .before .before .pre .0)
+
+tree-count-requires : tie.Need-tree-count-requires Inv-loop μ-loop
+tree-count-requires c κs = header-fits _ _ _ _ _ (c .before .before .before .before .before .pre .0)
+
+sent-requires : tie.Need-sent-requires Inv-loop μ-loop
+sent-requires c κs = c .before .before .before .before .before .before .pre .0 .pair
+
+loop-holds : tie.Need-loop-holds Inv-loop μ-loop
+loop-holds c = (omega arith, trees-start _ _ _ _ _ (c .before .before .before .before .before .before .before .pre .0) _ _)
+
+add-t17 : tie.Need-add-t17 Inv-loop μ-loop
+add-t17 c =
+    let pre = c .before .before .before .before .before .before .before .before .before .pre in
+    let first-tree = c .before .before .before .before .first-tree in
+    let tree-count = c .before .before .before .tree-count in
+    let sent = c .before .before .sent in
+    omega (arith, sent-small _ _ _ _ _ (pre .0) _ _ _ _ (first-tree .ensures) (tree-count .ensures) (sent .ensures .0) (sent .ensures .1) _ (c .loop-test .taken))
+
+to-local-requires : tie.Need-to-local-requires Inv-loop μ-loop
+to-local-requires c κs =
+    let pre = c .before .before .before .before .before .before .before .before .before .pre in
+    let first-tree = c .before .before .before .before .first-tree in
+    let tree-count = c .before .before .before .tree-count in
+    let sent = c .before .before .sent in
+    sent-from _ _ _ _ _ (pre .0) _ _ _ _ (first-tree .ensures) (tree-count .ensures) (sent .ensures .0) (sent .ensures .1) _ (c .loop-test .taken)
+
+mark-tree-requires : tie.Need-mark-tree-requires Inv-loop μ-loop
+mark-tree-requires c κs =
+    let pre = c .before .before .before .before .before .before .before .before .before .before .before .pre in
+    let first-tree = c .before .before .before .before .before .before .first-tree in
+    let tree-count = c .before .before .before .before .before .tree-count in
+    let sent = c .before .before .before .before .sent in
+    let loop-test = c .before .before .loop-test in
+    let to-local = c .before .to-local in
+    let shared-slice-known = c .before .before .before .before .before .before .before .before .before .before .shared-slice-known in
+    let loop = c .before .before .before .loop in
+    (sent-tree _ _ _ _ _ (pre .0) _ _ _ _ (first-tree .ensures) (tree-count .ensures) (sent .ensures .0) (sent .ensures .1) _ (loop-test .taken) _ (to-local .ensures) (λ i. shared-slice-known .given i .fits), loop .inv .1 .same-length ∙ pre .1 .long)
+
+add-i : tie.Need-add-i Inv-loop μ-loop
+add-i c = search needs
+
+loop-less : tie.Need-loop-less Inv-loop μ-loop
+loop-less c = search needs
+
+loop-again : tie.Need-loop-again Inv-loop μ-loop
+loop-again c =
+    let pre = c .before .before .before .before .before .before .before .before .before .before .before .before .before .before .pre in
+    let first-tree = c .before .before .before .before .before .before .before .before .before .first-tree in
+    let tree-count = c .before .before .before .before .before .before .before .before .tree-count in
+    let sent = c .before .before .before .before .before .before .before .sent in
+    let loop-test = c .before .before .before .before .before .loop-test in
+    let to-local = c .before .before .before .before .to-local in
+    let loop = c .before .before .before .before .before .before .loop in
+    let mark-tree = c .before .before .mark-tree in
+    (omega arith, trees-next _ _ _ _ _ (pre .0) _ _ _ _ (first-tree .ensures) (tree-count .ensures) (sent .ensures .0) (sent .ensures .1) _ (loop-test .taken) _ (to-local .ensures) _ _ _ (loop .inv .1) (mark-tree .ensures))
+
+same-length : tie.Need-same-length Inv-loop μ-loop
+same-length c = c .before .loop .inv .1 .same-length
+
+returns : tie.Need-returns Inv-loop μ-loop
+returns c =
+    let pre = c .before .before .before .before .before .before .before .before .before .pre in
+    let first-tree = c .before .before .before .before .first-tree in
+    let tree-count = c .before .before .before .tree-count in
+    let sent = c .before .before .sent in
+    let loop = c .before .loop in
+    trees-end _ _ _ _ _ (pre .0) _ _ _ _ (first-tree .ensures) (tree-count .ensures) (sent .ensures .0) (sent .ensures .1) _ _ _ (pre .1) (loop .inv .0) (omega arith) (loop .inv .1)
+
+pub mark-ghosts-spec : {M : Type 1} → statement M
+mark-ghosts-spec =
+    tie.close
+    (tie.spec
+    Inv-loop
+    μ-loop
+    first-tree-requires
+    tree-count-requires
+    sent-requires
+    loop-holds
+    add-t17
+    to-local-requires
+    mark-tree-requires
+    add-i
+    loop-less
+    loop-again
+    same-length
+    returns)

@@ -1,0 +1,72 @@
+use Rattle.message_ghosts.proofs.Reading.{neighbour-before}
+use Rattle.message_ghosts.specs.Means.{numberAt, besideBefore}
+use Rattle.part.proofs.Ranges.{none-next, none-to}
+use Rattle.encoding.proofs.Below.{any-intro}
+use Rattle.encoding.specs.Below.{anyBelow}
+use native.Mathlib.Omega.{arith}
+use mathlib.Core.Bool.{false}
+use mathlib.Core.Path.{_≡_, refl, sym, _∙_}
+use Prim.Native.Nat.{_≤_, _-_}
+use borrow.Author.Needs.{needs}
+use Rattle.message_ghosts.proofs.rule.beside_before.Statement.{statement}
+use Rattle.message_ghosts.proofs.rule.beside_before.Tie as tie
+
+abbrev Inv-loop : tie.InvT-loop
+Inv-loop part old new q count low faces j face₀ face = (face ≤ faces) × (besideBefore part old new q low (numberAt part count j) face ≡ false)
+
+abbrev μ-loop : tie.MeasureT-loop
+μ-loop part old new q count low faces j face₀ face = faces - face
+
+loop-holds : tie.Need-loop-holds Inv-loop μ-loop
+unfolding besideBefore anyBelow
+loop-holds c = (omega arith, refl)
+
+across-requires : tie.Need-across-requires Inv-loop μ-loop
+across-requires c κs = c .before .before .before .before .before .pre .there _ (c .loop-test .taken)
+
+sent-before-requires : tie.Need-sent-before-requires Inv-loop μ-loop
+sent-before-requires c κs = c .before .before .before .before .before .before .pre .receiver
+
+returns : tie.Need-returns Inv-loop μ-loop
+unfolding besideBefore
+returns c =
+    let loop-test = c .before .before .before .loop-test in
+    let pre = c .before .before .before .before .before .before .before .before .pre in
+    let across = c .before .before .across in
+    let sent-before = c .before .sent-before in
+    sym (any-intro _ _ _ (loop-test .taken) (neighbour-before _ _ _ _ _ _ _ _ _ pre (loop-test .taken) (across .ensures) (sent-before .ensures) ∙ c .if1 .taken))
+
+add-face : tie.Need-add-face Inv-loop μ-loop
+add-face c = search needs
+
+loop-less : tie.Need-loop-less Inv-loop μ-loop
+loop-less c = search needs
+
+loop-again : tie.Need-loop-again Inv-loop μ-loop
+unfolding besideBefore
+loop-again c =
+    let loop = c .before .before .before .before .loop in
+    let pre = c .before .before .before .before .before .before .before .before .pre in
+    let loop-test = c .before .before .before .loop-test in
+    let across = c .before .before .across in
+    let sent-before = c .before .sent-before in
+    (omega arith, none-next _ _ (loop .inv .1) (neighbour-before _ _ _ _ _ _ _ _ _ pre (loop-test .taken) (across .ensures) (sent-before .ensures) ∙ c .if1 .left))
+
+returns-2 : tie.Need-returns-2 Inv-loop μ-loop
+unfolding besideBefore
+returns-2 c = none-to _ _ _ (c .before .loop .inv .0) (omega arith) (c .before .loop .inv .1)
+
+pub beside-before-spec : {M : Type 1} → statement M
+beside-before-spec =
+    tie.close
+    (tie.spec
+    Inv-loop
+    μ-loop
+    loop-holds
+    across-requires
+    sent-before-requires
+    returns
+    add-face
+    loop-less
+    loop-again
+    returns-2)

@@ -1,0 +1,2 @@
+-- Which ghosts go with a message, as a set of numbers.
+pub mod Means

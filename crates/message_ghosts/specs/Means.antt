@@ -1,0 +1,120 @@
+-- Means, no part of what is promised: what the functions require, and values that mirror their code.
+use Prim.Native.Nat.{ℕ, _+_, _-_, _≤_, _<_}
+use mathlib.Core.Path.{_≡_}
+use mathlib.Core.Bool.{Bool, true, false, cond, not, _&&_, _||_}
+use mathlib.Core.List.{List}
+use lib.Dec.{ltb, eqb}
+use lib.ListN.{length}
+use Rattle.encoding.specs.Below.{anyBelow}
+use Rattle.encoding.specs.Pieces.{piece, Bytes}
+use Rattle.bits.specs.Bits.{inSet}
+use Rattle.offsets.specs.Table.{holds}
+use Rattle.pattern.specs.Means.{RankOf, PairOf}
+use Rattle.records.specs.Shape.{faceCount}
+use Rattle.records.specs.Record.{coreSize, numberOf, shapeOf, neighbourOf}
+use Rattle.part.specs.Layout.{treePlace, ghostPlace}
+use Rattle.part.specs.Part.{partCount, partGhostCount, partHolds, partCore, partSound}
+use Rattle.message.specs.Build.{partRecord}
+use Rattle.message.specs.Rule.{ghostGoes}
+
+-- ---- the marks
+
+-- one bit for each tree there may be
+abbrev pub markWords : ℕ
+markWords = 16384
+
+-- a set without a member
+pub record Blank (marks : List ℕ) : Type 0 where
+  pub long : length marks ≡ markWords
+  pub none : (k : ℕ) → inSet marks k ≡ false
+
+-- the set of the ghosts that go with p's message to q
+pub record Marks (part old new : List ℕ) (p q : ℕ) (marks : List ℕ) : Type 0 where
+  pub long : length marks ≡ markWords
+  pub member : (k : ℕ) → inSet marks k ≡ ghostGoes (partCore part) old new (partHolds part) (partRecord part) p q k
+
+-- a set with the numbers that pass a test besides
+pub record Added (before after : List ℕ) (test : ℕ → Bool) : Type 0 where
+  pub same-length : length after ≡ length before
+  pub member : (k : ℕ) → inSet after k ≡ (inSet before k || test k)
+
+-- ---- what the functions require
+
+-- two tables that agree, two ranks of theirs, and a sound part of the first under the old table
+pub record Sending (part old new : List ℕ) (p q : ℕ) : Type 0 where
+  pub pair : PairOf old new p q
+  pub sound : partSound part old p ≡ true
+
+-- the part's bytes and its number of trees
+pub record Known (part old new : List ℕ) (p q count : ℕ) : Type 0 where
+  pub sending : Sending part old new p q
+  pub bytes : Bytes part
+  pub counted : count ≡ partCount part
+
+-- the local index of one of its records
+pub record AtRecord (part old new : List ℕ) (p q count j : ℕ) : Type 0 where
+  pub known : Known part old new p q count
+  pub within : j < count + partGhostCount part
+
+-- the local index of one of its trees
+pub record AtTree (part old new : List ℕ) (p q count i : ℕ) : Type 0 where
+  pub known : Known part old new p q count
+  pub within : i < count
+
+-- ---- the records of a part by their local index: trees first, then ghosts
+
+-- where record j of a part with n trees begins
+unfoldable pub recordPlace : ℕ → ℕ → ℕ
+recordPlace n j = cond {A = ℕ} (ltb j n) (treePlace j) (ghostPlace n (j - n))
+
+module _ (part : List ℕ) (n : ℕ) where
+  -- its core as it stands
+  unfoldable pub recordAt : ℕ → List ℕ
+  recordAt j = piece part (recordPlace n j) coreSize
+
+  -- its number
+  unfoldable pub numberAt : ℕ → ℕ
+  numberAt j = numberOf (recordAt j)
+
+  -- the number of the neighbour across face f: a tree stores a local index, a ghost the number
+  unfoldable pub acrossAt : ℕ → ℕ → ℕ
+  acrossAt j f = cond {A = ℕ} (ltb j n) (numberAt (neighbourOf (recordAt j) f)) (neighbourOf (recordAt j) f)
+
+-- the record is there, and so is the one that it stores the local index of
+pub record AtFace (part : List ℕ) (n j f : ℕ) : Type 0 where
+  pub face : f < 6
+  pub here : recordPlace n j + coreSize ≤ length part
+  pub there : j < n → recordPlace n (neighbourOf (recordAt part n j) f) + coreSize ≤ length part
+
+-- a receiver, and a record whose first faces can be read and lead to the neighbours of the core with its number
+pub record Beside (part old new : List ℕ) (q count j faces : ℕ) : Type 0 where
+  pub receiver : RankOf old new q
+  pub there : (f : ℕ) → f < faces → AtFace part count j f
+  pub across : (f : ℕ) → f < faces → acrossAt part count j f ≡ neighbourOf (partCore part (numberAt part count j)) f
+
+-- ---- what goes
+
+-- tree h is in f'(q), and in f(q) or below low: where low is the first tree from p to q, q gets h from itself or from a rank below p
+unfoldable pub sentBefore : List ℕ → List ℕ → ℕ → ℕ → ℕ → Bool
+sentBefore old new q low h = holds new q h && (holds old q h || ltb h low)
+
+-- one of the first n face neighbours of g is such a tree
+unfoldable pub besideBefore : List ℕ → List ℕ → List ℕ → ℕ → ℕ → ℕ → ℕ → Bool
+besideBefore part old new q low g n = anyBelow n (λ f. sentBefore old new q low (neighbourOf (partCore part g) f))
+
+module _ (part old new : List ℕ) (p q low : ℕ) where
+  -- g, beside a tree that p sends q, goes with the message
+  unfoldable pub goes : ℕ → Bool
+  goes g = not (holds new q g) && (eqb p q || not (besideBefore part old new q low g (faceCount (shapeOf (partCore part g)))))
+
+  -- k is across face f of tree t and goes
+  unfoldable pub goesAcross : ℕ → ℕ → ℕ → Bool
+  goesAcross t f k = eqb k (neighbourOf (partCore part t) f) && goes k
+
+  -- the same for one of the first n faces
+  unfoldable pub goesBeside : ℕ → ℕ → ℕ → Bool
+  goesBeside t n k = anyBelow n (λ f. goesAcross t f k)
+
+  -- the same for all faces of one of the n trees from low on
+  unfoldable pub goesFrom : ℕ → ℕ → Bool
+  goesFrom n k = anyBelow n (λ i. goesBeside (low + i) (faceCount (shapeOf (partCore part (low + i)))) k)

@@ -1,0 +1,105 @@
+// The ghosts that go with a message, marked in a set of bits.
+ghost use mathlib.Core.Path.{_≡_};
+ghost use Prim.Native.Nat.{_+_, _<_};
+ghost use lib.ListN.{length};
+ghost use Rattle.records.specs.Shape.{faceCount};
+ghost use Rattle.records.specs.Record.{shapeOf};
+ghost use Rattle.part.specs.Part.{partFirst, partCore};
+ghost use Rattle.message_ghosts.specs.Means.{markWords, Blank, Marks, Added, Sending, AtTree, goesAcross, goesBeside};
+use crate::read::number_at;
+use crate::rule::goes;
+use records::index::GlobalIndex;
+use records::index::LocalIndex;
+use records::index::to_local;
+
+// Marks what is across a face of a tree, if it goes.
+fn mark_face(
+    part: &[u8],
+    old: &[u8],
+    new: &[u8],
+    p: usize,
+    q: usize,
+    count: u32,
+    low: u32,
+    tree: LocalIndex,
+    face: u32,
+    marks: &mut [u64],
+)
+    requires { ⌜ AtTree (now part) (now old) (now new) p q count (tree .0) × (face < faceCount (shapeOf (partCore (now part) (partFirst (now part) + tree .0)))) × (length (now marks) ≡ markWords) ⌝ }
+    ensures { λ u. ⌜ Added (now (marks .entry)) (now (marks .exit)) (goesAcross (now (part .entry)) (now (old .entry)) (now (new .entry)) p q low (partFirst (now (part .entry)) + tree .0) face) ⌝ }
+{
+    let j = records::read::neighbour_of(part, part::layout::tree_at(tree), face);
+    let number = number_at(part, count, LocalIndex(j));
+    let k = number.0;
+    if goes(
+        part,
+        old,
+        new,
+        p,
+        q,
+        count,
+        low,
+        LocalIndex(j),
+        GlobalIndex(k),
+    ) {
+        bits::set::add_member(&mut *marks, k);
+    }
+}
+
+// Marks what is across the faces of a tree and goes.
+fn mark_tree(
+    part: &[u8],
+    old: &[u8],
+    new: &[u8],
+    p: usize,
+    q: usize,
+    count: u32,
+    low: u32,
+    tree: LocalIndex,
+    marks: &mut [u64],
+)
+    requires { ⌜ AtTree (now part) (now old) (now new) p q count (tree .0) × (length (now marks) ≡ markWords) ⌝ }
+    ensures { λ u. ⌜ Added (now (marks .entry)) (now (marks .exit)) (goesBeside (now (part .entry)) (now (old .entry)) (now (new .entry)) p q low (partFirst (now (part .entry)) + tree .0) (faceCount (shapeOf (partCore (now (part .entry)) (partFirst (now (part .entry)) + tree .0))))) ⌝ }
+{
+    let i = tree.0;
+    let faces = records::shape::face_count(records::read::shape_of(
+        part,
+        part::layout::tree_at(tree),
+    ));
+    let mut face = 0;
+    while face < faces {
+        mark_face(
+            part,
+            old,
+            new,
+            p,
+            q,
+            count,
+            low,
+            LocalIndex(i),
+            face,
+            &mut *marks,
+        );
+        face += 1;
+    }
+}
+
+// Marks the ghosts that go with p's message to q. Only the trees sent and their neighbours are read, not the whole part.
+pub fn mark_ghosts(part: &[u8], old: &[u8], new: &[u8], p: u32, q: u32, marks: &mut [u64])
+    requires { ⌜ Sending (now part) (now old) (now new) p q × Blank (now marks) ⌝ }
+    ensures { λ u. ⌜ Marks (now (part .entry)) (now (old .entry)) (now (new .entry)) p q (now (marks .exit)) ⌝ }
+{
+    let from = p as usize;
+    let to = q as usize;
+    let own = part::layout::first_tree(part);
+    let count = part::layout::tree_count(part);
+    let sent = pattern::range::sent(old, new, from, to);
+    let low = sent.first;
+    let n = sent.count;
+    let mut i = 0;
+    while i < n {
+        let tree = to_local(GlobalIndex(low + i), own);
+        mark_tree(part, old, new, from, to, count, low, tree, &mut *marks);
+        i += 1;
+    }
+}

@@ -1,0 +1,40 @@
+// The records of a part by their local index: trees first, then ghosts.
+use records::index::GlobalIndex;
+use records::index::LocalIndex;
+ghost use mathlib.Core.Path.{_≡_};
+ghost use Prim.Native.Nat.{_+_, _≤_};
+ghost use lib.ListN.{length};
+ghost use Rattle.records.specs.Record.{coreSize};
+ghost use Rattle.message_ghosts.specs.Means.{numberAt, recordPlace, acrossAt, AtFace};
+
+// Where a record of a part with `count` trees begins.
+pub fn record_at(count: u32, local: LocalIndex) -> usize
+    ensures { λ r. ⌜ r ≡ recordPlace count (local .0) ⌝ }
+{
+    let j = local.0;
+    if j < count {
+        return part::layout::tree_at(local);
+    }
+    part::layout::ghost_at(count, j - count)
+}
+
+// Its number.
+pub fn number_at(part: &[u8], count: u32, local: LocalIndex) -> GlobalIndex
+    requires { ⌜ recordPlace count (local .0) + coreSize ≤ length (now part) ⌝ }
+    ensures { λ r. ⌜ r .0 ≡ numberAt (now (part .entry)) count (local .0) ⌝ }
+{
+    GlobalIndex(records::read::number_of(part, record_at(count, local)))
+}
+
+// The number of the neighbour across a face: a tree stores a local index, a ghost the number.
+pub fn across(part: &[u8], count: u32, local: LocalIndex, face: u32) -> GlobalIndex
+    requires { ⌜ AtFace (now part) count (local .0) face ⌝ }
+    ensures { λ r. ⌜ r .0 ≡ acrossAt (now (part .entry)) count (local .0) face ⌝ }
+{
+    let j = local.0;
+    let next = records::read::neighbour_of(part, record_at(count, LocalIndex(j)), face);
+    if j < count {
+        return number_at(part, count, LocalIndex(next));
+    }
+    GlobalIndex(next)
+}

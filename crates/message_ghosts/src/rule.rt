@@ -1,0 +1,73 @@
+// Whether a record beside a tree that p sends q goes with the message.
+use crate::read::across;
+use crate::read::record_at;
+use offsets::table::holds;
+use records::index::GlobalIndex;
+use records::index::LocalIndex;
+ghost use mathlib.Core.Path.{_≡_};
+ghost use Rattle.pattern.specs.Means.{RankOf};
+ghost use Rattle.message_ghosts.specs.Means.{numberAt, AtRecord, Beside, sentBefore, besideBefore, goes as goesTo};
+
+// Whether q gets the tree from itself or from a rank below the one whose first tree for q is `low`: to one rank, the sender never falls from tree to tree.
+fn sent_before(old: &[u8], new: &[u8], q: usize, low: u32, tree: GlobalIndex) -> bool
+    requires { ⌜ RankOf (now old) (now new) q ⌝ }
+    ensures { λ r. ⌜ r ≡ sentBefore (now (old .entry)) (now (new .entry)) q low (tree .0) ⌝ }
+{
+    let h = tree.0;
+    holds(new, q, h as u64) & (holds(old, q, h as u64) | (h < low))
+}
+
+// Whether a record with so many faces is beside such a tree.
+fn beside_before(
+    part: &[u8],
+    old: &[u8],
+    new: &[u8],
+    q: usize,
+    count: u32,
+    low: u32,
+    local: LocalIndex,
+    faces: u32,
+) -> bool
+    requires { ⌜ Beside (now part) (now old) (now new) q count (local .0) faces ⌝ }
+    ensures { λ r. ⌜ r ≡ besideBefore (now (part .entry)) (now (old .entry)) (now (new .entry)) q low (numberAt (now (part .entry)) count (local .0)) faces ⌝ }
+{
+    let j = local.0;
+    let mut face = 0;
+    while face < faces {
+        if sent_before(old, new, q, low, across(part, count, LocalIndex(j), face)) {
+            return true;
+        }
+        face += 1;
+    }
+    false
+}
+
+// Whether a record, with its number, goes: q hasn't it, and no other sender of a neighbour comes before p.
+pub fn goes(
+    part: &[u8],
+    old: &[u8],
+    new: &[u8],
+    p: usize,
+    q: usize,
+    count: u32,
+    low: u32,
+    local: LocalIndex,
+    number: GlobalIndex,
+) -> bool
+    requires { ⌜ AtRecord (now part) (now old) (now new) p q count (local .0) × (number .0 ≡ numberAt (now part) count (local .0)) ⌝ }
+    ensures { λ r. ⌜ r ≡ goesTo (now (part .entry)) (now (old .entry)) (now (new .entry)) p q low (number .0) ⌝ }
+{
+    let j = local.0;
+    let k = number.0;
+    if holds(new, q, k as u64) {
+        return false;
+    }
+    if p == q {
+        return true;
+    }
+    let faces = records::shape::face_count(records::read::shape_of(
+        part,
+        record_at(count, LocalIndex(j)),
+    ));
+    !beside_before(part, old, new, q, count, low, LocalIndex(j), faces)
+}

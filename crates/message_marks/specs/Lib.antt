@@ -1,2 +1,0 @@
--- Which ghosts go with a message, as a set of numbers.
-pub mod Mirror

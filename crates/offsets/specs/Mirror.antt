@@ -1,4 +1,0 @@
--- Values that mirror the code of inner functions. Each is proved equal to what the public definitions say.
-pub mod Table
-pub mod Ranges
-pub mod Leaves

@@ -1,0 +1,113 @@
+// The send set and the receive set of a rank: one loop finds both.
+ghost use mathlib.Core.Path.{_≡_};
+ghost use Prim.Native.Nat.{_≤_};
+ghost use lib.ListN.{length};
+ghost use Rattle.encoding.specs.Pieces.{splice};
+ghost use Rattle.offsets.specs.Limits.{maxRanks};
+ghost use Rattle.pattern.specs.Calls.{ranksAnswer};
+ghost use Rattle.pattern.specs.Means.{RankOf, PairOf, RoomFor, SmallNumbers, exchangesTree, rankSet, ranksRefused, rankSetOf};
+use crate::Ranks;
+use crate::range::sends_some;
+use crate::tables::tables_refusal;
+use offsets::table::ranks;
+
+// Whether the rank sends the other a tree; where it isn't sending, whether it gets one from the other.
+fn exchanges(old: &[u8], new: &[u8], rank: usize, other: usize, sending: bool) -> bool
+    requires { ⌜ PairOf (now old) (now new) rank other ⌝ }
+    ensures { λ r. ⌜ r ≡ exchangesTree (now (old .entry)) (now (new .entry)) rank sending other ⌝ }
+{
+    if sending {
+        return sends_some(old, new, rank, other);
+    }
+    sends_some(old, new, other, rank)
+}
+
+// How many ranks are in the send set, or in the receive set.
+pub fn set_count(old: &[u8], new: &[u8], rank: usize, sending: bool) -> usize
+    requires { ⌜ RankOf (now old) (now new) rank ⌝ }
+    ensures { λ r. ⌜ (r ≡ length (rankSet (now (old .entry)) (now (new .entry)) rank sending)) × (r ≤ maxRanks) ⌝ }
+{
+    let end = ranks(old);
+    let mut count = 0;
+    let mut other = 0;
+    while other < end {
+        let here = exchanges(old, new, rank, other, sending);
+        other += 1;
+        if here {
+            count += 1;
+        }
+    }
+    count
+}
+
+// Write the send set, or the receive set.
+fn set_write(old: &[u8], new: &[u8], rank: usize, sending: bool, out: &mut [u32])
+    requires { ⌜ RoomFor (now old) (now new) rank sending (now out) ⌝ }
+    ensures { λ r. ⌜ now (out .exit) ≡ splice (now (out .entry)) 0 (rankSet (now (old .entry)) (now (new .entry)) rank sending) ⌝ }
+{
+    let end = ranks(old);
+    let mut count = 0;
+    let mut other = 0;
+    while other < end {
+        let here = exchanges(old, new, rank, other, sending);
+        let number = other as u32;
+        other += 1;
+        if here {
+            out[count] = number;
+            count += 1;
+        }
+    }
+}
+
+fn ranks_refused(refusal: u32) -> Ranks
+    ensures { λ r. ⌜ r ≡ ranksRefused refusal ⌝ }
+{
+    Ranks {
+        refusal,
+        count: 0,
+        smallest: 0,
+        largest: 0,
+    }
+}
+
+// The answer for a set of ranks: −1 and −2 where it is empty.
+fn ranks_found(set: &[u32]) -> Ranks
+    requires { ⌜ SmallNumbers (now set) ⌝ }
+    ensures { λ r. ⌜ r ≡ ranksAnswer 0 (now (set .entry)) ⌝ }
+{
+    let n = set.len();
+    if n == 0 {
+        return Ranks {
+            refusal: 0,
+            count: 0,
+            smallest: -1,
+            largest: -2,
+        };
+    }
+    Ranks {
+        refusal: 0,
+        count: n as u32,
+        smallest: set[0] as i32,
+        largest: set[n - 1] as i32,
+    }
+}
+
+// The send set, or the receive set, of a rank (2, 3, 4, 5, 22).
+pub fn rank_set(old: &[u8], new: &[u8], rank: u32, sending: bool, out: &mut [u32]) -> Ranks
+    ensures { λ r. ⌜ (r, now (out .exit)) ≡ rankSetOf (now (old .entry)) (now (new .entry)) rank sending (now (out .entry)) ⌝ }
+{
+    let refusal = tables_refusal(old, new);
+    if refusal != 0 {
+        return ranks_refused(refusal);
+    }
+    let p = rank as usize;
+    if ranks(old) <= p {
+        return ranks_refused(5);
+    }
+    let count = set_count(old, new, p, sending);
+    if out.len() < count {
+        return ranks_refused(22);
+    }
+    set_write(old, new, p, sending, &mut *out);
+    ranks_found(&out[..count])
+}

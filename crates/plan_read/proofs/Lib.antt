@@ -1,0 +1,3 @@
+-- Laws of the plan's input.
+pub mod Decimals
+pub mod Grammar

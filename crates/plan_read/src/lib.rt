@@ -1,0 +1,3 @@
+// Reading the text of two tables. No public calls.
+pub mod input;
+pub mod number;

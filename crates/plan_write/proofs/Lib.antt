@@ -1,0 +1,3 @@
+-- Laws of the plan's output.
+pub mod Writing
+pub mod Listing

@@ -1,0 +1,3 @@
+-- Document 01, "The program `plan`": its output.
+pub mod Moves
+pub mod Means

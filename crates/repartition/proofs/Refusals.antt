@@ -1,0 +1,126 @@
+-- What a refused call leaves, and what three refusals mean.
+use Prim.Native.Nat.{ℕ, _+_}
+use native.Mathlib.Omega.{arith}
+use mathlib.Core.Path.{_≡_, refl, sym, _∙_}
+use mathlib.Core.Bool.{Bool, true, false, cond, not, _&&_}
+use mathlib.Core.List.{List}
+use lib.Dec.{leb, ltb, eqb}
+use lib.ListN.{length}
+use borrow.Author.Tests.{eqb-true, not-false}
+use Rattle.encoding.specs.Answer.{lengthAnswer, written, writeAnswer}
+use Rattle.encoding.specs.Below.{allBelow}
+use Rattle.encoding.specs.Refusal.{firstFailed}
+use Rattle.encoding.proofs.Below.{either}
+use Rattle.offsets.specs.Table.{ranks, ranksOk, trees, valid}
+use Rattle.offsets_write.specs.Calls.{writeTable}
+use Rattle.leaves.specs.Calls.{tableFromLeaves}
+use Rattle.pattern.specs.Sets.{sendsTo}
+use Rattle.pattern.specs.Calls.{tableChecks, ranksAnswer, setAnswer, sendSetOf, receiveSetOf}
+use Rattle.part.specs.Part.{partSound}
+use Rattle.part_cut.specs.Calls.{cutPartOf}
+use Rattle.message.specs.Layout.{messageSender, messageReceiver, messageGhosts, inLayout}
+use Rattle.message.specs.Build.{partMessage}
+use Rattle.message.specs.Calls.{buildChecks, buildMessageOf}
+use Rattle.area.specs.Area.{areaRank, areaGhosts, areaBound, heard, areaSound}
+use Rattle.area_open.specs.Calls.{openAreaOf}
+use Rattle.area.specs.Deliver.{sameRun, senderDue, treesDue, ghostDue, ghostNew, deliverChecks, deliverOf}
+use Rattle.area.specs.Close.{allHeard, joinSound, joinedPart, closeChecks, closeOf}
+use Rattle.repartition.specs.Refusals.{Unchanged, RefusedUnchanged, RefusalsMean}
+
+-- ---- what a refused call leaves
+
+-- a call that writes an object
+refused-writes : (refusal : ℕ) (object out : List ℕ) → Unchanged (writeAnswer refusal object out) out
+unfolding writeAnswer lengthAnswer written
+refused-writes refusal object out declined =
+    either (eqb refusal 0)
+    (λ e. absurd (declined (rw e)))
+    (λ e. rw e (refl, refl))
+
+refused-set : (refusal : ℕ) (set out : List ℕ) → (setAnswer refusal set out .0 .refusal ≡ 0 → ⊥) → setAnswer refusal set out .1 ≡ out
+unfolding setAnswer ranksAnswer written
+refused-set refusal set out declined =
+    either (eqb refusal 0)
+    (λ e. absurd (declined (rw e)))
+    (λ e. rw e)
+
+refused-deliver : (area m : List ℕ) → (deliverOf area m .0 ≡ 0 → ⊥) → deliverOf area m .1 ≡ area
+unfolding deliverOf
+refused-deliver area m declined =
+    either (eqb (firstFailed (deliverChecks area m)) 0)
+    (λ e. absurd (declined (eqb-true _ _ e)))
+    (λ e. rw e)
+
+pub refused-unchanged : RefusedUnchanged
+unfolding writeTable tableFromLeaves cutPartOf buildMessageOf openAreaOf closeOf sendSetOf receiveSetOf
+refused-unchanged =
+    record {
+      write-table = λ P first count out. refused-writes _ _ out;
+      table-from-leaves = λ P ls out. refused-writes _ _ out;
+      cut-part = λ mesh table rank out. refused-writes _ _ out;
+      build-message = λ part old new p q epoch out. refused-writes _ _ out;
+      open-area = λ old new rank dimension epoch out. refused-writes _ _ out;
+      close-area = λ area out. refused-writes _ _ out;
+      deliver = refused-deliver;
+      send-set = λ old new p out. refused-set _ _ out;
+      receive-set = λ old new q out. refused-set _ _ out;
+    }
+
+-- ---- what a number means
+
+-- the refusal of a call that writes
+refusal-is : (refusal : ℕ) (object out : List ℕ) → writeAnswer refusal object out .0 .refusal ≡ refusal
+unfolding writeAnswer lengthAnswer
+refusal-is refusal object out = either (eqb refusal 0) (λ e. rw e (sym (eqb-true refusal 0 e))) (λ e. rw e)
+
+-- a check with another number passed
+passed : (b : Bool) (rest n m : ℕ) → (n ≡ m → ⊥) → cond b rest n ≡ m → rest ≡ m
+passed true rest n m other e = e
+passed false rest n m other e = absurd (other e)
+
+-- the check with that number failed
+failed : (b : Bool) (rest n : ℕ) → (rest ≡ n → ⊥) → cond b rest n ≡ n → b ≡ false
+failed true rest n other e = absurd (other e)
+failed false rest n other e = refl
+
+-- neither of two answers
+neither : (b : Bool) (rest n m : ℕ) → (rest ≡ m → ⊥) → (n ≡ m → ⊥) → cond b rest n ≡ m → ⊥
+neither true rest n m a c e = a e
+neither false rest n m a c e = c e
+
+not-sent : (part old new : List ℕ) (p q epoch : ℕ) (out : List ℕ) → buildMessageOf part old new p q epoch out .0 .refusal ≡ 9 → sendsTo old new p q ≡ false
+unfolding buildMessageOf buildChecks tableChecks firstFailed
+not-sent part old new p q epoch out e =
+    let e2 = sym (refusal-is _ (partMessage part old new p q epoch) out) ∙ e in
+    let e3 = passed (ranksOk old && ranksOk new) _ 2 9 (λ z. omega arith) e2 in
+    let e4 = passed (valid old && valid new) _ 3 9 (λ z. omega arith) e3 in
+    let e5 = passed (eqb (ranks old) (ranks new) && eqb (trees old) (trees new)) _ 4 9 (λ z. omega arith) e4 in
+    let e8 = passed (ltb p (ranks old) && ltb q (ranks old)) _ 5 9 (λ z. omega arith) e5 in
+    let e9 = passed (partSound part old p) _ 8 9 (λ z. omega arith) e8 in
+    failed (sendsTo old new p q) _ 9 (neither (leb (length (partMessage part old new p q epoch)) (length out)) 0 22 9 (λ z. omega arith) (λ z. omega arith)) e9
+
+was-heard : (area m : List ℕ) → deliverOf area m .0 ≡ 15 → heard area (messageSender m) ≡ true
+unfolding deliverOf deliverChecks firstFailed
+was-heard area m e =
+    let e11 = passed (areaSound area) _ 10 15 (λ z. omega arith) e in
+    let e12 = passed (inLayout m) _ 11 15 (λ z. omega arith) e11 in
+    let e13 = passed (sameRun area m) _ 12 15 (λ z. omega arith) e12 in
+    let e14 = passed (eqb (messageReceiver m) (areaRank area)) _ 13 15 (λ z. omega arith) e13 in
+    let e15 = passed (senderDue area m) _ 14 15 (λ z. omega arith) e14 in
+    not-false (heard area (messageSender m))
+    (failed (not (heard area (messageSender m))) _ 15
+    (neither (treesDue area m) _ 16 15
+    (neither (allBelow (messageGhosts m) (ghostDue area m)) _ 17 15
+    (neither (allBelow (messageGhosts m) (ghostNew area m)) _ 18 15
+    (neither (leb (areaGhosts area + messageGhosts m) (areaBound area)) 0 19 15 (λ z. omega arith) (λ z. omega arith))
+    (λ z. omega arith)) (λ z. omega arith)) (λ z. omega arith)) e15)
+
+some-unheard : (area out : List ℕ) → closeOf area out .0 .refusal ≡ 20 → allHeard area ≡ false
+unfolding closeOf closeChecks firstFailed
+some-unheard area out e =
+    let e10 = sym (refusal-is _ (joinedPart area) out) ∙ e in
+    let e20 = passed (areaSound area) _ 10 20 (λ z. omega arith) e10 in
+    failed (allHeard area) _ 20 (neither (joinSound area) _ 21 20 (neither (leb (length (joinedPart area)) (length out)) 0 22 20 (λ z. omega arith) (λ z. omega arith)) (λ z. omega arith)) e20
+
+pub refusals-mean : RefusalsMean
+refusals-mean = record { nothing-for-you = not-sent; already-heard = was-heard; not-all-heard = some-unheard }

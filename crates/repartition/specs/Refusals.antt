@@ -1,0 +1,38 @@
+-- Of demand 1: what a refused call leaves, and what three refusals mean.
+use Prim.Native.Nat.{ℕ}
+use mathlib.Core.Path.{_≡_}
+use mathlib.Core.Bool.{true, false}
+use mathlib.Core.List.{List}
+use Rattle.encoding.specs.declared.answer.Length.{Length}
+use Rattle.offsets_write.specs.Calls.{writeTable}
+use Rattle.leaves.specs.Calls.{tableFromLeaves}
+use Rattle.pattern.specs.Sets.{sendsTo}
+use Rattle.pattern.specs.Calls.{sendSetOf, receiveSetOf}
+use Rattle.part_cut.specs.Calls.{cutPartOf}
+use Rattle.message.specs.Layout.{messageSender}
+use Rattle.message.specs.Calls.{buildMessageOf}
+use Rattle.area.specs.Area.{heard}
+use Rattle.area_open.specs.Calls.{openAreaOf}
+use Rattle.area.specs.Deliver.{deliverOf}
+use Rattle.area.specs.Close.{allHeard, closeOf}
+
+-- what is refused leaves the lent buffer as it was, and the other field is 0
+abbrev pub Unchanged : Length × List ℕ → List ℕ → Type 0
+Unchanged answer out = (answer .0 .refusal ≡ 0 → ⊥) → (answer .0 .length ≡ 0) × (answer .1 ≡ out)
+
+pub record RefusedUnchanged : Type 0 where
+  pub write-table : (P : ℕ) (first count out : List ℕ) → Unchanged (writeTable P first count out) out
+  pub table-from-leaves : (P : ℕ) (ls out : List ℕ) → Unchanged (tableFromLeaves P ls out) out
+  pub cut-part : (mesh table : List ℕ) (rank : ℕ) (out : List ℕ) → Unchanged (cutPartOf mesh table rank out) out
+  pub build-message : (part old new : List ℕ) (p q epoch : ℕ) (out : List ℕ) → Unchanged (buildMessageOf part old new p q epoch out) out
+  pub open-area : (old new : List ℕ) (rank dimension epoch : ℕ) (out : List ℕ) → Unchanged (openAreaOf old new rank dimension epoch out) out
+  pub close-area : (area out : List ℕ) → Unchanged (closeOf area out) out
+  pub deliver : (area m : List ℕ) → (deliverOf area m .0 ≡ 0 → ⊥) → deliverOf area m .1 ≡ area
+  pub send-set : (old new : List ℕ) (p : ℕ) (out : List ℕ) → (sendSetOf old new p out .0 .refusal ≡ 0 → ⊥) → sendSetOf old new p out .1 ≡ out
+  pub receive-set : (old new : List ℕ) (q : ℕ) (out : List ℕ) → (receiveSetOf old new q out .0 .refusal ≡ 0 → ⊥) → receiveSetOf old new q out .1 ≡ out
+
+-- "nothing for you", "already heard" and "not all heard" hold only where the tables and bits say so
+pub record RefusalsMean : Type 0 where
+  pub nothing-for-you : (part old new : List ℕ) (p q epoch : ℕ) (out : List ℕ) → buildMessageOf part old new p q epoch out .0 .refusal ≡ 9 → sendsTo old new p q ≡ false
+  pub already-heard : (area m : List ℕ) → deliverOf area m .0 ≡ 15 → heard area (messageSender m) ≡ true
+  pub not-all-heard : (area out : List ℕ) → closeOf area out .0 .refusal ≡ 20 → allHeard area ≡ false

@@ -1,0 +1,27 @@
+/* Moving a rank's part of a coarse mesh from an old table to a new one, over MPI. */
+#ifndef EXCHANGE_H
+#define EXCHANGE_H
+
+#include <mpi.h>
+#include <vejgodat.h>
+
+/* What a rank has of the mesh: the bytes of its part, from malloc. */
+typedef struct
+{
+  uint8_t            *bytes;
+  size_t              length;
+}
+mesh_part;
+
+/* End the run if a call refused, and say why. */
+void                must (uint32_t refusal, const char *call);
+
+/* Collective over comm, which has as many ranks as the tables. Each rank gives its part under the old table, and then
+ * has that under the new one. All ranks give the same tables of table_len bytes and the same epoch, one higher in each
+ * call. */
+void                exchange (MPI_Comm comm, uint32_t epoch,
+                              const uint8_t * old_table,
+                              const uint8_t * new_table, size_t table_len,
+                              mesh_part * part);
+
+#endif

@@ -1,0 +1,252 @@
+/* From p4est to Vejgodat and back, in dimension 2, and in dimension 3 with -DFOREST_3D:
+ *
+ *  - mesh_of: a connectivity becomes the bytes of a whole mesh;
+ *  - leaves_of, and vejgodat_table_from_leaves: a forest's leaf counts become a table;
+ *  - table_of: a forest's own partition becomes a table.
+ *
+ * The program refines forests over several of p4est's connectivities, lets p4est share them out equally, compares the
+ * tables, and moves each rank's part of the coarse mesh along: mpirun -n 4 ./forest2d */
+#ifdef FOREST_3D
+#include <p4est_to_p8est.h>
+#include <p8est_communication.h>
+#include <p8est_extended.h>
+#else
+#include <p4est_communication.h>
+#include <p4est_extended.h>
+#endif
+#include "../mpi/exchange.h"
+
+#include <stdio.h>
+#include <stdlib.h>
+#include <string.h>
+
+#define DEEPEST 4
+
+static void
+put_number (uint8_t * bytes, uint32_t number)
+{
+  int                 i;
+
+  for (i = 0; i < 4; ++i) {
+    bytes[i] = (uint8_t) (number >> (8 * i));
+  }
+}
+
+/* Write the whole mesh of a connectivity, VEJGODAT_MESH_BYTES (num_trees). The face codes are the same: orientation
+ * times 2 * P4EST_DIM plus the neighbour's face, and a boundary meets itself. */
+static void
+mesh_of (const p4est_connectivity_t * conn, uint8_t * mesh)
+{
+  const uint32_t      trees = (uint32_t) conn->num_trees;
+  uint32_t            k, face;
+  uint8_t            *record;
+
+  memset (mesh, 0, VEJGODAT_MESH_BYTES (trees));
+  put_number (mesh, P4EST_DIM);
+  put_number (mesh + 4, trees);
+  for (k = 0; k < trees; ++k) {
+    record = mesh + VEJGODAT_MESH_BYTES (k);
+    put_number (record, k);
+    record[4] = P4EST_DIM == 2 ? 0 : 2;
+    for (face = 0; face < 6; ++face) {
+      if (face < P4EST_FACES) {
+        put_number (record + 8 + 4 * face,
+                    (uint32_t) conn->tree_to_tree[P4EST_FACES * k + face]);
+        record[32 + face] =
+          (uint8_t) conn->tree_to_face[P4EST_FACES * k + face];
+      }
+      else {
+        put_number (record + 8 + 4 * face, VEJGODAT_UNUSED);
+      }
+    }
+  }
+}
+
+/* The number of leaves of each tree, over all ranks. Collective. */
+static void
+leaves_of (p4est_t * forest, uint32_t * leaves)
+{
+  const p4est_topidx_t trees = forest->connectivity->num_trees;
+  p4est_gloidx_t     *below = P4EST_ALLOC (p4est_gloidx_t, trees + 1);
+  p4est_topidx_t      k;
+
+  p4est_comm_count_pertree (forest, below);
+  for (k = 0; k < trees; ++k) {
+    leaves[k] = (uint32_t) (below[k + 1] - below[k]);
+  }
+  P4EST_FREE (below);
+}
+
+/* The table of the partition that a forest has. Collective. */
+static void
+table_of (p4est_t * forest, uint8_t * table)
+{
+  const uint32_t      ranks = (uint32_t) forest->mpisize;
+  uint32_t           *first = malloc (2 * ranks * sizeof *first);
+  uint32_t            mine[2];
+
+  /* an empty rank has the trees from -1 to -2 */
+  mine[0] = (uint32_t) forest->first_local_tree;
+  mine[1] = (uint32_t) (forest->last_local_tree - forest->first_local_tree + 1);
+  MPI_Allgather (mine, 1, MPI_UINT32_T, first, 1, MPI_UINT32_T,
+                 forest->mpicomm);
+  MPI_Allgather (mine + 1, 1, MPI_UINT32_T, first + ranks, 1, MPI_UINT32_T,
+                 forest->mpicomm);
+  must (vejgodat_write_table (ranks, first, ranks, first + ranks, ranks,
+                              table, VEJGODAT_TABLE_BYTES (ranks)).refusal,
+        "vejgodat_write_table");
+  free (first);
+}
+
+/* The table by p4est's formula for equal shares: rank p begins with leaf floor (N p / P). */
+static void
+table_by_formula (const uint32_t * leaves, uint32_t trees, int ranks,
+                  uint8_t * table)
+{
+  const size_t        P = (size_t) ranks;
+  uint32_t           *first = malloc (2 * P * sizeof *first), k = 0;
+  int64_t             total = 0, before = 0, begin, end;
+  int                 p;
+
+  for (k = 0; k < trees; ++k) {
+    total += leaves[k];
+  }
+  for (k = 0, p = 0; p < ranks; ++p) {
+    begin = p4est_partition_cut_gloidx (total, p, ranks);
+    end = p4est_partition_cut_gloidx (total, p + 1, ranks);
+    first[P + p] = 0;
+    if (begin < end) {
+      for (; before + leaves[k] <= begin; before += leaves[k++]);
+      first[p] = k;
+      for (; before + leaves[k] < end; before += leaves[k++]);
+      first[P + p] = k - first[p] + 1;
+    }
+  }
+  must (vejgodat_write_table ((uint32_t) ranks, first, P, first + P, P, table,
+                              VEJGODAT_TABLE_BYTES (ranks)).refusal,
+        "vejgodat_write_table");
+  free (first);
+}
+
+/* Refine about every third element, by a number mixed from its place and the step; coarse ones at the latest two steps
+ * after they came. */
+static int
+refine (p4est_t * forest, p4est_topidx_t tree, p4est_quadrant_t * q)
+{
+  const uint32_t      step = *(const uint32_t *) forest->user_pointer;
+  uint32_t            mixed = (step * 31 + (uint32_t) tree) * 2654435761u;
+
+  mixed = (mixed ^ (uint32_t) q->x >> 10) * 2246822519u;
+  mixed = (mixed ^ (uint32_t) q->y >> 10) * 3266489917u;
+#ifdef FOREST_3D
+  mixed = (mixed ^ (uint32_t) q->z >> 10) * 668265263u;
+#endif
+  mixed ^= mixed >> 15;
+  return q->level < DEEPEST
+    && (mixed % 3 == 0 || (uint32_t) q->level + 2 < step);
+}
+
+/* Some steps over one connectivity. Gives the number of differences found. */
+static int
+run (const char *name, p4est_connectivity_t * conn, uint32_t steps)
+{
+  const uint32_t      trees = (uint32_t) conn->num_trees;
+  const size_t        mesh_len = VEJGODAT_MESH_BYTES (trees);
+  uint8_t            *mesh = malloc (mesh_len), *tables[4], *cut;
+  uint32_t           *leaves = malloc (trees * sizeof *leaves), step = 0, i;
+  uint32_t            rank;
+  size_t              table_len;
+  vejgodat_length     length;
+  mesh_part           part;
+  p4est_t            *forest;
+  int                 ranks, wrong = 0;
+
+  mesh_of (conn, mesh);
+  must (vejgodat_check_mesh (mesh, mesh_len), name);
+  forest = p4est_new_ext (MPI_COMM_WORLD, conn, 0, 0, 1, 0, NULL, &step);
+  ranks = forest->mpisize;
+  rank = (uint32_t) forest->mpirank;
+  table_len = VEJGODAT_TABLE_BYTES (ranks);
+  for (i = 0; i < 4; ++i) {
+    tables[i] = malloc (table_len);
+  }
+
+  table_of (forest, tables[0]);
+  part.bytes = malloc (VEJGODAT_PART_BYTES (trees, 0));
+  cut = malloc (VEJGODAT_PART_BYTES (trees, 0));
+  length = vejgodat_cut_part (mesh, mesh_len, tables[0], table_len, rank,
+                              part.bytes, VEJGODAT_PART_BYTES (trees, 0));
+  must (length.refusal, "vejgodat_cut_part");
+  part.length = (size_t) length.length;
+
+  for (step = 1; step <= steps; ++step) {
+    uint8_t            *new_table = tables[step % 2];
+
+    p4est_refine (forest, 0, refine, NULL);
+    p4est_partition (forest, 0, NULL);
+
+    /* p4est's partition, its formula and ours by leaf counts are one table */
+    table_of (forest, new_table);
+    leaves_of (forest, leaves);
+    table_by_formula (leaves, trees, ranks, tables[2]);
+    must (vejgodat_table_from_leaves ((uint32_t) ranks, leaves, trees,
+                                      tables[3], table_len).refusal,
+          "vejgodat_table_from_leaves");
+    wrong += memcmp (new_table, tables[2], table_len) != 0;
+    wrong += memcmp (new_table, tables[3], table_len) != 0;
+
+    /* the coarse mesh follows the leaves */
+    exchange (MPI_COMM_WORLD, step, tables[(step + 1) % 2], new_table,
+              table_len, &part);
+    length = vejgodat_cut_part (mesh, mesh_len, new_table, table_len, rank,
+                                cut, VEJGODAT_PART_BYTES (trees, 0));
+    wrong += length.length != part.length
+      || memcmp (cut, part.bytes, part.length) != 0;
+  }
+  MPI_Allreduce (MPI_IN_PLACE, &wrong, 1, MPI_INT, MPI_SUM, MPI_COMM_WORLD);
+  if (rank == 0) {
+    printf ("%s: %u trees, %lu leaves, %u steps, %d differences\n", name,
+            (unsigned) trees, (unsigned long) forest->global_num_quadrants,
+            (unsigned) steps, wrong);
+  }
+
+  p4est_destroy (forest);
+  p4est_connectivity_destroy (conn);
+  for (i = 0; i < 4; ++i) {
+    free (tables[i]);
+  }
+  free (cut);
+  free (part.bytes);
+  free (leaves);
+  free (mesh);
+  return wrong;
+}
+
+int
+main (int argc, char **argv)
+{
+#ifdef FOREST_3D
+  static const char  *names[] = { "unit", "periodic", "rotwrap", "twocubes",
+    "twowrap", "rotcubes", "shell", "sphere"
+  };
+#else
+  static const char  *names[] = { "unit", "periodic", "rotwrap", "corner",
+    "pillow", "moebius", "star", "cubed", "disk"
+  };
+#endif
+  int                 wrong = 0;
+  size_t              i;
+
+  MPI_Init (&argc, &argv);
+  p4est_init (NULL, SC_LP_ERROR);
+  for (i = 0; i < sizeof names / sizeof names[0]; ++i) {
+    wrong += run (names[i], p4est_connectivity_new_byname (names[i]), 6);
+  }
+#ifdef FOREST_3D
+  wrong += run ("brick", p8est_connectivity_new_brick (3, 4, 5, 0, 1, 0), 4);
+#else
+  wrong += run ("brick", p4est_connectivity_new_brick (9, 7, 1, 0), 5);
+#endif
+  MPI_Finalize ();
+  return wrong == 0 ? 0 : 1;
+}

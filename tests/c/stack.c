@@ -1,0 +1,196 @@
+/* How much stack each call takes: it runs on a painted stack of its own, and the deepest byte that it changed is looked
+ * for. None may need more than VEJGODAT_STACK_BYTES. The mesh is a row of quadrilaterals in which each ghost is far away. */
+#define _POSIX_C_SOURCE 200809L
+#include <vejgodat.h>
+
+#include <pthread.h>
+#include <stdio.h>
+#include <stdlib.h>
+#include <string.h>
+
+#define TREES 4096
+#define STACK (1 << 20)
+#define PAINT 0x5a
+
+static uint8_t      mesh[VEJGODAT_MESH_BYTES (TREES)];
+static uint8_t      part[VEJGODAT_PART_BYTES (TREES, 0)], joined[sizeof part];
+static uint8_t      message[sizeof part], table[24], other[24];
+static uint8_t      area[VEJGODAT_AREA_BYTES (2, TREES, 4)];
+static uint32_t     leaves[TREES], list[2], first[2] = { 0, TREES / 2 };
+static uint32_t     count[2] = { TREES / 2, TREES / 2 };
+static size_t       part_len, message_len, area_len;
+static uint32_t     refused;
+
+static void
+put (uint8_t * bytes, uint32_t number)
+{
+  int                 i;
+
+  for (i = 0; i < 4; ++i) {
+    bytes[i] = (uint8_t) (number >> (8 * i));
+  }
+}
+
+/* face 0 of tree k meets face 1 of tree K - 1 - k; faces 2 and 3 lie at the boundary */
+static void
+make_mesh (void)
+{
+  uint32_t            k;
+  uint8_t            *record;
+
+  put (mesh, 2);
+  put (mesh + 4, TREES);
+  for (k = 0; k < TREES; ++k) {
+    record = mesh + VEJGODAT_MESH_BYTES (k);
+    put (record, k);
+    put (record + 8, TREES - 1 - k);
+    put (record + 12, TREES - 1 - k);
+    put (record + 16, k);
+    put (record + 20, k);
+    put (record + 24, VEJGODAT_UNUSED);
+    put (record + 28, VEJGODAT_UNUSED);
+    record[32] = 1;
+    record[33] = 0;
+    record[34] = 2;
+    record[35] = 3;
+    leaves[k] = 1;
+  }
+}
+
+static void
+take (uint32_t refusal)
+{
+  refused += refusal != VEJGODAT_OK;
+}
+
+#define TAKE_LENGTH(name, call) \
+  static void *name (void *none) { take ((call).refusal); return none; }
+#define TAKE(name, call) \
+  static void *name (void *none) { take (call); return none; }
+#define OLD table, sizeof table
+#define NEW other, sizeof other
+
+static void        *
+nothing (void *none)
+{
+  return none;
+}
+
+TAKE (version, vejgodat_version () != VEJGODAT_VERSION)
+TAKE (check_table, vejgodat_check_table (OLD))
+TAKE_LENGTH (table_length, vejgodat_table_length (2))
+TAKE_LENGTH (table_range, vejgodat_table_range (OLD, 1))
+TAKE_LENGTH (write_table,
+             vejgodat_write_table (2, first, 2, count, 2, NEW))
+TAKE_LENGTH (table_from_leaves,
+             vejgodat_table_from_leaves (2, leaves, TREES, OLD))
+TAKE_LENGTH (sender_of, vejgodat_sender_of (OLD, NEW, 0, 0))
+TAKE_LENGTH (trees_sent, vejgodat_trees_sent (OLD, NEW, 0, 1))
+TAKE_LENGTH (send_set, vejgodat_send_set (OLD, NEW, 0, list, 2))
+TAKE_LENGTH (receive_set, vejgodat_receive_set (OLD, NEW, 0, list, 2))
+TAKE (check_mesh, vejgodat_check_mesh (mesh, sizeof mesh))
+TAKE_LENGTH (part_length, vejgodat_part_length (mesh, sizeof mesh, OLD, 0))
+TAKE_LENGTH (cut_part,
+             vejgodat_cut_part (mesh, sizeof mesh, OLD, 0, part, sizeof part))
+TAKE (check_part, vejgodat_check_part (part, part_len, OLD, 0))
+TAKE_LENGTH (neighbour_of,
+             vejgodat_neighbour_of (part, part_len, OLD, 0, 0, 0))
+TAKE (lookup, vejgodat_lookup (part + 32, part_len - 32, NULL, 0, 5).which
+      != VEJGODAT_FOUND_TREE)
+TAKE_LENGTH (message_length,
+             vejgodat_message_length (part, part_len, OLD, NEW, 0, 0))
+TAKE_LENGTH (build_message,
+             vejgodat_build_message (part, part_len, OLD, NEW, 0, 0, 1,
+                                     message, sizeof message))
+TAKE (check_message, vejgodat_check_message (message, message_len))
+TAKE_LENGTH (area_length, vejgodat_area_length (OLD, NEW, 0, 2))
+TAKE_LENGTH (open_area,
+             vejgodat_open_area (OLD, NEW, 0, 2, 1, area, sizeof area))
+TAKE (deliver, vejgodat_deliver (area, area_len, message, message_len))
+TAKE_LENGTH (progress_of, vejgodat_progress_of (area, area_len))
+TAKE_LENGTH (part_of_area_length,
+             vejgodat_part_of_area_length (area, area_len))
+TAKE_LENGTH (close_area,
+             vejgodat_close_area (area, area_len, joined, sizeof joined))
+
+/* Run a call on a painted stack and return how deep it went; 0 where no thread could be made. */
+static size_t
+depth (void *(*call) (void *))
+{
+  pthread_attr_t      attributes;
+  pthread_t           thread;
+  void               *stack;
+  size_t              at = 0;
+
+  if (posix_memalign (&stack, 4096, STACK) != 0) {
+    return 0;
+  }
+  memset (stack, PAINT, STACK);
+  pthread_attr_init (&attributes);
+  if (pthread_attr_setstack (&attributes, stack, STACK) == 0
+      && pthread_create (&thread, &attributes, call, NULL) == 0) {
+    pthread_join (thread, NULL);
+    while (at < STACK && ((uint8_t *) stack)[at] == PAINT) {
+      ++at;
+    }
+    at = STACK - at;
+  }
+  pthread_attr_destroy (&attributes);
+  free (stack);
+  return at;
+}
+
+int
+main (void)
+{
+#define CALL(name) { #name, name }
+  static const struct
+  {
+    const char         *name;
+    void               *(*call) (void *);
+  }
+  calls[] = {
+    CALL (version), CALL (check_table), CALL (table_length),
+    CALL (table_range), CALL (write_table), CALL (table_from_leaves),
+    CALL (sender_of),
+    CALL (trees_sent), CALL (send_set), CALL (receive_set),
+    CALL (check_mesh), CALL (part_length), CALL (cut_part),
+    CALL (check_part), CALL (neighbour_of), CALL (lookup),
+    CALL (message_length), CALL (build_message), CALL (check_message),
+    CALL (area_length), CALL (open_area), CALL (deliver),
+    CALL (progress_of), CALL (part_of_area_length), CALL (close_area)
+  };
+  size_t              i, used, base, most = 0;
+  int                 wrong = 0;
+
+  make_mesh ();
+  base = depth (nothing);
+  /* both tables: rank 0 has the first half, rank 1 the second */
+  take (vejgodat_table_from_leaves (2, leaves, TREES, OLD).refusal);
+  take (vejgodat_table_from_leaves (2, leaves, TREES, NEW).refusal);
+  for (i = 0; i < sizeof calls / sizeof calls[0]; ++i) {
+    part_len = VEJGODAT_PART_BYTES (TREES / 2, TREES / 2);
+    message_len = part_len;
+    area_len = VEJGODAT_AREA_BYTES (2, TREES / 2, 4);
+    refused = 0;
+    used = depth (calls[i].call);
+    if (used == 0 || refused > 0) {
+      printf ("stack: vejgodat_%s did not run as meant\n", calls[i].name);
+      ++wrong;
+      continue;
+    }
+    used -= base;
+    most = used > most ? used : most;
+    if (getenv ("STACK_TABLE") != NULL) {
+      printf ("%8lu  vejgodat_%s\n", (unsigned long) used, calls[i].name);
+    }
+    if (used > VEJGODAT_STACK_BYTES) {
+      printf ("stack: vejgodat_%s takes %lu bytes\n", calls[i].name,
+              (unsigned long) used);
+      ++wrong;
+    }
+  }
+  printf ("stack: at most %lu bytes, %lu calls\n", (unsigned long) most,
+          (unsigned long) i);
+  return wrong == 0 && base > 0 ? 0 : 1;
+}

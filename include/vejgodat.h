@@ -231,8 +231,8 @@
  * any: of two tables, a bad length (2) decides before bad entries (3),
  * whichever of the two has them. The numbers of this header's calls are those
  * of \ref VEJGODAT_OK and the names that follow it, and
- * \ref vejgodat_refusal_text has words for them. Only \ref vejgodat_lookup and
- * \ref vejgodat_version have nothing to refuse.
+ * \ref vejgodat_refusal_text has words for them. Only \ref vejgodat_lookup,
+ * \ref vejgodat_corners and \ref vejgodat_version have nothing to refuse.
  *
  * Where a call refuses, every other field of its result is 0 and every buffer
  * has the bytes that it had before. Where it accepts, it writes the beginning
@@ -744,6 +744,18 @@ vejgodat_ranks      vejgodat_receive_set (const uint8_t * old_table,
 
 /** \name Whole meshes
  * @{ */
+
+/** The number of corners of a face, worked out from the shape and the face.
+ *
+ * Checks: none. Any other shape or face has 0 corners.
+ * Cost: constant.
+ *
+ * \param [in] shape      A shape, 0 to 5, or any other number.
+ * \param [in] face       A face of it, or any other number.
+ * \return                2, 3 or 4, and 0 for a face that isn't there.
+ */
+uint32_t            vejgodat_corners (uint32_t shape, uint32_t face)
+  VEJGODAT_USE_RESULT;
 
 /** Check whether bytes are a sound whole mesh.
  *

@@ -308,6 +308,17 @@ put_triangles (uint8_t * mesh)
 }
 
 static void
+corners (void)
+{
+  EXPECT (vejgodat_corners (0, 3) == 2);
+  EXPECT (vejgodat_corners (1, 3) == 0);
+  EXPECT (vejgodat_corners (2, 5) == 4);
+  EXPECT (vejgodat_corners (4, 2) == 4 && vejgodat_corners (4, 3) == 3);
+  EXPECT (vejgodat_corners (5, 3) == 3 && vejgodat_corners (5, 4) == 4);
+  EXPECT (vejgodat_corners (6, 0) == 0 && vejgodat_corners (2, 6) == 0);
+}
+
+static void
 check_mesh (void)
 {
   uint8_t             mesh[VEJGODAT_MESH_BYTES (3)];
@@ -642,6 +653,7 @@ main (void)
   table_from_leaves ();
   plan ();
   empty_set ();
+  corners ();
   check_mesh ();
   parts ();
   messages ();

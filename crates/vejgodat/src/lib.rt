@@ -3,6 +3,7 @@ ghost use mathlib.Core.Path.{_≡_};
 ghost use Rattle.offsets.specs.Calls.{tableRefusal, tableRange};
 ghost use Rattle.offsets_write.specs.Calls.{tableLengthAnswer, writeTable};
 ghost use Rattle.leaves.specs.Calls.{tableFromLeaves};
+ghost use Rattle.records.specs.Shape.{corners};
 ghost use Rattle.mesh.specs.Mesh.{meshRefusal};
 ghost use Rattle.area_open.specs.Calls.{areaLengthOf, openAreaOf, progressOf};
 ghost use Rattle.area.specs.Close.{closeLengthOf, closeOf};
@@ -103,6 +104,13 @@ pub extern "C" fn vejgodat_receive_set(old: &[u8], new: &[u8], rank: u32, out: &
     ensures { λ r. ⌜ (r, now (out .exit)) ≡ receiveSetOf (now (old .entry)) (now (new .entry)) rank (now (out .entry)) ⌝ }
 {
     pattern::receive_set(old, new, rank, out)
+}
+
+#[no_mangle]
+pub extern "C" fn vejgodat_corners(shape: u32, face: u32) -> u32
+    ensures { λ r. ⌜ r ≡ corners shape face ⌝ }
+{
+    records::corners(shape, face)
 }
 
 #[no_mangle]

@@ -288,6 +288,15 @@ impl Calls {
         (got, after)
     }
 
+    pub fn corners(&mut self, shape: u32, face: u32) -> u32 {
+        let faces = mesh_model::SHAPES.get(shape as usize).map_or(&[][..], |shape| shape.1);
+        let expected = faces.get(face as usize).copied().unwrap_or(0);
+        let got = unsafe { library::vejgodat_corners(shape, face) };
+        assert_eq!(got, expected, "corners of face {face} of shape {shape}");
+        self.note("corners", 0);
+        got
+    }
+
     pub fn check_mesh(&mut self, mesh: &[u8]) -> u32 {
         let faults = mesh_model::faults(mesh);
         let expected = if faults.is_empty() { 0 } else { 7 };

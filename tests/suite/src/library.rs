@@ -85,5 +85,6 @@ extern "C" {
         out: *mut u32,
         out_len: usize,
     ) -> Ranks;
+    pub fn vejgodat_corners(shape: u32, face: u32) -> u32;
     pub fn vejgodat_check_mesh(mesh: *const u8, mesh_len: usize) -> u32;
 }

@@ -8,6 +8,7 @@ use crate::{Run, Test};
 use std::collections::BTreeSet;
 
 pub const TESTS: &[Test] = &[
+    ("corners: every small shape and face, and any numbers", every_corners),
     ("mesh: the document's three triangles", documents_triangles),
     ("mesh: every one of a single tree", every_single),
     ("mesh: every one of two triangles", every_two),
@@ -30,6 +31,22 @@ fn triangles() -> Vec<u8> {
         join(&mut mesh, (k, 0), ((k + 1) % 3, 1), 0);
     }
     mesh
+}
+
+fn every_corners(run: &mut Run) {
+    for shape in 0..300 {
+        for face in 0..300 {
+            run.calls.corners(shape, face);
+        }
+    }
+    run.cases(100_000, |random, calls| {
+        let mut any = |small| if random.below(2) == 0 { random.below(small) as u32 } else { random.below(1 << 32) as u32 };
+        let (shape, face) = (any(8), any(8));
+        calls.corners(shape, face);
+    });
+    for number in [u32::MAX, u32::MAX - 1, 1 << 31] {
+        assert_eq!(run.calls.corners(number, number), 0);
+    }
 }
 
 fn documents_triangles(run: &mut Run) {

@@ -132,6 +132,7 @@ fn seen_refusals(run: &mut Run) {
         ("trees_sent", &[2, 3, 4, 5]),
         ("send_set", &[2, 3, 4, 5, 22]),
         ("receive_set", &[2, 3, 4, 5, 22]),
+        ("corners", &[]),
         ("check_mesh", &[7]),
     ];
     expect_seen(run, &can_give);

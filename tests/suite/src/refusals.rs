@@ -122,7 +122,7 @@ fn leaves(run: &mut Run) {
 }
 
 fn seen_refusals(run: &mut Run) {
-    let can_give: [(&'static str, &[u32]); 10] = [
+    let can_give: [(&'static str, &[u32]); 11] = [
         ("check_table", &[2, 3]),
         ("table_length", &[2]),
         ("table_range", &[2, 3, 5]),

@@ -6,19 +6,19 @@ use native.Mathlib.Omega.{arith}
 use mathlib.Core.Path.{_≡_, refl, sym, ap, subst, _∙_}
 use mathlib.Core.Bool.{Bool, true, false, cond, _&&_}
 use mathlib.Core.List.{List, [], _∷_}
-use lib.Dec.{ltb, leb, eqb}
-use lib.ListN.{length, getD, drop, replicate, length-replicate, length-drop, drop-of-length-le}
+use lib.Dec.{ltb, eqb}
+use lib.ListN.{length, getD, drop, length-replicate, length-drop, drop-of-length-le}
 use lib.Seq.{drop-cons}
 use borrow.Author.Tests.{lt-ltb, le-ltb, lt-leb, le-leb, eq-eqb, ne-eqb}
-use Rattle.encoding.proofs.Below.{tests, either, clash}
+use Rattle.encoding.proofs.Below.{tests, either}
 use Rattle.encoding.specs.Refusal.{firstFailed}
 use Rattle.refinement.specs.declared.walk.TreeLeaves.{TreeLeaves}
 use Rattle.refinement.specs.declared.walk.Walk.{Walk}
-use Rattle.refinement.specs.Refinement.{Row, end, leaf, refined, Kind, upright, inverted, one, turned, children, childKinds, shapeOk, leavesIn, leaves}
+use Rattle.refinement.specs.Refinement.{Row, Kind, upright, inverted, one, children, childKinds, shapeOk, leavesIn, leaves}
 use Rattle.refinement.specs.Reading.{Reading, stopped, found, afterLeaf, afterChildren, afterRefined, readRow, readChildren, readTree, whole, rowOf, stringOk, refinementOf}
 use Rattle.refinement.specs.Calls.{uprightLeaves, invertedLeaves, leafCount, countRefusal, leavesRefused, leavesAnswer, countLeaves}
 use Rattle.refinement.specs.Means.Trees.{treeAt, treeOf}
-use Rattle.refinement.specs.Means.Walks.{bitAt, leafed, onward, halted, afterBit, walkRow, walkOf, Passing}
+use Rattle.refinement.specs.Means.Walks.{bitAt, leafed, onward, afterBit, walkRow, walkOf, Passing}
 
 -- a walk on from w that has come to where reading leaves t, past the leaves of r
 record Come (shape : ℕ) (s : List ℕ) (ks : List Kind) (w : Walk) (r : Row) (t : List ℕ) (v : Walk) : Type 0 where

@@ -1,19 +1,18 @@
 -- Loops over a list of trees whose strings stand end to end.
 use Prim.Native.Nat.{ℕ, zero, suc, _+_, _-_, _≤_, _<_}
-use native.Mathlib.Nat.{le-refl}
 use native.Mathlib.Numerals.{add-one}
 use native.Mathlib.Omega.{arith}
 use mathlib.Core.Path.{_≡_, refl, sym, ap, _∙_}
-use mathlib.Core.Bool.{Bool, true, false, cond, _&&_, and-false}
-use mathlib.Core.List.{List, [], _∷_, _++_}
-use lib.Dec.{leb, ltb, eqb}
+use mathlib.Core.Bool.{Bool, true, false, _&&_, and-false}
+use mathlib.Core.List.{List, [], _∷_}
+use lib.Dec.{leb, eqb}
 use lib.ListN.{length, getD, take, drop, set, length-append, length-set}
 use borrow.Author.Tests.{lt-leb, le-leb, eq-eqb, ne-eqb, leb-true, eqb-true}
 use Rattle.encoding.specs.Answer.{written}
 use Rattle.encoding.specs.Refusal.{firstFailed}
 use Rattle.encoding.specs.Below.{allBelow, sumBelow}
 use Rattle.encoding.specs.Pieces.{piece, splice}
-use Rattle.encoding.proofs.Below.{either, clash, and-fst, and-snd, all-at, all-more, all-fails, all-to, sum-more, sum-mono}
+use Rattle.encoding.proofs.Below.{either, and-fst, and-snd, all-at, all-more, all-fails, sum-more, sum-mono}
 use Rattle.encoding.proofs.Pieces.{splice-none, splice-cons, splice-next, length-splice}
 use Rattle.offsets.specs.Leaves.{maxLeaves}
 use Rattle.offsets.specs.Limits.{treeCountOk}

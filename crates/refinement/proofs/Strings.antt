@@ -1,9 +1,8 @@
 -- Strings and refinements: each accepted string writes one refinement, and each refinement has one string.
-use Prim.Native.Nat.{ℕ, zero, suc, _+_}
+use Prim.Native.Nat.{ℕ, zero, suc}
 use mathlib.Core.Path.{_≡_, refl, sym, ap, _∙_}
-use mathlib.Core.Bool.{Bool, true, false, _&&_}
+use mathlib.Core.Bool.{Bool, true, false}
 use mathlib.Core.List.{List, [], _∷_, _++_, append-assoc, append-nil}
-use native.Mathlib.Omega.{arith}
 use Rattle.encoding.proofs.Below.{clash, and-fst, and-snd, and-intro}
 use Rattle.refinement.specs.Refinement.{Row, end, leaf, refined, children, maxDepth, fits, refines, bits}
 use Rattle.refinement.specs.Reading.{Reading, stopped, found, afterLeaf, afterChildren, afterRefined, readRow, readChildren, readTree, whole, rowOf, stringOk, refinementOf}

@@ -3,7 +3,7 @@ use Prim.Native.Nat.{ℕ, zero, suc, _+_, _≤_, _<_}
 use native.Mathlib.Omega.{arith}
 use mathlib.Core.Path.{_≡_, refl, sym, ap, _∙_}
 use mathlib.Core.Bool.{Bool, true, false, cond, _&&_}
-use mathlib.Core.List.{List, [], _∷_, _++_}
+use mathlib.Core.List.{List, [], _∷_}
 use lib.Dec.{leb, ltb, eqb}
 use lib.ListN.{length, getD, replicate, List·getD-append}
 use lib.Seq.{getD-at}
@@ -13,7 +13,7 @@ use Rattle.encoding.specs.Refusal.{firstFailed}
 use Rattle.encoding.proofs.Below.{either, clash, below-suc, and-fst, and-snd, and-intro, all-at, all-intro}
 use Rattle.offsets.specs.Leaves.{maxLeaves, leavesOk}
 use Rattle.offsets.specs.Limits.{treeCountOk}
-use Rattle.refinement.specs.Refinement.{Row, end, leaf, refined, Kind, upright, inverted, one, children, childKinds, shapeOk, maxDepth, fits, refines, bits, leavesIn, leaves}
+use Rattle.refinement.specs.Refinement.{Row, end, leaf, refined, Kind, upright, inverted, one, children, childKinds, maxDepth, fits, refines, bits, leavesIn, leaves}
 use Rattle.refinement.specs.Reading.{stringOk, refinementOf}
 use Rattle.refinement.specs.Calls.{uprightLeaves, invertedLeaves, leafCount, countRefusal, leavesAnswer, countLeaves, listBelow, stringStart, stringOf, treesOk, shapesOk, stringsOk, countOf, countsOk, countList, countsRefusal}
 use Rattle.refinement.specs.Promises.{CountsAreLeaves, OthersUpright, CountsMakeTables}

@@ -2,14 +2,14 @@
 use crate::walk;
 ghost use mathlib.Core.Path.{_≡_};
 ghost use Prim.Native.Nat.{_+_, _≤_, _<_, _^_};
-ghost use lib.ListN.{length, getD};
+ghost use lib.ListN.{length};
 ghost use lib.Dec.{eqb};
 ghost use mathlib.Core.Bool.{false, _&&_};
-ghost use Rattle.encoding.specs.Pieces.{piece, splice};
+ghost use Rattle.encoding.specs.Pieces.{splice};
 ghost use Rattle.offsets.specs.Limits.{treeCountOk};
 ghost use Rattle.refinement.specs.Refinement.{shapeOk};
 ghost use Rattle.refinement.specs.Calls.{shapesOk, countList};
-ghost use Rattle.refinement.specs.Means.Trees.{treeOf, seenOf, Ready};
+ghost use Rattle.refinement.specs.Means.Trees.{seenOf, Ready};
 
 // Whether all strings are in order, and then whether no tree has too many leaves.
 pub struct Seen {

@@ -6,64 +6,66 @@ use Rattle.refinement.proofs.Counts.{refused-string, refused-leaves, co
 use borrow.Author.Needs.{needs}
 use Rattle.refinement.proofs.count_leaves.Statement.{statement}
 use Rattle.refinement.proofs.count_leaves.Tie as tie
-use Rattle.refinement.proofs.count_leaves.Reads as reads
-use Rattle.refinement.proofs.count_leaves.Lts as lts
-use Rattle.refinement.proofs.leaves_refused.Reads as leaves-refused-reads
-use Rattle.refinement.proofs.trees.shape_ok.Reads as shape-ok-reads
-use Rattle.refinement.proofs.walk.tree.Reads as tree-reads
 
--- src/lib.rt:45:9
 shape-ok-requires : tie.Need-shape-ok-requires
 shape-ok-requires c κs = search needs
 
--- src/lib.rt:46:9
 leaves-refused-requires : tie.Need-leaves-refused-requires
 leaves-refused-requires c κs = search needs
 
--- src/lib.rt:46:9
 returns : tie.Need-returns
 unfolding countLeaves countRefusal leavesAnswer firstFailed
 returns c = simp (c .leaves-refused .ensures, ← c .before .before .shape-ok .ensures, not-true (c .before .before .shape-ok .result) (c .before .if1 .taken))
 
--- src/lib.rt:48:9
 tree-requires : tie.Need-tree-requires
 tree-requires c κs = search needs
 
--- src/lib.rt:50:9
 leaves-refused-requires-2 : tie.Need-leaves-refused-requires-2
 leaves-refused-requires-2 c κs = search needs
 
--- src/lib.rt:50:9
 returns-2 : tie.Need-returns-2
-returns-2 c = c .leaves-refused2 .ensures ∙ refused-string (c .before .before .before .before .before .before .before .args .shape) (c .before .before .before .before .before .before .before .args .bits .now) (c .before .before .before .tree .result) (c .before .before .before .tree .ensures .0) (sym (c .before .before .before .before .before .shape-ok .ensures) ∙ not-false _ (c .before .before .before .before .if1 .left)) (not-true _ (c .before .if2 .taken))
+returns-2 c =
+    let args = c .before .before .before .before .before .before .before .args in
+    let tree = c .before .before .before .tree in
+    let shape-ok = c .before .before .before .before .before .shape-ok in
+    let if1 = c .before .before .before .before .if1 in
+    let if2 = c .before .if2 in
+    c .leaves-refused2 .ensures ∙ refused-string (args .shape) (args .bits .now) (tree .result) (tree .ensures .0) (sym (shape-ok .ensures) ∙ not-false _ (if1 .left)) (not-true _ (if2 .taken))
 
--- src/lib.rt:52:13
 add-n : tie.Need-add-n
 add-n c = search needs
 
--- src/lib.rt:54:9
 leaves-refused-requires-3 : tie.Need-leaves-refused-requires-3
 leaves-refused-requires-3 c κs = search needs
 
--- src/lib.rt:54:9
 returns-3 : tie.Need-returns-3
-returns-3 c = c .leaves-refused3 .ensures ∙ refused-leaves (c .before .before .before .before .before .before .before .before .before .args .shape) (c .before .before .before .before .before .before .before .before .before .args .bits .now) (c .before .before .before .before .before .tree .result) (c .before .before .before .before .before .tree .ensures .0) (sym (c .before .before .before .before .before .before .before .shape-ok .ensures) ∙ not-false _ (c .before .before .before .before .before .before .if1 .left)) (not-false _ (c .before .before .before .if2 .left)) (c .before .if3 .taken)
+returns-3 c =
+    let args = c .before .before .before .before .before .before .before .before .before .args in
+    let tree = c .before .before .before .before .before .tree in
+    let shape-ok = c .before .before .before .before .before .before .before .shape-ok in
+    let if1 = c .before .before .before .before .before .before .if1 in
+    let if2 = c .before .before .before .if2 in
+    let if3 = c .before .if3 in
+    c .leaves-refused3 .ensures ∙ refused-leaves (args .shape) (args .bits .now) (tree .result) (tree .ensures .0) (sym (shape-ok .ensures) ∙ not-false _ (if1 .left)) (not-false _ (if2 .left)) (if3 .taken)
 
--- src/lib.rt:58:18
 cast-t7 : tie.Need-cast-t7
 cast-t7 c = search needs
 
--- src/lib.rt:59:19
 cast-t8 : tie.Need-cast-t8
 cast-t8 c = search needs
 
--- src/lib.rt:60:17
 cast-t9 : tie.Need-cast-t9
 cast-t9 c = search needs
 
--- src/lib.rt:42:1
 returns-4 : tie.Need-returns-4
-returns-4 c = counted (c .before .before .before .before .before .before .before .before .before .before .args .shape) (c .before .before .before .before .before .before .before .before .before .before .args .bits .now) (c .before .before .before .before .before .before .tree .result) (c .before .before .before .before .before .before .tree .ensures .0) (sym (c .before .before .before .before .before .before .before .before .shape-ok .ensures) ∙ not-false _ (c .before .before .before .before .before .before .before .if1 .left)) (not-false _ (c .before .before .before .before .if2 .left)) (c .before .before .if3 .left)
+returns-4 c =
+    let args = c .before .before .before .before .before .before .before .before .before .before .args in
+    let tree = c .before .before .before .before .before .before .tree in
+    let shape-ok = c .before .before .before .before .before .before .before .before .shape-ok in
+    let if1 = c .before .before .before .before .before .before .before .if1 in
+    let if2 = c .before .before .before .before .if2 in
+    let if3 = c .before .before .if3 in
+    counted (args .shape) (args .bits .now) (tree .result) (tree .ensures .0) (sym (shape-ok .ensures) ∙ not-false _ (if1 .left)) (not-false _ (if2 .left)) (if3 .left)
 
 pub count-leaves-spec : {M : Type 1} → statement M
 count-leaves-spec =

@@ -1,15 +1,14 @@
 -- Means, no part of what is promised: the result for one tree, and for all of a list.
-use Prim.Native.Nat.{ℕ, _+_, _≤_}
+use Prim.Native.Nat.{ℕ}
 use mathlib.Core.Path.{_≡_}
 use mathlib.Core.Bool.{Bool, true, false, cond, _&&_}
 use mathlib.Core.List.{List}
 use lib.Dec.{eqb}
-use lib.ListN.{length, getD}
-use Rattle.encoding.specs.Pieces.{piece}
+use lib.ListN.{length}
 use Rattle.refinement.specs.declared.trees.Seen.{Seen}
 use Rattle.refinement.specs.declared.walk.TreeLeaves.{TreeLeaves}
 use Rattle.refinement.specs.Reading.{stringOk}
-use Rattle.refinement.specs.Calls.{uprightLeaves, invertedLeaves, stringStart, stringsOk, countsOk}
+use Rattle.refinement.specs.Calls.{uprightLeaves, invertedLeaves, stringsOk, countsOk}
 
 -- where a walk has come to, if to the string's end
 unfoldable pub treeAt : ℕ → Bool → ℕ → ℕ → ℕ → TreeLeaves

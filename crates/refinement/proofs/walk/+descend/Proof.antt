@@ -2,7 +2,7 @@ use Rattle.refinement.specs.Refinement.{upright}
 use Rattle.refinement.proofs.Steps.{bit-within, bit-deep, leaf-upright, walk-halts, siblings-more, others-done}
 use Rattle.refinement.specs.Means.Walks.{asWalk, siblings, Passing}
 use native.Mathlib.Omega.{arith}
-use mathlib.Core.Path.{_≡_, refl, sym, _∙_}
+use mathlib.Core.Path.{_≡_, refl, _∙_}
 use borrow.Author.Needs.{needs}
 use Prim.Native.Nat.{ℕ, _<_}
 use borrow.Fn.Kinds.{In}

@@ -1,7 +1,6 @@
 use Rattle.refinement.specs.Refinement.{upright as standing, inverted as hanging}
 use Rattle.refinement.proofs.Steps.{bit-within, bit-deep, leaf-upright, leaf-inverted, walk-halts, walk-triangle}
 use native.Mathlib.Omega.{arith}
-use mathlib.Core.Path.{_≡_, sym, _∙_}
 use borrow.Author.Needs.{needs}
 use Prim.Native.Nat.{ℕ, _<_}
 use borrow.Fn.Kinds.{In}

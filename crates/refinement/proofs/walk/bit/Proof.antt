@@ -11,22 +11,39 @@ returns c = simp (not-true (c .before .args .ok) (c .if1 .taken))
 
 returns-2 : tie.Need-returns-2
 unfolding bitAt
-returns-2 c = simp (not-false (c .before .before .args .ok) (c .before .if1 .left), le-ltb (c .before .before .args .at) (length (c .before .before .args .s .now)) (c .if2 .taken))
+returns-2 c =
+    let args = c .before .before .args in
+    let if1 = c .before .if1 in
+    simp (not-false (args .ok) (if1 .left), le-ltb (args .at) (length (args .s .now)) (c .if2 .taken))
 
 shared-slice-read-b : tie.Need-shared-slice-read-b
 shared-slice-read-b c = search needs
 
 returns-3 : tie.Need-returns-3
 unfolding bitAt
-returns-3 c = simp (not-false (c .before .before .before .before .args .ok) (c .before .before .before .if1 .left), lt-ltb (c .before .before .before .before .args .at) (length (c .before .before .before .before .args .s .now)) (c .before .before .if2 .left), eq-eqb (getD (c .before .before .before .before .args .s .now) (c .before .before .before .before .args .at) 0) 0 (c .if3 .taken))
+returns-3 c =
+    let args = c .before .before .before .before .args in
+    let if1 = c .before .before .before .if1 in
+    let if2 = c .before .before .if2 in
+    simp (not-false (args .ok) (if1 .left), lt-ltb (args .at) (length (args .s .now)) (if2 .left), eq-eqb (getD (args .s .now) (args .at) 0) 0 (c .if3 .taken))
 
 returns-4 : tie.Need-returns-4
 unfolding bitAt
-returns-4 c = simp (not-false (c .before .before .before .before .before .args .ok) (c .before .before .before .before .if1 .left), lt-ltb (c .before .before .before .before .before .args .at) (length (c .before .before .before .before .before .args .s .now)) (c .before .before .before .if2 .left), ne-eqb (getD (c .before .before .before .before .before .args .s .now) (c .before .before .before .before .before .args .at) 0) 0 (c .before .if3 .left), c .if4 .taken)
+returns-4 c =
+    let args = c .before .before .before .before .before .args in
+    let if1 = c .before .before .before .before .if1 in
+    let if2 = c .before .before .before .if2 in
+    let if3 = c .before .if3 in
+    simp (not-false (args .ok) (if1 .left), lt-ltb (args .at) (length (args .s .now)) (if2 .left), ne-eqb (getD (args .s .now) (args .at) 0) 0 (if3 .left), c .if4 .taken)
 
 returns-5 : tie.Need-returns-5
 unfolding bitAt
-returns-5 c = simp (not-false (c .before .before .before .before .before .args .ok) (c .before .before .before .before .if1 .left), lt-ltb (c .before .before .before .before .before .args .at) (length (c .before .before .before .before .before .args .s .now)) (c .before .before .before .if2 .left), ne-eqb (getD (c .before .before .before .before .before .args .s .now) (c .before .before .before .before .before .args .at) 0) 0 (c .before .if3 .left), c .if4 .left)
+returns-5 c =
+    let args = c .before .before .before .before .before .args in
+    let if1 = c .before .before .before .before .if1 in
+    let if2 = c .before .before .before .if2 in
+    let if3 = c .before .if3 in
+    simp (not-false (args .ok) (if1 .left), lt-ltb (args .at) (length (args .s .now)) (if2 .left), ne-eqb (getD (args .s .now) (args .at) 0) 0 (if3 .left), c .if4 .left)
 
 pub bit-spec : {M : Type 1} → statement M
 bit-spec = tie.close (tie.spec returns returns-2 shared-slice-read-b returns-3 returns-4 returns-5)

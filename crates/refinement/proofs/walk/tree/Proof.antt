@@ -13,7 +13,11 @@ found-requires : tie.Need-found-requires
 found-requires c κs = search needs
 
 returns : tie.Need-returns
-returns c = triangle-found (c .before .before .before .before .args .shape) (c .before .before .before .before .args .s .now) (c .before .upright .result) (c .found .result) (c .before .before .if1 .taken) (c .before .upright .ensures .0) (c .before .upright .ensures .1) (c .found .ensures)
+returns c =
+    let args = c .before .before .before .before .args in
+    let upright = c .before .upright in
+    let if1 = c .before .before .if1 in
+    triangle-found (args .shape) (args .s .now) (upright .result) (c .found .result) (if1 .taken) (upright .ensures .0) (upright .ensures .1) (c .found .ensures)
 
 descend-requires : tie.Need-descend-requires
 descend-requires c κs = (ne-eqb _ _ (c .if1 .left), record { within = omega arith; few = omega arith })
@@ -22,7 +26,10 @@ found-requires-2 : tie.Need-found-requires-2
 found-requires-2 c κs = search needs
 
 returns-2 : tie.Need-returns-2
-returns-2 c = tree-found (c .before .before .before .before .args .shape) (c .before .before .before .before .args .s .now) (asWalk (c .before .descend .result)) (c .found2 .result) (c .before .descend .ensures .0) (c .before .descend .ensures .1) (c .found2 .ensures)
+returns-2 c =
+    let args = c .before .before .before .before .args in
+    let descend = c .before .descend in
+    tree-found (args .shape) (args .s .now) (asWalk (descend .result)) (c .found2 .result) (descend .ensures .0) (descend .ensures .1) (c .found2 .ensures)
 
 pub tree-spec : {M : Type 1} → statement M
 tree-spec =

@@ -7,16 +7,16 @@ use mathlib.Core.List.{List, [], _∷_}
 use lib.Dec.{leb, ltb, eqb}
 use lib.ListN.{length, getD, replicate, List·getD-append}
 use lib.Seq.{getD-at}
-use borrow.Author.Tests.{le-leb}
+use borrow.Author.Tests.{le-leb, leb-true}
 use Rattle.encoding.specs.Below.{allBelow}
 use Rattle.encoding.specs.Refusal.{firstFailed}
 use Rattle.encoding.proofs.Below.{either, clash, below-suc, and-fst, and-snd, and-intro, all-at, all-intro}
 use Rattle.offsets.specs.Leaves.{maxLeaves, leavesOk}
 use Rattle.offsets.specs.Limits.{treeCountOk}
-use Rattle.refinement.specs.Refinement.{Row, end, leaf, refined, Kind, upright, inverted, one, children, childKinds, maxDepth, fits, refines, bits, leavesIn, leaves}
+use Rattle.refinement.specs.Refinement.{shapeOk, Row, end, leaf, refined, Kind, upright, inverted, one, children, childKinds, maxDepth, fits, refines, bits, leavesIn, leaves}
 use Rattle.refinement.specs.Reading.{stringOk, refinementOf}
 use Rattle.refinement.specs.Calls.{uprightLeaves, invertedLeaves, leafCount, countRefusal, leavesAnswer, countLeaves, listBelow, stringStart, stringOf, treesOk, shapesOk, stringsOk, countOf, countsOk, countList, countsRefusal}
-use Rattle.refinement.specs.Promises.{CountsAreLeaves, OthersUpright, CountsMakeTables}
+use Rattle.refinement.specs.Promises.{CountsAreLeaves, OthersUpright, CountInLimits, CountsMakeTables, EachAsAlone}
 use Rattle.refinement.proofs.Strings.{written-is-accepted, accepted-fits}
 use Rattle.refinement.proofs.Counts.{kinds-length}
 use Rattle.refinement.proofs.Lists.{below-length}
@@ -77,12 +77,24 @@ below-at (suc n) g k h =
     (λ e. getD-at (listBelow n g) (g n) [] 0 k (below-length n g ∙ sym e) ∙ ap g (sym e))
 
 -- the checks that hold where nothing is refused
-passed : {C : Type 0} (a b c d e : Bool) → _≡_ {A = ℕ} (cond a (cond b (cond c (cond d (cond e 0 22) 25) 23) 24) 6) 0 → (a ≡ true → c ≡ true → d ≡ true → C) → C
+passed-one : {C : Type 0} (a b c : Bool) → _≡_ {A = ℕ} (cond a (cond b (cond c 0 25) 23) 24) 0 → (b ≡ true → c ≡ true → C) → C
+passed-one false b c h f = absurd (omega arith)
+passed-one true false c h f = absurd (omega arith)
+passed-one true true false h f = absurd (omega arith)
+passed-one true true true h f = f refl refl
+
+passed : {C : Type 0} (a b c d e : Bool) → _≡_ {A = ℕ} (cond a (cond b (cond c (cond d (cond e 0 22) 25) 23) 24) 6) 0 → (a ≡ true → b ≡ true → c ≡ true → d ≡ true → C) → C
 passed false b c d e h f = absurd (omega arith)
 passed true false c d e h f = absurd (omega arith)
 passed true true false d e h f = absurd (omega arith)
 passed true true true false e h f = absurd (omega arith)
-passed true true true true e h f = f refl refl refl
+passed true true true true e h f = f refl refl refl refl
+
+-- one tree's count is within the limits of a leaf count
+pub count-in-limits : CountInLimits
+unfolding countRefusal firstFailed
+count-in-limits shape s e =
+    passed-one (shapeOk shape) (stringOk shape s) (leb (leafCount shape s) maxLeaves) e (λ b c. (accepted-leaf shape s b, leb-true (leafCount shape s) maxLeaves c))
 
 table-counts : (shapes lengths bits : List ℕ) → treesOk shapes lengths ≡ true → stringsOk shapes lengths bits ≡ true → countsOk shapes lengths bits ≡ true → leavesOk (countList shapes lengths bits) ≡ true
 unfolding leavesOk countList treesOk stringsOk countsOk countOf
@@ -106,4 +118,22 @@ table-counts shapes lengths bits a c d =
 pub counts-make-tables : CountsMakeTables
 unfolding countsRefusal firstFailed
 counts-make-tables shapes lengths bits out e =
-    passed (treesOk shapes lengths) (shapesOk shapes) (stringsOk shapes lengths bits) (countsOk shapes lengths bits) (leb (length shapes) (length out)) e (table-counts shapes lengths bits)
+    passed (treesOk shapes lengths) (shapesOk shapes) (stringsOk shapes lengths bits) (countsOk shapes lengths bits) (leb (length shapes) (length out)) e
+    (λ a b c d. table-counts shapes lengths bits a c d)
+
+alone : (shape : ℕ) (s : List ℕ) → shapeOk shape ≡ true → stringOk shape s ≡ true → leb (leafCount shape s) maxLeaves ≡ true → (countRefusal shape s ≡ 0) × (leafCount shape s ≡ countLeaves shape s .leaves)
+unfolding countLeaves countRefusal leavesAnswer firstFailed leafCount
+alone shape s a b c = (rw (a, b, c), rw (a, b, c))
+
+-- in a list each tree has the count that it has by itself
+pub each-as-alone : EachAsAlone
+unfolding countsRefusal firstFailed shapesOk stringsOk countsOk countList countOf
+each-as-alone shapes lengths bits out e k h =
+    passed (treesOk shapes lengths) (shapesOk shapes) (stringsOk shapes lengths bits) (countsOk shapes lengths bits) (leb (length shapes) (length out)) e
+    (λ a b c d.
+    let r : (countRefusal (getD shapes k 0) (stringOf lengths bits k) ≡ 0) × (leafCount (getD shapes k 0) (stringOf lengths bits k) ≡ countLeaves (getD shapes k 0) (stringOf lengths bits k) .leaves) =
+    alone (getD shapes k 0) (stringOf lengths bits k) (all-at (length shapes) (λ j. shapeOk (getD shapes j 0)) b k h)
+    (all-at (length shapes) (λ j. stringOk (getD shapes j 0) (stringOf lengths bits j))
+    (and-snd (eqb (stringStart lengths (length shapes)) (length bits)) (allBelow (length shapes) (λ j. stringOk (getD shapes j 0) (stringOf lengths bits j))) c) k h)
+    (all-at (length shapes) (λ j. leb (countOf shapes lengths bits j) maxLeaves) d k h) in
+    (r .0, below-at (length shapes) (countOf shapes lengths bits) k h ∙ r .1))

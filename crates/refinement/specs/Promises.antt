@@ -1,13 +1,14 @@
 -- What is promised of the strings and of the counts.
-use Prim.Native.Nat.{ℕ, _+_, _≤_}
+use Prim.Native.Nat.{ℕ, _+_, _≤_, _<_}
 use mathlib.Core.Path.{_≡_}
 use mathlib.Core.Bool.{true, false}
 use mathlib.Core.List.{List}
 use lib.Dec.{eqb}
+use lib.ListN.{length, getD}
 use Rattle.offsets.specs.Leaves.{leavesOk, maxLeaves}
 use Rattle.refinement.specs.Refinement.{Row, upright, inverted, shapeOk, refines, bits, leaves}
 use Rattle.refinement.specs.Reading.{stringOk, refinementOf}
-use Rattle.refinement.specs.Calls.{countLeaves, countsRefusal, countList}
+use Rattle.refinement.specs.Calls.{leafCount, countRefusal, countLeaves, stringOf, countsRefusal, countList}
 
 -- an accepted string is that of its refinement, and of no other
 abbrev pub AcceptedIsWritten : Type 0
@@ -36,3 +37,13 @@ CountsAreLeaves =
 -- only triangles have inverted leaves
 abbrev pub OthersUpright : Type 0
 OthersUpright = (shape : ℕ) (r : Row) → eqb shape 1 ≡ false → leaves shape inverted r ≡ 0
+
+-- one tree's count is within the limits of a leaf count
+abbrev pub CountInLimits : Type 0
+CountInLimits = (shape : ℕ) (s : List ℕ) → countRefusal shape s ≡ 0 → (1 ≤ leafCount shape s) × (leafCount shape s ≤ maxLeaves)
+
+-- in a list each tree has the count that it has by itself
+abbrev pub EachAsAlone : Type 0
+EachAsAlone =
+    (shapes lengths bits out : List ℕ) → countsRefusal shapes lengths bits out ≡ 0 → (k : ℕ) → k < length shapes →
+    (countRefusal (getD shapes k 0) (stringOf lengths bits k) ≡ 0) × (getD (countList shapes lengths bits) k 0 ≡ countLeaves (getD shapes k 0) (stringOf lengths bits k) .leaves)

@@ -1,3 +1,5 @@
+-- The cycle of calls {descend}. The measure is the depth that remains. The loop over the children keeps what is left of the row: walking it from here gives
+-- what walking all of it gave at first.
 use Rattle.refinement.specs.Refinement.{upright}
 use Rattle.refinement.proofs.Steps.{bit-within, bit-deep, leaf-upright, walk-halts, siblings-more, others-done}
 use Rattle.refinement.specs.Means.Walks.{asWalk, siblings, Passing}

@@ -1,3 +1,5 @@
+-- The cycle of calls {inverted, upright}. The measure of both is the depth that remains. By the byte it is a leaf, a stop, or four children in a row (`walk-triangle`);
+-- a walk passes no more leaves than bytes (`Passing`), so no count wraps.
 use Rattle.refinement.specs.Refinement.{upright as standing, inverted as hanging}
 use Rattle.refinement.proofs.Steps.{bit-within, bit-deep, leaf-upright, leaf-inverted, walk-halts, walk-triangle}
 use native.Mathlib.Omega.{arith}

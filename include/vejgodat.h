@@ -1249,6 +1249,110 @@ vejgodat_length     vejgodat_close_area (const uint8_t * area,
 
 /** @} */
 
+/** \name Refinement strings
+ *
+ * A tree's refinement as a string in depth-first order, one byte for each
+ * element: 1 for a refined one, whose children follow, and 0 for a leaf. The
+ * root is at depth 0; an element at \ref VEJGODAT_MAX_DEPTH is a leaf.
+ * Quadrilaterals and triangles have 4 children, hexahedra and tetrahedra 8;
+ * prisms and pyramids have no such string.
+ *
+ * A triangle is upright or inverted, and a tree's root is upright. The children
+ * of a triangle are, in this order, those at corner 0 and at corner 1, the
+ * middle one, and the one at corner 2. Those at the corners are of their
+ * parent's kind and the middle one is of the other. Elements of every other
+ * shape count as upright.
+ *
+ * Every string that is accepted is that of one refinement, and the only string
+ * for it; every refinement has one.
+ * @{ */
+
+/** How deep below its root a tree may be refined. */
+#define VEJGODAT_MAX_DEPTH 20
+
+/** Further refusals. They are checked in the order SHAPE, STRING, LEAVES, each
+ * of all trees before the next, after \ref VEJGODAT_PARTITION and before
+ * \ref VEJGODAT_BUFFER. */
+enum
+{
+  VEJGODAT_STRING = 23,         /**< A refinement string has a byte above 1, ends
+                                     early, has bytes left or goes too deep. */
+  VEJGODAT_SHAPE = 24,          /**< A shape has no refinement strings. */
+  VEJGODAT_LEAVES = 25          /**< A tree has too many leaves. */
+};
+
+/** The leaves of a tree. When refused, every field but the first is 0. */
+typedef struct
+{
+  uint32_t            refusal;  /**< 0, or the first check that failed. */
+  uint32_t            upright;  /**< How many leaves are upright. */
+  uint32_t            inverted; /**< How many are inverted. */
+  uint32_t            leaves;   /**< How many there are, the sum of both. */
+}
+vejgodat_leaves;
+
+/** How many numbers were written. When refused, the count is 0. */
+typedef struct
+{
+  uint32_t            refusal;  /**< 0, or the first check that failed. */
+  uint32_t            count;    /**< How many numbers were written. */
+}
+vejgodat_count;
+
+/** Count the leaves of a tree's refinement.
+ *
+ * Checks, in this order: \ref VEJGODAT_SHAPE (24) if \a shape isn't 0, 1, 2 or
+ * 3; \ref VEJGODAT_STRING (23) if \a bits isn't the string of a refinement of
+ * that shape, for whatever reason; \ref VEJGODAT_LEAVES (25) if there are more
+ * than \ref VEJGODAT_MAX_LEAVES leaves.
+ * Cost: one pass over the string.
+ *
+ * \param [in] shape      The shape of the tree; any number.
+ * \param [in] bits       Its string; any bytes. Not changed.
+ * \param [in] bits_len   The number of bytes.
+ * \return                The leaves of each kind, and all of them.
+ */
+vejgodat_leaves     vejgodat_count_leaves (uint32_t shape,
+                                           const uint8_t * bits,
+                                           size_t bits_len);
+
+/** Count the leaves of each tree of a list.
+ *
+ * The strings stand end to end in \a bits, in the order of the trees. The
+ * counts are always ones that \ref vejgodat_table_from_leaves takes.
+ *
+ * Checks, in this order, each of all trees before the next:
+ * \ref VEJGODAT_PARTITION (6) if \a lengths_len isn't \a shapes_len or this
+ * isn't within K's limits; \ref VEJGODAT_SHAPE (24) and
+ * \ref VEJGODAT_STRING (23) as \ref vejgodat_count_leaves, 23 also if the sum
+ * of the lengths isn't \a bits_len; \ref VEJGODAT_LEAVES (25) if a tree has
+ * more than \ref VEJGODAT_MAX_LEAVES leaves, their total being free;
+ * \ref VEJGODAT_BUFFER (22) if \a out_len is below the number of trees.
+ * Cost: two passes over the strings.
+ *
+ * \param [in] shapes      The shape of each tree; any numbers. Not changed.
+ * \param [in] shapes_len  The number of entries, which is K.
+ * \param [in] lengths     The length of each tree's string in bytes; any
+ *                         numbers. Not changed.
+ * \param [in] lengths_len The number of entries of \a lengths.
+ * \param [in] bits        The strings, end to end; any bytes. Not changed.
+ * \param [in] bits_len    The number of bytes.
+ * \param [out] out        Its first K entries become the leaf counts; the
+ *                         entries behind them stay. When refused, all of them
+ *                         stay.
+ * \param [in] out_len     The number of entries, not bytes, of \a out.
+ * \return                 The number of counts written, K.
+ */
+vejgodat_count      vejgodat_leaf_counts (const uint32_t * shapes,
+                                          size_t shapes_len,
+                                          const uint32_t * lengths,
+                                          size_t lengths_len,
+                                          const uint8_t * bits,
+                                          size_t bits_len,
+                                          uint32_t * out, size_t out_len);
+
+/** @} */
+
 #ifdef __cplusplus
 }
 #endif

@@ -640,6 +640,53 @@ areas (void)
   }
 }
 
+/* A triangle's refinements, strings that aren't any, and a list of trees whose counts become a table. */
+static void
+refinements (void)
+{
+  static const uint8_t middle[9] = { 1, 0, 0, 1, 0, 0, 0, 0, 0 };
+  static const uint8_t last[9] = { 1, 0, 0, 0, 1, 0, 0, 0, 0 };
+  static const uint32_t shapes[3] = { 1, 0, 2 };
+  static const uint32_t lengths[3] = { 9, 1, 9 };
+  uint8_t             bits[19], deep[85], table[24];
+  uint32_t            counts[4] = { 5, 5, 5, 5 };
+  vejgodat_leaves     leaves;
+  vejgodat_count      answer;
+
+  EXPECT (sizeof (vejgodat_leaves) == 16);
+  EXPECT (sizeof (vejgodat_count) == 8);
+  leaves = vejgodat_count_leaves (1, middle, 9);
+  EXPECT (leaves.refusal == VEJGODAT_OK && leaves.leaves == 7);
+  EXPECT (leaves.upright == 4 && leaves.inverted == 3);
+  leaves = vejgodat_count_leaves (1, last, 9);
+  EXPECT (leaves.refusal == VEJGODAT_OK && leaves.leaves == 7);
+  EXPECT (leaves.upright == 5 && leaves.inverted == 2);
+  leaves = vejgodat_count_leaves (1, last, 8);
+  EXPECT (leaves.refusal == VEJGODAT_STRING && leaves.leaves == 0);
+  EXPECT (leaves.upright == 0 && leaves.inverted == 0);
+  EXPECT (vejgodat_count_leaves (4, NULL, 0).refusal == VEJGODAT_SHAPE);
+  /* refined elements inside one another */
+  memset (deep, 0, sizeof deep);
+  memset (deep, 1, VEJGODAT_MAX_DEPTH);
+  EXPECT (vejgodat_count_leaves (0, deep, 81).leaves == 61);
+  deep[VEJGODAT_MAX_DEPTH] = 1;
+  EXPECT (vejgodat_count_leaves (0, deep, 85).refusal == VEJGODAT_STRING);
+
+  memcpy (bits, middle, 9);
+  memset (bits + 9, 0, 10);
+  bits[10] = 1;
+  answer = vejgodat_leaf_counts (shapes, 3, lengths, 3, bits, 19, counts, 2);
+  EXPECT (answer.refusal == VEJGODAT_BUFFER && answer.count == 0);
+  answer = vejgodat_leaf_counts (shapes, 3, lengths, 2, bits, 19, counts, 4);
+  EXPECT (answer.refusal == VEJGODAT_PARTITION && answer.count == 0);
+  EXPECT (counts[0] == 5 && counts[3] == 5);
+  answer = vejgodat_leaf_counts (shapes, 3, lengths, 3, bits, 19, counts, 4);
+  EXPECT (answer.refusal == VEJGODAT_OK && answer.count == 3);
+  EXPECT (counts[0] == 7 && counts[1] == 1 && counts[2] == 8);
+  EXPECT (counts[3] == 5);
+  EXPECT (vejgodat_table_from_leaves (2, counts, 3, table, 24).length == 24);
+}
+
 int
 main (void)
 {
@@ -658,5 +705,6 @@ main (void)
   parts ();
   messages ();
   areas ();
+  refinements ();
   return wrong == 0 ? 0 : 1;
 }

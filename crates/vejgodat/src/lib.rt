@@ -14,6 +14,7 @@ ghost use Rattle.part_check.specs.Calls.{partRefusal};
 ghost use Rattle.part_neighbour.specs.Calls.{neighbourAnswer};
 ghost use Rattle.lookup.specs.Lookup.{foundRecord};
 ghost use Rattle.part_neighbour.specs.Neighbour.{flatAnswer};
+ghost use Rattle.refinement.specs.Calls.{countLeaves, leafCounts};
 ghost use Rattle.pattern.specs.Calls.{senderOf, treesSent, sendSetOf, receiveSetOf};
 use area_open::Progress;
 use encoding::answer::Length;
@@ -24,6 +25,8 @@ use pattern::Ranks;
 use pattern::SenderAnswer;
 use records::index::GlobalIndex;
 use records::index::LocalIndex;
+use refinement::Count;
+use refinement::Leaves;
 
 // 10000 major + 100 minor + patch
 #[no_mangle]
@@ -249,4 +252,23 @@ pub extern "C" fn vejgodat_close_area(area: &[u8], out: &mut [u8]) -> Length
     ensures { λ r. ⌜ (r, now (out .exit)) ≡ closeOf (now (area .entry)) (now (out .entry)) ⌝ }
 {
     close::close_area(area, out)
+}
+
+#[no_mangle]
+pub extern "C" fn vejgodat_count_leaves(shape: u32, bits: &[u8]) -> Leaves
+    ensures { λ r. ⌜ r ≡ countLeaves shape (now (bits .entry)) ⌝ }
+{
+    refinement::count_leaves(shape, bits)
+}
+
+#[no_mangle]
+pub extern "C" fn vejgodat_leaf_counts(
+    shapes: &[u32],
+    lengths: &[u32],
+    bits: &[u8],
+    out: &mut [u32],
+) -> Count
+    ensures { λ r. ⌜ (r, now (out .exit)) ≡ leafCounts (now (shapes .entry)) (now (lengths .entry)) (now (bits .entry)) (now (out .entry)) ⌝ }
+{
+    refinement::leaf_counts(shapes, lengths, bits, out)
 }

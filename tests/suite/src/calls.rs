@@ -31,7 +31,7 @@ pub struct Calls {
     pub old: Arena,
     pub new: Arena,
     pub list: Arena,
-    other_list: Arena,
+    pub other_list: Arena,
     pub out: Arena,
     /// a mesh, a part, a message or an area
     pub object: Arena,

@@ -11,6 +11,7 @@ mod message_model;
 mod model;
 mod part_model;
 mod random;
+mod refinement_model;
 
 use calls::Calls;
 use random::Random;
@@ -44,6 +45,7 @@ groups! {
     part
     message
     area
+    refinement
     refusals
 }
 

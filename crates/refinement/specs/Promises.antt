@@ -1,0 +1,49 @@
+-- What is promised of the strings and of the counts.
+use Prim.Native.Nat.{ℕ, _+_, _≤_, _<_}
+use mathlib.Core.Path.{_≡_}
+use mathlib.Core.Bool.{true, false}
+use mathlib.Core.List.{List}
+use lib.Dec.{eqb}
+use lib.ListN.{length, getD}
+use Rattle.leaves.specs.Leaves.{leavesOk, maxLeaves}
+use Rattle.refinement.specs.Refinement.{Row, upright, inverted, shapeOk, refines, bits, leaves}
+use Rattle.refinement.specs.Reading.{stringOk, refinementOf}
+use Rattle.refinement.specs.Calls.{leafCount, countRefusal, countLeaves, stringOf, countsRefusal, countList}
+
+-- an accepted string is that of its refinement, and of no other
+abbrev pub AcceptedIsWritten : Type 0
+AcceptedIsWritten =
+    (shape : ℕ) (s : List ℕ) → stringOk shape s ≡ true →
+    ((refines shape (refinementOf shape s) ≡ true) × (s ≡ bits (refinementOf shape s))) × ((r : Row) → refines shape r ≡ true → s ≡ bits r → r ≡ refinementOf shape s)
+
+-- the string of every refinement is accepted and read back
+abbrev pub WrittenIsAccepted : Type 0
+WrittenIsAccepted = (shape : ℕ) (r : Row) → refines shape r ≡ true → (stringOk shape (bits r) ≡ true) × (refinementOf shape (bits r) ≡ r)
+
+-- accepted strings of one refinement are one string
+abbrev pub OnlyString : Type 0
+OnlyString = (shape : ℕ) (s t : List ℕ) → stringOk shape s ≡ true → stringOk shape t ≡ true → refinementOf shape s ≡ refinementOf shape t → s ≡ t
+
+-- the counts are counts that the table from leaf counts takes
+abbrev pub CountsMakeTables : Type 0
+CountsMakeTables = (shapes lengths bits out : List ℕ) → countsRefusal shapes lengths bits out ≡ 0 → leavesOk (countList shapes lengths bits) ≡ true
+
+-- the answer for a refinement's string is its upright leaves, its inverted ones, and their sum
+abbrev pub CountsAreLeaves : Type 0
+CountsAreLeaves =
+    (shape : ℕ) (r : Row) → shapeOk shape ≡ true → refines shape r ≡ true → leaves shape upright r + leaves shape inverted r ≤ maxLeaves →
+    countLeaves shape (bits r) ≡ record { refusal = 0; upright = leaves shape upright r; inverted = leaves shape inverted r; leaves = leaves shape upright r + leaves shape inverted r }
+
+-- only triangles have inverted leaves
+abbrev pub OthersUpright : Type 0
+OthersUpright = (shape : ℕ) (r : Row) → eqb shape 1 ≡ false → leaves shape inverted r ≡ 0
+
+-- one tree's count is within the limits of a leaf count
+abbrev pub CountInLimits : Type 0
+CountInLimits = (shape : ℕ) (s : List ℕ) → countRefusal shape s ≡ 0 → (1 ≤ leafCount shape s) × (leafCount shape s ≤ maxLeaves)
+
+-- in a list each tree has the count that it has by itself
+abbrev pub EachAsAlone : Type 0
+EachAsAlone =
+    (shapes lengths bits out : List ℕ) → countsRefusal shapes lengths bits out ≡ 0 → (k : ℕ) → k < length shapes →
+    (countRefusal (getD shapes k 0) (stringOf lengths bits k) ≡ 0) × (getD (countList shapes lengths bits) k 0 ≡ countLeaves (getD shapes k 0) (stringOf lengths bits k) .leaves)

@@ -226,8 +226,8 @@
  * ## Refusals
  *
  * Each call checks its input itself and returns a refusal: 0, or the number of
- * the first check that fails. The checks come in ascending order of their
- * numbers, and each is made of all arguments before the next one is made of
+ * the first check that fails. The checks come in the order 2 to 8, 24, 23, 25,
+ * 9 to 22, and each is made of all arguments before the next one is made of
  * any: of two tables, a bad length (2) decides before bad entries (3),
  * whichever of the two has them. The numbers of this header's calls are those
  * of \ref VEJGODAT_OK and the names that follow it, and
@@ -348,7 +348,11 @@ enum
   VEJGODAT_FULL = 19,           /**< There are more ghosts than slots. */
   VEJGODAT_MISSING = 20,        /**< Not every sender is heard. */
   VEJGODAT_JOIN = 21,           /**< The joined part isn't sound. */
-  VEJGODAT_BUFFER = 22          /**< A buffer is too short. */
+  VEJGODAT_BUFFER = 22,         /**< A buffer is too short. */
+  VEJGODAT_STRING = 23,         /**< A refinement string has a byte above 1, ends
+                                     early, has bytes left or goes too deep. */
+  VEJGODAT_SHAPE = 24,          /**< A shape has no refinement strings. */
+  VEJGODAT_LEAVES = 25          /**< A tree has too many leaves. */
 };
 
 /** Say what a refusal means, as part of a sentence without its full stop.
@@ -410,6 +414,14 @@ vejgodat_refusal_text (uint32_t refusal)
     return "the joined part isn't sound";
   case VEJGODAT_BUFFER:
     return "a buffer is too short";
+  case VEJGODAT_STRING:
+    return "a refinement string has a byte above 1, ends early, has bytes left"
+      " or goes deeper than 20";
+  case VEJGODAT_SHAPE:
+    return "the shape is a prism, a pyramid or none, and has no refinement"
+      " strings";
+  case VEJGODAT_LEAVES:
+    return "a tree has over 16,777,216 leaves";
   default:
     return refusal <= 33 ? "reserved: no call of this version gives it"
       : "no refusal of this library";
@@ -1269,17 +1281,6 @@ vejgodat_length     vejgodat_close_area (const uint8_t * area,
 
 /** How deep below its root a tree may be refined. */
 #define VEJGODAT_MAX_DEPTH 20
-
-/** Further refusals. They are checked in the order SHAPE, STRING, LEAVES, each
- * of all trees before the next, after \ref VEJGODAT_PARTITION and before
- * \ref VEJGODAT_BUFFER. */
-enum
-{
-  VEJGODAT_STRING = 23,         /**< A refinement string has a byte above 1, ends
-                                     early, has bytes left or goes too deep. */
-  VEJGODAT_SHAPE = 24,          /**< A shape has no refinement strings. */
-  VEJGODAT_LEAVES = 25          /**< A tree has too many leaves. */
-};
 
 /** The leaves of a tree. When refused, every field but the first is 0. */
 typedef struct

@@ -35,10 +35,18 @@ module _ (old new : List ℕ) where
   unfolding sendSet
   send-length p = kept-length (ranks old) (sendsTo old new p)
 
-  -- it ascends strictly
+  pub receive-length : (q : ℕ) → length (receiveSet old new q) ≡ countBelow (ranks old) (getsFrom old new q)
+  unfolding receiveSet
+  receive-length q = kept-length (ranks old) (getsFrom old new q)
+
+  -- both ascend strictly
   pub send-ascends : (p i j d : ℕ) → i < j → j < length (sendSet old new p) → getD (sendSet old new p) i d < getD (sendSet old new p) j d
   unfolding sendSet
   send-ascends p i j d h l = kept-ascends (ranks old) (sendsTo old new p) i j d h (rw (send-length p) at l)
+
+  pub receive-ascends : (q i j d : ℕ) → i < j → j < length (receiveSet old new q) → getD (receiveSet old new q) i d < getD (receiveSet old new q) j d
+  unfolding receiveSet
+  receive-ascends q i j d h l = kept-ascends (ranks old) (getsFrom old new q) i j d h (rw (receive-length q) at l)
 
 -- ---- who is in them
 

@@ -34,8 +34,7 @@ use Rattle.area.specs.Deliver.{among, oneOf, sameRun, senderDue, treesDue, besi
 use Rattle.area_theorems.proofs.Zones.{Reads, dimension-small, area-same}
 use Rattle.repartition.proofs.Canonical.{slotHeard, ghostHeard, ghostsHeard, canonical}
 use Rattle.repartition.specs.Run.{Run, Setting}
-use Rattle.repartition.specs.Refusals.{deliver}
-use Rattle.repartition.specs.Lists.{Built, hears}
+use Rattle.repartition.specs.Lists.{deliver, Built, hears}
 use Rattle.repartition.proofs.Receive.{InReceive, built-due}
 use Rattle.area_theorems.proofs.Counting.{count-apart}
 use Rattle.repartition.proofs.Counting.{neighbour-beside}

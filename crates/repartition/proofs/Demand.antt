@@ -35,8 +35,7 @@ use Rattle.part.specs.Part.{partCount, partGhostCount, storedTree, storedGhost}
 use Rattle.part_theorems.proofs.CutSound.{range-local}
 use Rattle.area.specs.Close.{closeOf}
 use Rattle.repartition.specs.Run.{Run, Setting}
-use Rattle.repartition.specs.Lists.{Call, close, countIn, treeIn, ghostWith, Built, AllBuilt, messageOf, opened, hears, hearsAll, nobody, allDue, areaAfterAll, answersOf, dueAll, acceptedBy, newPart}
-use Rattle.repartition.specs.Refusals.{deliver}
+use Rattle.repartition.specs.Lists.{deliver, Call, close, countIn, treeIn, ghostWith, Built, AllBuilt, messageOf, opened, hears, hearsAll, nobody, allDue, areaAfterAll, answersOf, dueAll, acceptedBy, newPart}
 use Rattle.repartition.specs.Demand.{Demand3, size, heardBy, bytesAfter, cameIn, closeAfter}
 use Rattle.repartition.proofs.Receive.{InReceive, nobody-receive, hears-receive}
 use Rattle.repartition.proofs.Sequences.{Steps, after-all, answers-all, accepted-times}

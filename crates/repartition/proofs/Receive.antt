@@ -9,8 +9,7 @@ use Rattle.offsets.specs.Table.{ranks}
 use Rattle.pattern.specs.Sets.{sendsTo, getsFrom}
 use Rattle.pattern.proofs.Sets.{gets-sends}
 use Rattle.repartition.specs.Run.{Run, Setting}
-use Rattle.repartition.specs.Refusals.{deliver}
-use Rattle.repartition.specs.Lists.{Built, hears, nobody}
+use Rattle.repartition.specs.Lists.{deliver, Built, hears, nobody}
 
 -- only ranks of the receive set are heard
 pub record InReceive (run : Run) (H : ℕ → Bool) : Type 0 where

@@ -14,8 +14,7 @@ use Rattle.area.specs.Deliver.{deliverOf}
 use Rattle.area.specs.Close.{closeOf}
 use Rattle.repartition.proofs.Canonical.{canonical}
 use Rattle.repartition.specs.Run.{Run, Setting}
-use Rattle.repartition.specs.Lists.{Call, close, Answer, countIn, Built, AllBuilt, messageOf, areaAfter, answerOf, areaAfterAll, answersOf, acceptedBy, hears, hearsAll, allDue, due, dueAll}
-use Rattle.repartition.specs.Refusals.{deliver}
+use Rattle.repartition.specs.Lists.{deliver, Call, close, Answer, countIn, Built, AllBuilt, messageOf, areaAfter, answerOf, areaAfterAll, answersOf, acceptedBy, hears, hearsAll, allDue, due, dueAll}
 use Rattle.repartition.proofs.Receive.{InReceive, hears-receive}
 
 module _ (run : Run) (S : Setting run) where

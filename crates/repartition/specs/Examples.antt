@@ -15,8 +15,7 @@ use Rattle.part.specs.Cut.{cutPart}
 use Rattle.part_cut.specs.Calls.{cutPartOf}
 use Rattle.message.specs.Calls.{buildMessageOf}
 use Rattle.repartition.specs.Run.{Run}
-use Rattle.repartition.specs.Lists.{Call, close, Answer, delivery, closing, opened, answersOf}
-use Rattle.repartition.specs.Refusals.{deliver}
+use Rattle.repartition.specs.Lists.{deliver, Call, close, Answer, delivery, closing, opened, answersOf}
 use Rattle.repartition.specs.Demand.{bytesAfter}
 
 -- ---- answers

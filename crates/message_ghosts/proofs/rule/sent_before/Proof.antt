@@ -18,7 +18,7 @@ holds-requires-2 c κs = rank-row (c .before .before .before .pre)
 
 returns : tie.Need-returns
 unfolding sentBefore
-returns c = rw (c .before .holds .ensures, c .passes2 .ensures)
+returns c = rw (c .before .holds .ensures, c .holds2 .ensures)
 
 pub sent-before-spec : {M : Type 1} → statement M
 sent-before-spec = tie.close (tie.spec cast-holds holds-requires cast-holds-2 holds-requires-2 returns)

@@ -1,0 +1,3 @@
+-- Laws, for this crate's proofs and for the crates above.
+pub mod Counting
+pub mod Answers

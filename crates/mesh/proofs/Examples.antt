@@ -9,7 +9,7 @@ use Rattle.encoding.specs.Numbers.{leValue, leBytes, leAt}
 use Rattle.encoding.specs.Pieces.{piece}
 use Rattle.offsets.specs.Limits.{treeCountOk}
 use Rattle.records.specs.Shape.{shapeOk, dimensionOf, faceCount, facesIn, cornersOf, corners}
-use Rattle.records.specs.Record.{numberOf, shapeOf, neighbourOf, codeOf, facesOf, faceOf, orientationOf, tailOk, zerosOk, unused, unusedOk, toItself, boundaryOk, inForm}
+use Rattle.records.specs.Record.{numberOf, shapeOf, neighbourOf, codeOf, facesOf, faceOf, orientationOf, regionOf, regionOk, zerosOk, unused, unusedOk, toItself, boundaryOk, inForm}
 use Rattle.mesh.specs.Link.{orientationOk, sameCorners, answered, linkOk}
 use Rattle.mesh.specs.Mesh.{meshDimension, meshTrees, dimensionOk, meshCore, faceSound, treeSound, headerSound, meshSound}
 
@@ -36,5 +36,5 @@ periodic codes = numbers (2 ∷ 1 ∷ []) ++ treeBytes 0 0 (0 ∷ 0 ∷ 0 ∷ 0 
 
 -- the three triangles are sound, and so is a quadrilateral whose faces 0 and 1 are linked to each other and, with orientation 1, faces 2 and 3; it isn't where face 3 answers with orientation 0
 pub small-meshes : (meshSound triangles ≡ true) × (meshSound (periodic (1 ∷ 0 ∷ 7 ∷ 6 ∷ 0 ∷ 0 ∷ [])) ≡ true) × (meshSound (periodic (1 ∷ 0 ∷ 7 ∷ 2 ∷ 0 ∷ 0 ∷ [])) ≡ false)
-unfolding meshSound headerSound meshDimension meshTrees dimensionOk treeCountOk meshCore treeSound faceSound linkOk orientationOk sameCorners answered shapeOk dimensionOf faceCount facesIn cornersOf corners numberOf shapeOf neighbourOf codeOf facesOf faceOf orientationOf tailOk zerosOk unusedOk toItself boundaryOk inForm allBelow leAt leValue leBytes piece numbers treeBytes triangle triangles periodic
+unfolding meshSound headerSound meshDimension meshTrees dimensionOk treeCountOk meshCore treeSound faceSound linkOk orientationOk sameCorners answered shapeOk dimensionOf faceCount facesIn cornersOf corners numberOf shapeOf neighbourOf codeOf facesOf faceOf orientationOf regionOf regionOk zerosOk unusedOk toItself boundaryOk inForm allBelow leAt leValue leBytes piece numbers treeBytes triangle triangles periodic
 small-meshes = (refl, refl, refl)

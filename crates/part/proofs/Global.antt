@@ -10,10 +10,10 @@ use Rattle.encoding.specs.Pieces.{Bytes}
 use Rattle.encoding.proofs.Below.{either}
 use Rattle.encoding.proofs.Pieces.{piece-length, bytes-piece}
 use Rattle.records.specs.Shape.{facesIn}
-use Rattle.records.specs.Record.{coreSize, unused, numberOf, shapeOf, neighbourOf, codeOf, facesOf, faceOf, orientationOf, zerosOk}
+use Rattle.records.specs.Record.{coreSize, unused, numberOf, shapeOf, neighbourOf, codeOf, facesOf, faceOf, orientationOf, zerosOk, regionOf}
 use Rattle.records.specs.Links.{cell, rowOf, rowsOf}
 use Rattle.records.proofs.Forms.{number-word}
-use Rattle.records.proofs.Rows.{with-number, with-shape, with-zeros, with-neighbour, with-code}
+use Rattle.records.proofs.Rows.{with-number, with-shape, with-zeros, with-region, with-neighbour, with-code}
 use Rattle.part.specs.Layout.{treePlace}
 use Rattle.part.specs.Cut.{renamed, renameRow}
 use Rattle.part.specs.Part.{partDimension, partCount, partGhostCount, storedTree, storedGhost, globalIndex, globalTree}
@@ -24,10 +24,11 @@ pub record Alike (r s : List ℕ) : Type 0 where
   pub number : numberOf r ≡ numberOf s
   pub shape : shapeOf r ≡ shapeOf s
   pub zeros : zerosOk r ≡ zerosOk s
+  pub region : regionOf r ≡ regionOf s
   pub code : (f : ℕ) → f < 6 → codeOf r f ≡ codeOf s f
 
 pub alike-itself : (r : List ℕ) → Alike r r
-alike-itself r = record { number = refl; shape = refl; zeros = refl; code = λ f h. refl }
+alike-itself r = record { number = refl; shape = refl; zeros = refl; region = refl; code = λ f h. refl }
 
 module _ {r s : List ℕ} (same : Alike r s) where
   alike-faces : facesOf r ≡ facesOf s
@@ -71,6 +72,7 @@ module _ (rename : ℕ → ℕ) (F : ℕ) (r : List ℕ) where
           number = with-number _ F r l;
           shape = with-shape _ F r l;
           zeros = with-zeros _ F r l;
+          region = with-region _ F r l;
           code = λ f h. with-code _ F r l f h ∙ renamed-codes f h;
         }
 
@@ -104,7 +106,7 @@ module _ (part : List ℕ) (bytes : Bytes part) where
     unfolding storedTree
     stored-core = piece-length part (treePlace i) coreSize fits
 
-    -- number, shape, zero bytes and codes are those stored
+    -- number, shape, zero bytes, region and codes are those stored
     pub global-alike : Alike (globalTree part i) (storedTree part i)
     unfolding globalTree
     global-alike = renamed-alike (globalIndex part) (facesIn (partDimension part)) (storedTree part i) stored-core

@@ -11,7 +11,7 @@ use Rattle.encoding.specs.Below.{allBelow, anyBelow, leastBelow}
 use Rattle.encoding.proofs.Below.{tests, either, clash, and-fst, and-snd, and-intro, iff-eq, below-suc, all-at, all-intro, all-same, any-intro, any-none, least-is}
 use Rattle.offsets.specs.Limits.{maxTrees}
 use Rattle.records.specs.Shape.{dimensionOf, faceCount, shapeOk}
-use Rattle.records.specs.Record.{unused, numberOf, shapeOf, neighbourOf, faceOf, unusedOk, toItself, boundaryOk, inForm}
+use Rattle.records.specs.Record.{unused, regionLimit, regionOk, numberOf, shapeOf, neighbourOf, faceOf, unusedOk, toItself, boundaryOk, inForm}
 use Rattle.records.proofs.Shapes.{count-six}
 use Rattle.records.proofs.Forms.{face-six}
 use Rattle.mesh.specs.Link.{orientationOk, sameCorners, answered, linkOk}
@@ -203,10 +203,10 @@ module _ (first n g K : ℕ) (tree global ghostly : ℕ → List ℕ) (seen : Se
       rw (a .shape, alike-face a f l, alike-orientation a f l, a .code f l, seen .neighbour i h f l, up-is-tree i (neighbourOf (tree i) f) h, up-no-use (neighbourOf (tree i) f))
 
   form-same : (i : ℕ) → i < n → inForm (first + i) (global i) ≡ inForm i (tree i)
-  unfolding inForm
+  unfolding inForm regionOk
   form-same i h =
       let a = seen .alike i h in
-      ap₂ _&&_ (ap₂ _&&_ (ap shapeOk (a .shape)) (a .zeros))
+      ap₂ _&&_ (ap₂ _&&_ (ap₂ _&&_ (ap shapeOk (a .shape)) (a .zeros)) (ap (λ (x : ℕ). ltb x regionLimit) (a .region)))
       (all-same 6 (λ f. cond (ltb f (faceCount (shapeOf (global i)))) (boundaryOk (first + i) (global i) f) (unusedOk (global i) f))
       (λ f. cond (ltb f (faceCount (shapeOf (tree i)))) (boundaryOk i (tree i) f) (unusedOk (tree i) f)) (face-form i h))
 

@@ -15,9 +15,9 @@ use Rattle.encoding.specs.Numbers.{leValue, leAt, u32At}
 use Rattle.encoding.specs.Words.{zeroAt}
 use Rattle.encoding.proofs.Below.{tests, either, and-fst, and-snd, and-intro, all-at, all-intro, all-same}
 use Rattle.encoding.proofs.Pieces.{piece-at, piece-past}
-use Rattle.encoding.proofs.Numbers.{at-step, at-none, at-bound}
+use Rattle.encoding.proofs.Numbers.{at-step, at-none, at-one, at-bound}
 use Rattle.records.specs.Shape.{shapeOk, dimensionOf, faceCount}
-use Rattle.records.specs.Record.{coreSize, unused, numberOf, shapeOf, neighbourOf, codeOf, facesOf, faceOf, orientationOf, tailOk, zerosOk, unusedOk, toItself, boundaryOk, inForm}
+use Rattle.records.specs.Record.{coreSize, unused, regionLimit, numberOf, shapeOf, neighbourOf, codeOf, facesOf, faceOf, orientationOf, regionOf, regionOk, zerosOk, unusedOk, toItself, boundaryOk, inForm}
 use Rattle.records.specs.Means.{faceForm}
 use Rattle.records.proofs.Shapes.{count-six, count-faces, faces-positive, faces-six, faces-either}
 
@@ -59,9 +59,16 @@ module _ (bs : List ℕ) (at : ℕ) where
   unfolding codeOf
   code-at f h = piece-at bs at 40 (32 + f) (omega arith)
 
-  pub zeros-at : zerosOk (piece bs at coreSize) ≡ (zeroAt bs (at + 5) && zeroAt bs (at + 6) && zeroAt bs (at + 7) && (zeroAt bs (at + 38) && zeroAt bs (at + 39)))
-  unfolding zerosOk tailOk
-  zeros-at = rw (piece-at bs at 40 5 (omega arith), piece-at bs at 40 6 (omega arith), piece-at bs at 40 7 (omega arith), piece-at bs at 40 38 (omega arith), piece-at bs at 40 39 (omega arith))
+  pub zeros-at : zerosOk (piece bs at coreSize) ≡ (zeroAt bs (at + 5) && zeroAt bs (at + 6) && zeroAt bs (at + 7))
+  unfolding zerosOk
+  zeros-at = rw (piece-at bs at 40 5 (omega arith), piece-at bs at 40 6 (omega arith), piece-at bs at 40 7 (omega arith))
+
+  pub region-at : at + coreSize ≤ length bs → regionOf (piece bs at coreSize) ≡ getD bs (at + 38) 0 + 256 * getD bs (at + 39) 0
+  unfolding regionOf
+  region-at h =
+      let s : suc (at + 38) ≡ at + 39 = omega arith in
+      at-piece 2 bs at 40 38 (omega arith)
+      ∙ (at-step 1 bs (at + 38) (omega arith) ∙ ap (λ (x : ℕ). getD bs (at + 38) 0 + 256 * x) (at-one bs (suc (at + 38)) ∙ ap (λ (i : ℕ). getD bs i 0) s))
 
 -- ---- numbers and codes of one record
 
@@ -107,22 +114,28 @@ module _ (r : List ℕ) where
 -- ---- the parts of the form
 
 module _ (own : ℕ) (r : List ℕ) where
-  -- the form is the shape, the zero bytes and the six faces
-  form-is : inForm own r ≡ (shapeOk (shapeOf r) && zerosOk r && allBelow 6 (faceForm own r))
+  -- the form is the shape, the zero bytes, the region and the six faces
+  form-is : inForm own r ≡ (shapeOk (shapeOf r) && zerosOk r && regionOk r && allBelow 6 (faceForm own r))
   unfolding inForm faceForm
   form-is = refl
 
   form-face : inForm own r ≡ true → (f : ℕ) → f < 6 → faceForm own r f ≡ true
-  form-face e = all-at 6 (faceForm own r) (and-snd (shapeOk (shapeOf r) && zerosOk r) (allBelow 6 (faceForm own r)) (sym form-is ∙ e))
+  form-face e = all-at 6 (faceForm own r) (and-snd (shapeOk (shapeOf r) && zerosOk r && regionOk r) (allBelow 6 (faceForm own r)) (sym form-is ∙ e))
 
-  form-first : inForm own r ≡ true → (shapeOk (shapeOf r) && zerosOk r) ≡ true
-  form-first e = and-fst (shapeOk (shapeOf r) && zerosOk r) (allBelow 6 (faceForm own r)) (sym form-is ∙ e)
+  form-first : inForm own r ≡ true → (shapeOk (shapeOf r) && zerosOk r && regionOk r) ≡ true
+  form-first e = and-fst (shapeOk (shapeOf r) && zerosOk r && regionOk r) (allBelow 6 (faceForm own r)) (sym form-is ∙ e)
+
+  form-second : inForm own r ≡ true → (shapeOk (shapeOf r) && zerosOk r) ≡ true
+  form-second e = and-fst (shapeOk (shapeOf r) && zerosOk r) (regionOk r) (form-first e)
 
   pub form-shape : inForm own r ≡ true → shapeOk (shapeOf r) ≡ true
-  form-shape e = and-fst (shapeOk (shapeOf r)) (zerosOk r) (form-first e)
+  form-shape e = and-fst (shapeOk (shapeOf r)) (zerosOk r) (form-second e)
 
   pub form-zeros : inForm own r ≡ true → zerosOk r ≡ true
-  form-zeros e = and-snd (shapeOk (shapeOf r)) (zerosOk r) (form-first e)
+  form-zeros e = and-snd (shapeOk (shapeOf r)) (zerosOk r) (form-second e)
+
+  pub form-region : inForm own r ≡ true → regionOk r ≡ true
+  form-region e = and-snd (shapeOk (shapeOf r) && zerosOk r) (regionOk r) (form-first e)
 
   -- a face that the shape has
   pub form-used : inForm own r ≡ true → (f : ℕ) → f < faceCount (shapeOf r) → boundaryOk own r f ≡ true
@@ -135,13 +148,15 @@ module _ (own : ℕ) (r : List ℕ) where
   form-unused e f h k = rw (le-ltb f (faceCount (shapeOf r)) h) at (form-face e f k)
 
   -- the parts make the form
-  pub form-intro : shapeOk (shapeOf r) ≡ true → zerosOk r ≡ true → ((f : ℕ) → f < faceCount (shapeOf r) → boundaryOk own r f ≡ true)
+  pub form-intro : shapeOk (shapeOf r) ≡ true → zerosOk r ≡ true → regionOk r ≡ true → ((f : ℕ) → f < faceCount (shapeOf r) → boundaryOk own r f ≡ true)
       → ((f : ℕ) → faceCount (shapeOf r) ≤ f → f < 6 → unusedOk r f ≡ true) → inForm own r ≡ true
   unfolding faceForm
-  form-intro s z u n =
+  form-intro s z t u n =
       let face : (f : ℕ) → f < 6 → faceForm own r f ≡ true =
       λ f h. either (ltb f (faceCount (shapeOf r))) (λ p. rw p (u f (omega tests))) (λ p. rw p (n f (omega tests) h)) in
-      form-is ∙ and-intro (shapeOk (shapeOf r) && zerosOk r) (allBelow 6 (faceForm own r)) (and-intro (shapeOk (shapeOf r)) (zerosOk r) s z) (all-intro 6 (faceForm own r) face)
+      form-is
+      ∙ and-intro (shapeOk (shapeOf r) && zerosOk r && regionOk r) (allBelow 6 (faceForm own r))
+      (and-intro (shapeOk (shapeOf r) && zerosOk r) (regionOk r) (and-intro (shapeOk (shapeOf r)) (zerosOk r) s z) t) (all-intro 6 (faceForm own r) face)
 
   -- a link to the own number and the own face has orientation 0
   pub boundary-test : (f : ℕ) → neighbourOf r f ≡ own → faceOf r f ≡ f → boundaryOk own r f ≡ eqb (orientationOf r f) 0
@@ -188,7 +203,7 @@ pub record SameLinks (r s : List ℕ) : Type 0 where
   pub low : (i : ℕ) → i < 5 → getD r i 0 ≡ getD s i 0
   pub high : (i : ℕ) → 8 ≤ i → i < 38 → getD r i 0 ≡ getD s i 0
 
--- have the same number, shape and links: bytes 5 to 7, 38 and 39 are not read
+-- have the same number, shape and links: neither the zero bytes nor the region is read
 module _ (r s : List ℕ) (h : SameLinks r s) where
   pub same-number : numberOf r ≡ numberOf s
   unfolding numberOf
@@ -222,19 +237,24 @@ module _ (r s : List ℕ) (h : SameLinks r s) where
   unfolding faceForm boundaryOk toItself unusedOk
   same-face-form own f k = rw (same-shape, same-neighbour f k, same-face f k, same-orientation f k, same-code f k)
 
-  -- their forms differ in the zero bytes alone
-  pub same-form : zerosOk r ≡ zerosOk s → (own : ℕ) → inForm own r ≡ inForm own s
-  same-form z own =
+  -- their forms differ in the zero bytes and the region alone
+  pub same-form : zerosOk r ≡ zerosOk s → regionOk r ≡ regionOk s → (own : ℕ) → inForm own r ≡ inForm own s
+  same-form z t own =
       form-is own r
-      ∙ (ap₂ _&&_ (ap₂ _&&_ (ap shapeOk same-shape) z) (all-same 6 (faceForm own r) (faceForm own s) (same-face-form own))
+      ∙ (ap₂ _&&_ (ap₂ _&&_ (ap₂ _&&_ (ap shapeOk same-shape) z) t) (all-same 6 (faceForm own r) (faceForm own s) (same-face-form own))
       ∙ sym (form-is own s))
 
--- bytes 38 and 39 are read through `tailOk` alone
-pub tail-alone : (r s : List ℕ) → ((i : ℕ) → i < 38 → getD r i 0 ≡ getD s i 0) → tailOk r ≡ tailOk s → (own : ℕ) → inForm own r ≡ inForm own s
+-- the form reads bytes 38 and 39 through `regionOk` alone: linked records may differ in their regions
+pub region-alone : (r s : List ℕ) → ((i : ℕ) → i < 38 → getD r i 0 ≡ getD s i 0) → regionOk r ≡ regionOk s → (own : ℕ) → inForm own r ≡ inForm own s
 unfolding zerosOk
-tail-alone r s h t =
+region-alone r s h t =
     same-form r s (record { low = λ i l. h i (omega arith); high = λ i k l. h i l })
-    (rw (h 5 (omega arith), h 6 (omega arith), h 7 (omega arith), t))
+    (rw (h 5 (omega arith), h 6 (omega arith), h 7 (omega arith))) t
+
+-- a region in form is below the limit
+pub region-below : (r : List ℕ) → regionOk r ≡ true → regionOf r < regionLimit
+unfolding regionOk
+region-below r e = omega tests
 
 -- F is 6 where it isn't 4
 pub faces-other : (r : List ℕ) → (facesOf r ≡ 4 → ⊥) → facesOf r ≡ 6

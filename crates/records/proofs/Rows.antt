@@ -17,7 +17,7 @@ use Rattle.encoding.specs.Numbers.{leValue, leBytes, leAt, lePut}
 use Rattle.encoding.proofs.Below.{tests, either, and-snd, below-suc}
 use Rattle.encoding.proofs.Pieces.{piece-at, piece-length, piece-cons, piece-add, piece-same, piece-above, length-splice, splice-none, splice-cons, splice-next, splice-then, splice-piece}
 use Rattle.encoding.proofs.Numbers.{bytes-length, value-bytes, at-bytes}
-use Rattle.records.specs.Record.{numberOf, shapeOf, neighbourOf, codeOf, facesOf, zerosOk, tailOk}
+use Rattle.records.specs.Record.{numberOf, shapeOf, neighbourOf, codeOf, facesOf, zerosOk, regionOf}
 use Rattle.records.specs.Links.{rowOf, rowsOf, cell, neighbourBytes, codeBytes, withRows, Rows}
 use Rattle.records.proofs.Forms.{drop-take, piece-piece, at-agree, neighbour-word, code-byte}
 
@@ -170,7 +170,7 @@ module _ (rows : List (List ℕ)) (F : ℕ) (r : List ℕ) (l : length r ≡ 40)
   pub withRows-keeps : (i : ℕ) → (i < 8) ⊎ (38 ≤ i) → getD (withRows rows F r) i 0 ≡ getD r i 0
   withRows-keeps i h = ⊎-elim (with-low i) (with-high i) h
 
-  -- so number, shape and zero bytes do
+  -- so number, shape, zero bytes and region do
   pub with-number : numberOf (withRows rows F r) ≡ numberOf r
   unfolding numberOf
   with-number = at-agree 4 (withRows rows F r) r 0 (λ i h. with-low (0 + i) (omega arith))
@@ -184,8 +184,12 @@ module _ (rows : List (List ℕ)) (F : ℕ) (r : List ℕ) (l : length r ≡ 40)
   with-faces = rw with-shape
 
   pub with-zeros : zerosOk (withRows rows F r) ≡ zerosOk r
-  unfolding zerosOk tailOk
-  with-zeros = rw (with-low 5 (omega arith), with-low 6 (omega arith), with-low 7 (omega arith), with-high 38 (omega arith), with-high 39 (omega arith))
+  unfolding zerosOk
+  with-zeros = rw (with-low 5 (omega arith), with-low 6 (omega arith), with-low 7 (omega arith))
+
+  pub with-region : regionOf (withRows rows F r) ≡ regionOf r
+  unfolding regionOf
+  with-region = at-agree 2 (withRows rows F r) r 38 (λ i h. with-high (38 + i) (omega arith))
 
   -- the neighbours and codes are those of the rows
   pub with-neighbour : (f : ℕ) → f < 6 → cell rows f 0 < 4294967296 → neighbourOf (withRows rows F r) f ≡ cell rows f 0

@@ -5,7 +5,7 @@ use mathlib.Core.List.{List}
 use lib.Dec.{leb, ltb, eqb}
 use lib.ListN.{getD}
 use Rattle.encoding.specs.Below.{allBelow}
-use Rattle.encoding.specs.Numbers.{u32At}
+use Rattle.encoding.specs.Numbers.{leAt, u32At}
 use Rattle.records.specs.Shape.{shapeOk, dimensionOf, faceCount, facesIn}
 
 abbrev pub coreSize : ℕ
@@ -17,6 +17,10 @@ treeSize = 64
 -- a face without use has this neighbour and code 0
 abbrev pub unused : ℕ
 unused = 4294967295
+
+-- regions are the numbers below this one
+abbrev pub regionLimit : ℕ
+regionLimit = 4096
 
 -- the global number
 unfoldable pub numberOf : List ℕ → ℕ
@@ -44,13 +48,17 @@ faceOf r f = codeOf r f % facesOf r
 unfoldable pub orientationOf : List ℕ → ℕ → ℕ
 orientationOf r f = codeOf r f / facesOf r
 
--- bytes 38 and 39
-unfoldable pub tailOk : List ℕ → Bool
-tailOk r = eqb (getD r 38 0) 0 && eqb (getD r 39 0) 0
+-- the region, a number of two bytes; 0 for none
+unfoldable pub regionOf : List ℕ → ℕ
+regionOf r = leAt 2 r 38
+
+-- it is within its limit
+unfoldable pub regionOk : List ℕ → Bool
+regionOk r = ltb (regionOf r) regionLimit
 
 -- the zero bytes are zero
 unfoldable pub zerosOk : List ℕ → Bool
-zerosOk r = eqb (getD r 5 0) 0 && eqb (getD r 6 0) 0 && eqb (getD r 7 0) 0 && tailOk r
+zerosOk r = eqb (getD r 5 0) 0 && eqb (getD r 6 0) 0 && eqb (getD r 7 0) 0
 
 -- a face that the shape doesn't have is marked unused
 unfoldable pub unusedOk : List ℕ → ℕ → Bool
@@ -64,7 +72,7 @@ toItself own r f = eqb (neighbourOf r f) own && eqb (faceOf r f) f
 unfoldable pub boundaryOk : ℕ → List ℕ → ℕ → Bool
 boundaryOk own r f = cond (toItself own r f) (eqb (orientationOf r f) 0) true
 
--- document 01's "in form"; the own number is the local index in a part's tree records and the global number everywhere else
+-- document 01's "in form", with document 02's region; the own number is the local index in a part's tree records and the global number everywhere else
 unfoldable pub inForm : ℕ → List ℕ → Bool
 inForm own r =
-    shapeOk (shapeOf r) && zerosOk r && allBelow 6 (λ f. cond (ltb f (faceCount (shapeOf r))) (boundaryOk own r f) (unusedOk r f))
+    shapeOk (shapeOf r) && zerosOk r && regionOk r && allBelow 6 (λ f. cond (ltb f (faceCount (shapeOf r))) (boundaryOk own r f) (unusedOk r f))

@@ -3,6 +3,7 @@ use crate::read::code_of;
 use crate::read::face_of;
 use crate::read::neighbour_of;
 use crate::read::orientation_of;
+use crate::read::region_of;
 use crate::read::shape_of;
 use crate::shape::face_count;
 use crate::shape::shape_ok;
@@ -10,21 +11,29 @@ ghost use mathlib.Core.Path.{_≡_};
 ghost use Prim.Native.Nat.{_+_, _≤_, _<_};
 ghost use lib.ListN.{length};
 ghost use Rattle.encoding.specs.Pieces.{piece};
-ghost use Rattle.records.specs.Record.{coreSize, zerosOk, unusedOk, boundaryOk, inForm};
+ghost use Rattle.records.specs.Record.{coreSize, zerosOk, regionOk, unusedOk, boundaryOk, inForm};
 ghost use Rattle.records.specs.Means.{faceForm};
 
 // The neighbour of a face without use.
 pub const UNUSED: u32 = 4294967295;
+
+// Regions are the numbers below this one.
+pub const REGIONS: u32 = 4096;
 
 // Whether the zero bytes are zero.
 fn zeros_ok(bs: &[u8], at: usize) -> bool
     requires { ⌜ at + coreSize ≤ length (now bs) ⌝ }
     ensures { λ r. ⌜ r ≡ zerosOk (piece (now (bs .entry)) at coreSize) ⌝ }
 {
-    (bs[at + 5] == 0)
-        & (bs[at + 6] == 0)
-        & (bs[at + 7] == 0)
-        & ((bs[at + 38] == 0) & (bs[at + 39] == 0))
+    (bs[at + 5] == 0) & (bs[at + 6] == 0) & (bs[at + 7] == 0)
+}
+
+// Whether the region is within its limit.
+fn region_ok(bs: &[u8], at: usize) -> bool
+    requires { ⌜ at + coreSize ≤ length (now bs) ⌝ }
+    ensures { λ r. ⌜ r ≡ regionOk (piece (now (bs .entry)) at coreSize) ⌝ }
+{
+    region_of(bs, at) < REGIONS
 }
 
 // Whether a face that the shape has is no boundary, or one with orientation 0.
@@ -66,6 +75,7 @@ pub fn in_form(bs: &[u8], at: usize, own: u32) -> bool
 {
     shape_ok(shape_of(bs, at))
         & zeros_ok(bs, at)
+        & region_ok(bs, at)
         & (face_ok(bs, at, own, 0)
             & face_ok(bs, at, own, 1)
             & face_ok(bs, at, own, 2)

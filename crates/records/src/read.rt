@@ -5,7 +5,7 @@ ghost use mathlib.Core.Path.{_≡_};
 ghost use Prim.Native.Nat.{_+_, _≤_, _<_};
 ghost use lib.ListN.{length};
 ghost use Rattle.encoding.specs.Pieces.{piece};
-ghost use Rattle.records.specs.Record.{coreSize, numberOf, shapeOf, neighbourOf, codeOf, facesOf, faceOf, orientationOf};
+ghost use Rattle.records.specs.Record.{coreSize, numberOf, shapeOf, neighbourOf, codeOf, facesOf, faceOf, orientationOf, regionOf};
 
 // A byte as a wider number.
 fn wide(x: u8) -> u32
@@ -71,4 +71,12 @@ pub fn orientation_of(bs: &[u8], at: usize, face: u32) -> u32
         return code / 4;
     }
     code / 6
+}
+
+// The region number, 0 for none.
+pub fn region_of(bs: &[u8], at: usize) -> u32
+    requires { ⌜ at + coreSize ≤ length (now bs) ⌝ }
+    ensures { λ r. ⌜ r ≡ regionOf (piece (now (bs .entry)) at coreSize) ⌝ }
+{
+    wide(bs[at + 38]) + 256 * wide(bs[at + 39])
 }

@@ -24,7 +24,7 @@ use Rattle.leaves.specs.Calls.{leavesRefusal, tableFromLeaves}
 use Rattle.pattern.specs.Sender.{leastHolder, sender, sends, sentFirst, sentCount, Tables}
 use Rattle.pattern.specs.Sets.{sendsTo, getsFrom}
 use Rattle.records.specs.Shape.{shapeOk, dimensionOf, faceCount, facesIn, cornersOf, corners}
-use Rattle.records.specs.Record.{numberOf, shapeOf, neighbourOf, codeOf, facesOf, faceOf, orientationOf, tailOk, zerosOk, unusedOk, toItself, boundaryOk, inForm}
+use Rattle.records.specs.Record.{numberOf, shapeOf, neighbourOf, codeOf, facesOf, faceOf, orientationOf, regionOf, regionOk, zerosOk, unusedOk, toItself, boundaryOk, inForm}
 use Rattle.records.specs.Links.{rowOf, rowsOf, neighbourBytes, codeBytes, withRows}
 use Rattle.mesh.specs.Link.{orientationOk, sameCorners, answered, linkOk}
 use Rattle.mesh.specs.Mesh.{meshDimension, meshTrees, dimensionOk, meshCore, meshRecord, faceSound, treeSound, headerSound, meshSound, meshRefusal}
@@ -65,7 +65,7 @@ the-leaves = (refl, refl)
 -- ---- meshes and a part, by computation
 
 the-meshes : (meshSound triangles ≡ true) × (meshSound (solids 2) ≡ true) × (meshSound (solids 1) ≡ false)
-unfolding meshSound headerSound meshDimension meshTrees dimensionOk treeCountOk meshCore treeSound faceSound linkOk orientationOk sameCorners answered shapeOk dimensionOf faceCount facesIn cornersOf corners numberOf shapeOf neighbourOf codeOf facesOf faceOf orientationOf tailOk zerosOk unusedOk toItself boundaryOk inForm allBelow leAt leValue leBytes piece words coreBytes treeBytes triangle three triangles solids
+unfolding meshSound headerSound meshDimension meshTrees dimensionOk treeCountOk meshCore treeSound faceSound linkOk orientationOk sameCorners answered shapeOk dimensionOf faceCount facesIn cornersOf corners numberOf shapeOf neighbourOf codeOf facesOf faceOf orientationOf regionOf regionOk zerosOk unusedOk toItself boundaryOk inForm allBelow leAt leValue leBytes piece words coreBytes treeBytes triangle three triangles solids
 the-meshes = (refl, refl, refl)
 
 the-refusals : (meshRefusal triangles ≡ 0) × (meshRefusal (solids 2) ≡ 0) × (meshRefusal (solids 1) ≡ 7)

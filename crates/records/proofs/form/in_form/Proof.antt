@@ -14,6 +14,9 @@ shape-ok-requires c κs = search needs
 zeros-ok-requires : tie.Need-zeros-ok-requires
 zeros-ok-requires c κs = search needs
 
+region-ok-requires : tie.Need-region-ok-requires
+region-ok-requires c κs = search needs
+
 face-ok-requires : tie.Need-face-ok-requires
 face-ok-requires c κs = search needs
 
@@ -35,15 +38,16 @@ face-ok-requires-6 c κs = search needs
 returns : tie.Need-returns
 unfolding inForm faceForm allBelow
 returns c =
-    let shape-ok = c .before .before .before .before .before .before .before .shape-ok in
-    let shape-of = c .before .before .before .before .before .before .before .before .shape-of in
-    let zeros-ok = c .before .before .before .before .before .before .zeros-ok in
+    let shape-ok = c .before .before .before .before .before .before .before .before .shape-ok in
+    let shape-of = c .before .before .before .before .before .before .before .before .before .shape-of in
+    let zeros-ok = c .before .before .before .before .before .before .before .zeros-ok in
+    let region-ok = c .before .before .before .before .before .before .region-ok in
     let face-ok = c .before .before .before .before .before .face-ok in
     let face-ok2 = c .before .before .before .before .face-ok2 in
     let face-ok3 = c .before .before .before .face-ok3 in
     let face-ok4 = c .before .before .face-ok4 in
     let face-ok5 = c .before .face-ok5 in
-    rw (shape-ok .ensures, shape-of .ensures, zeros-ok .ensures, face-ok .ensures, face-ok2 .ensures, face-ok3 .ensures, face-ok4 .ensures, face-ok5 .ensures, c .face-ok6 .ensures)
+    rw (shape-ok .ensures, shape-of .ensures, zeros-ok .ensures, region-ok .ensures, face-ok .ensures, face-ok2 .ensures, face-ok3 .ensures, face-ok4 .ensures, face-ok5 .ensures, c .face-ok6 .ensures)
 
 pub in-form-spec : {M : Type 1} → statement M
 in-form-spec =
@@ -52,6 +56,7 @@ in-form-spec =
     shape-of-requires
     shape-ok-requires
     zeros-ok-requires
+    region-ok-requires
     face-ok-requires
     face-ok-requires-2
     face-ok-requires-3

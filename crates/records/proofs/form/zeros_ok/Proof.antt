@@ -22,18 +22,6 @@ add-result-3 c = search needs
 shared-slice-read-result-3 : tie.Need-shared-slice-read-result-3
 shared-slice-read-result-3 c = search needs
 
-add-result-4 : tie.Need-add-result-4
-add-result-4 c = search needs
-
-shared-slice-read-result-4 : tie.Need-shared-slice-read-result-4
-shared-slice-read-result-4 c = search needs
-
-add-result-5 : tie.Need-add-result-5
-add-result-5 c = search needs
-
-shared-slice-read-result-5 : tie.Need-shared-slice-read-result-5
-shared-slice-read-result-5 c = search needs
-
 returns : tie.Need-returns
 returns c = sym (zeros-at _ _)
 
@@ -47,8 +35,4 @@ zeros-ok-spec =
     shared-slice-read-result-2
     add-result-3
     shared-slice-read-result-3
-    add-result-4
-    shared-slice-read-result-4
-    add-result-5
-    shared-slice-read-result-5
     returns)

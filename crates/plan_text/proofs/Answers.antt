@@ -19,13 +19,12 @@ use Rattle.pattern.specs.Calls.{tableChecks}
 use Rattle.pattern.proofs.Sets.{move-bound}
 use Rattle.pattern.proofs.Answers.{tables-agree}
 use Rattle.plan_read.specs.Text.{numberLimit, ranksWord}
-use Rattle.plan_read.specs.Read.{formOk, parse}
+use Rattle.plan_read.specs.Means.{formOk, parse, Fills, InputRead}
 use Rattle.plan_write.specs.Moves.{planRanks, treesWord, messagesWord, refusedWord, lineText, moveCount, movesOutput}
 use Rattle.plan_text.specs.Plan.{planRanksOk, planRefusal, planOutput, planAnswer}
 use Rattle.plan_write.specs.Means.{PlanTables, outputAnswer}
 use Rattle.plan_text.specs.Means.{tablesOutput}
 use Rattle.plan_read.specs.declared.input.Heading.{Heading}
-use Rattle.plan_read.specs.Means.{Fills, InputRead}
 use Rattle.plan_read.proofs.Decimals.{decimal-most}
 use Rattle.plan_read.proofs.Grammar.{table-length, formed}
 use Rattle.plan_write.proofs.Writing.{text-most, line-length, output-length}

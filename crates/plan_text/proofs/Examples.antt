@@ -12,7 +12,7 @@ use Rattle.pattern.specs.Sender.{leastHolder, sender, sends, sentCount, sentFir
 use Rattle.pattern.specs.Sets.{sendsTo}
 use Rattle.pattern.specs.Calls.{tableChecks}
 use Rattle.plan_read.specs.Text.{digitsOf, decimal}
-use Rattle.plan_read.specs.Read.{isDigit, digitCount, valueOf, digitsOk, readNumber, negated, readEntry, before, readList, wordAt, readRanks, readOld, readNew, formOk, parse}
+use Rattle.plan_read.specs.Means.{isDigit, digitCount, valueOf, digitsOk, readNumber, negated, readEntry, before, readList, wordAt, readRanks, readOld, readNew, formOk, parse}
 use Rattle.plan_write.specs.Moves.{lineText, moveText, movesFrom, movesText, moveCount, movesOutput}
 use Rattle.plan_text.specs.Plan.{planRanksOk, planRefusal, planOutput}
 

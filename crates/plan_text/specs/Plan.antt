@@ -9,7 +9,7 @@ use Rattle.encoding.specs.Answer.{writeAnswer}
 use Rattle.encoding.specs.declared.answer.Length.{Length}
 use Rattle.offsets.specs.Table.{tableBytes}
 use Rattle.pattern.specs.Calls.{tableChecks}
-use Rattle.plan_read.specs.Read.{parse}
+use Rattle.plan_read.specs.Means.{parse}
 use Rattle.plan_write.specs.Moves.{planRanks, refusedWord, lineText, movesOutput}
 
 -- P from 1 to the program's own limit

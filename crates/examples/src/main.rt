@@ -338,7 +338,7 @@ fn make(op: u64, a: &[u8], b: &[u8], c: &[u8], x: u32, y: u32, z: u32, out: &mut
 // The plan of the text of so many bytes that begins x bytes in front of the line.
 fn plan_call(past: &[u8], x: u64, z: u64, out: &mut [u8]) -> u64 {
     let start = std::num::wrapping_sub_u64(past.len() as u64, x);
-    let n = show_length(plan_text::plan(piece(past, start, z), &mut *out));
+    let n = show_length(plan_text::plan_output(piece(past, start, z), &mut *out));
     text(b"\n");
     text(piece(out, 0, n));
     n

@@ -1,2 +1,3 @@
--- Laws of partitions and their tables, for this crate's proofs and for `leaves`.
+-- Laws of partitions and their tables, for this crate's proofs and for `leaves`, and when ranges are refused.
 pub mod Partitions
+pub mod Refusals

@@ -40,28 +40,6 @@ module _ (first count : ℕ → ℕ) where
   unfoldable pub validPartition : ℕ → ℕ → Bool
   validPartition P K = coversAll P K && coversOnly P K && ascending P
 
-  -- one past the last tree on the ranks below p; 0 where they have none
-  unfoldable pub endBelow : ℕ → ℕ
-  endBelow zero = 0
-  endBelow (suc p) = cond (nonEmpty p) (first p + count p) (endBelow p)
-
-  -- the ranges are a valid partition of a number of trees within its limits
-  unfoldable pub rangesFit : ℕ → Bool
-  rangesFit P = treeCountOk (endBelow P) && validPartition P (endBelow P)
-
-  -- O[p]: the trees on lower ranks end there, with a minus sign where the first tree of p is one of them
-  unfoldable pub entryOf : ℕ → ℕ
-  entryOf p = cond (nonEmpty p && ltb (first p) (endBelow p)) (2 ^ 64 - endBelow p) (endBelow p)
-
-  -- the first p entries
-  unfoldable pub entriesBelow : ℕ → List ℕ
-  entriesBelow zero = []
-  entriesBelow (suc p) = entriesBelow p ++ leBytes 8 (entryOf p)
-
-  -- the table of the partition; O[P] = K
-  unfoldable pub tableOf : ℕ → List ℕ
-  tableOf P = entriesBelow P ++ leBytes 8 (endBelow P)
-
 -- t is a table of the partition: a valid table of P ranks and K trees that gives each rank its count and, where that isn't 0, its first tree
 pub record IsTable (first count : ℕ → ℕ) (P K : ℕ) (t : List ℕ) : Type 0 where
   pub bytes : Bytes t
@@ -70,3 +48,26 @@ pub record IsTable (first count : ℕ → ℕ) (P K : ℕ) (t : List ℕ) : Type
   pub treesAre : trees t ≡ K
   pub counts : (p : ℕ) → p < P → treeCount t p ≡ count p
   pub firsts : (p : ℕ) → p < P → 0 < count p → firstTree t p ≡ first p
+
+module _ (first count : ℕ → ℕ) where
+  -- one past the last tree on the ranks below p; 0 where they have none
+  unfoldable pub endBelow : ℕ → ℕ
+  endBelow zero = 0
+  endBelow (suc p) = cond (nonEmpty first count p) (first p + count p) (endBelow p)
+
+  -- the ranges are a valid partition of a number of trees within its limits
+  unfoldable pub rangesFit : ℕ → Bool
+  rangesFit P = treeCountOk (endBelow P) && validPartition first count P (endBelow P)
+
+  -- O[p]: the trees on lower ranks end there, with a minus sign where the first tree of p is one of them
+  unfoldable pub entryOf : ℕ → ℕ
+  entryOf p = cond (nonEmpty first count p && ltb (first p) (endBelow p)) (2 ^ 64 - endBelow p) (endBelow p)
+
+  -- the first p entries
+  unfoldable pub entriesBelow : ℕ → List ℕ
+  entriesBelow zero = []
+  entriesBelow (suc p) = entriesBelow p ++ leBytes 8 (entryOf p)
+
+  -- the table of the partition; O[P] = K. Where the partition is valid, this is a table of it, and no other list of bytes is one: `one-table` (proofs/Partitions.antt)
+  unfoldable pub tableOf : ℕ → List ℕ
+  tableOf P = entriesBelow P ++ leBytes 8 (endBelow P)

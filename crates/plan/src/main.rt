@@ -1,4 +1,4 @@
-// Reads two offset tables from standard input and writes who sends which trees to whom. All that is decided, is decided in plan_text.
+// Reads two offset tables from standard input and writes who sends which trees to whom. The whole output, refusals included, is that of plan_text::plan_output.
 use libc::STDIN_FILENO;
 use libc::STDOUT_FILENO;
 ghost use mathlib.Core.Path.{_≡_};
@@ -11,16 +11,16 @@ fn input_buffer() -> [u8; 32769]
     [0; 32769]
 }
 
-// Room for every output (output-fits of plan_text).
+// Room for every output (`output-fits` of `PlanTexts`, crates/plan_text/specs/Promises.antt).
 fn output_buffer() -> [u8; 131072]
     ensures { λ r. ⌜ 131072 ≡ length r ⌝ }
 {
     [0; 131072]
 }
 
-// The plan of a text, written to standard output.
+// The whole output for a text, written to standard output.
 fn answer(text: &[u8], out: &mut [u8]) {
-    let l = plan_text::plan(text, out);
+    let l = plan_text::plan_output(text, out);
     let n = l.length;
     if n <= out.len() as u64 {
         let end = n as usize;

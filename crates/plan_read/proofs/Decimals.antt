@@ -11,7 +11,7 @@ use lib.Seq.{getD-at, getD-take, take-suc, take-all, length-take-le}
 use borrow.Author.Tests.{leb-true, le-leb, lt-ltb, le-ltb, ne-eqb, eqb-false}
 use Rattle.encoding.proofs.Below.{tests, either, and-fst, and-snd, and-intro, below-suc}
 use Rattle.plan_read.specs.Text.{digitsOf, decimal, numberLimit}
-use Rattle.plan_read.specs.Read.{isDigit, valueOf}
+use Rattle.plan_read.specs.Means.{isDigit, valueOf}
 
 -- every element is a digit
 abbrev pub Digits : List ℕ → Type 0

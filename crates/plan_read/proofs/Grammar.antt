@@ -17,9 +17,8 @@ use Rattle.encoding.specs.Numbers.{leBytes}
 use Rattle.encoding.proofs.Numbers.{bytes-length}
 use Rattle.offsets.specs.Table.{negative, magnitude, tableBytes}
 use Rattle.offsets.proofs.Tables.{plain-magnitude}
-use Rattle.plan_read.specs.Text.{decimal, numberLimit, entryText, entryFits, listText, ranksWord, oldWord, newWord, render, Input}
-use Rattle.plan_read.specs.Read.{inputLimit, byteAt, isDigit, digitCount, valueOf, Number, digitsOk, readNumber, negated, readEntry, Entries, before, readList, wordAt, readRanks, readOld, readNew, formOk, parse}
-use Rattle.plan_read.specs.Means.{digitCountOk}
+use Rattle.plan_read.specs.Text.{Rendered, decimal, numberLimit, entryText, entryFits, listText, ranksWord, oldWord, newWord, render, Input, inputLimit}
+use Rattle.plan_read.specs.Means.{byteAt, isDigit, digitCount, valueOf, Number, digitsOk, readNumber, negated, readEntry, Entries, before, readList, wordAt, readRanks, readOld, readNew, formOk, parse, digitCountOk}
 use Rattle.plan_read.proofs.Decimals.{Digits, digit-range, decimal-digit, decimal-least, decimal-most, decimal-plain, decimal-value, decimal-limit, decimal-of}
 
 -- ---- places
@@ -491,10 +490,6 @@ module _ (text : List ℕ) (ok : formOk text ≡ true) where
             (join (10 ∷ []) (byte-sound text (readRanks text .next) 10 (omega arith) (f .ranksEnd))
             (join oldWord old-line (ap (λ (l : List ℕ). listText (readOld text .values) ++ (10 ∷ l)) new-line)))),
       )
-
--- the text is a render, within its limit
-abbrev pub Rendered : List ℕ → Type 0
-Rendered text = (length text ≤ inputLimit) × (P : ℕ) × (old : List ℕ) × (new : List ℕ) × Input P old new × (text ≡ render P old new)
 
 -- a text is in form exactly where it is one
 pub form-exact : (text : List ℕ) → (formOk text ≡ true → Rendered text) × (Rendered text → formOk text ≡ true)

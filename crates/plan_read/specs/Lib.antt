@@ -1,4 +1,3 @@
 -- Document 01, "The program `plan`": its input.
 pub mod Text
-pub mod Read
 pub mod Means

@@ -1,5 +1,5 @@
--- Numbers and tables as text, in ASCII: 10 LF, 44 comma, 45 minus, 48 zero, 61 equals.
-use Prim.Native.Nat.{ℕ, zero, suc, _+_, _/_, _%_, _^_}
+-- Numbers and tables as text, in ASCII: 10 is LF, 44 comma, 45 minus, 48 to 57 the digits, 61 equals.
+use Prim.Native.Nat.{ℕ, zero, suc, _+_, _/_, _%_, _^_, _≤_}
 use mathlib.Core.Path.{_≡_}
 use mathlib.Core.Bool.{Bool, true, cond, _&&_}
 use mathlib.Core.List.{List, [], _∷_, _++_}
@@ -34,15 +34,15 @@ listText [] = []
 listText (v ∷ []) = entryText v
 listText (v ∷ w ∷ vs) = entryText v ++ (44 ∷ listText (w ∷ vs))
 
--- ranks=
+-- `ranks=`: r, a, n, k, s, =
 abbrev pub ranksWord : List ℕ
 ranksWord = 114 ∷ 97 ∷ 110 ∷ 107 ∷ 115 ∷ 61 ∷ []
 
--- old=
+-- `old=`: o, l, d, =
 abbrev pub oldWord : List ℕ
 oldWord = 111 ∷ 108 ∷ 100 ∷ 61 ∷ []
 
--- new=
+-- `new=`: n, e, w, =
 abbrev pub newWord : List ℕ
 newWord = 110 ∷ 101 ∷ 119 ∷ 61 ∷ []
 
@@ -57,3 +57,11 @@ pub record Input (P : ℕ) (old new : List ℕ) : Type 0 where
   pub newCount : length new ≡ P + 1
   pub oldFit : allBelow (length old) (λ i. entryFits (getD old i 0)) ≡ true
   pub newFit : allBelow (length new) (λ i. entryFits (getD new i 0)) ≡ true
+
+-- the most bytes that an input may have
+abbrev pub inputLimit : ℕ
+inputLimit = 32768
+
+-- a well-formed text: what `render` writes for such an input, within that limit
+abbrev pub Rendered : List ℕ → Type 0
+Rendered text = (length text ≤ inputLimit) × (P : ℕ) × (old : List ℕ) × (new : List ℕ) × Input P old new × (text ≡ render P old new)

@@ -6,8 +6,7 @@ use crate::number::read_number;
 ghost use mathlib.Core.Path.{_≡_};
 ghost use Prim.Native.Nat.{_+_, _<_, _^_};
 ghost use lib.ListN.{length};
-ghost use Rattle.plan_read.specs.Read.{readList, wordAt};
-ghost use Rattle.plan_read.specs.Means.{stored, formTests, ListRead, InputRead};
+ghost use Rattle.plan_read.specs.Means.{readList, wordAt, stored, formTests, ListRead, InputRead};
 
 // A list that was read: how many entries it has, and the place behind its LF.
 struct Counted {

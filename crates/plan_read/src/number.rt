@@ -3,8 +3,7 @@ ghost use mathlib.Core.Path.{_≡_};
 ghost use Prim.Native.Nat.{_+_, _-_, _≤_, _<_};
 ghost use lib.ListN.{length};
 ghost use Rattle.encoding.specs.Pieces.{piece};
-ghost use Rattle.plan_read.specs.Read.{byteAt, isDigit, digitCount, valueOf, readNumber, negated, readEntry};
-ghost use Rattle.plan_read.specs.Means.{numberOf, digitCountOk};
+ghost use Rattle.plan_read.specs.Means.{byteAt, isDigit, digitCount, valueOf, readNumber, negated, readEntry, numberOf, digitCountOk};
 
 // A number that was read, and the place behind it.
 pub struct Numeral {

@@ -1,4 +1,5 @@
 -- Laws of the plan's text.
 pub mod Answers
 pub mod Refusals
+pub mod Texts
 pub mod Examples

@@ -7,8 +7,9 @@ use native.Mathlib.Omega.{arith}
 use Rattle.encoding.specs.Refusal.{Check, check, firstFailed}
 use Rattle.encoding.proofs.Below.{either, clash}
 use Rattle.pattern.specs.Calls.{tableChecks}
-use Rattle.plan_read.specs.Read.{formOk, parse}
-use Rattle.plan_read.proofs.Grammar.{Rendered, form-exact}
+use Rattle.plan_read.specs.Means.{formOk, parse}
+use Rattle.plan_read.specs.Text.{Rendered}
+use Rattle.plan_read.proofs.Grammar.{form-exact}
 use Rattle.plan_text.specs.Plan.{planRefusal}
 
 -- a check with another number than 1, before such checks

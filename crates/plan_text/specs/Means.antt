@@ -1,13 +1,14 @@
--- Means, no part of what is promised: the output once the tables are read.
+-- Means, no part of what is promised: the call once the tables are read.
 use Prim.Native.Nat.{ℕ}
-use mathlib.Core.Bool.{cond}
-use mathlib.Core.List.{List}
-use lib.Dec.{eqb}
-use Rattle.encoding.specs.Refusal.{firstFailed}
+use mathlib.Core.List.{List, [], _∷_, _++_}
+use lib.Dec.{leb}
+use lib.ListN.{length}
+use Rattle.encoding.specs.Answer.{writeAnswer}
+use Rattle.encoding.specs.Refusal.{check, firstFailed}
+use Rattle.encoding.specs.declared.answer.Length.{Length}
 use Rattle.pattern.specs.Calls.{tableChecks}
-use Rattle.plan_write.specs.Moves.{refusedWord, lineText, movesOutput}
+use Rattle.plan_write.specs.Moves.{movesOutput}
 
--- the output for two tables
-unfoldable pub tablesOutput : List ℕ → List ℕ → List ℕ
-tablesOutput old new =
-    cond (eqb (firstFailed (tableChecks old new)) 0) (movesOutput old new) (lineText refusedWord (firstFailed (tableChecks old new)))
+-- the plan of two tables
+unfoldable pub tablesAnswer : List ℕ → List ℕ → List ℕ → Length × List ℕ
+tablesAnswer old new out = writeAnswer (firstFailed (tableChecks old new ++ (check (leb (length (movesOutput old new)) (length out)) 22 ∷ []))) (movesOutput old new) out

@@ -15,23 +15,12 @@ use Rattle.offsets.specs.Table.{ranks, trees}
 use Rattle.pattern.specs.Sender.{Tables, sends, sentFirst, sentCount}
 use Rattle.pattern.specs.Sets.{sendsTo, sendSet}
 use Rattle.pattern.proofs.Sets.{send-member, send-length, send-ascends, one-range}
-use Rattle.plan_write.specs.Moves.{moveText, movesFrom, movesText, moveCount}
+use Rattle.plan_read.specs.Text.{ranksWord}
+use Rattle.plan_write.specs.Moves.{treesWord, messagesWord, lineText, moveText, movesFrom, movesText, moveCount, movesOutput}
+use Rattle.plan_write.specs.Pairs.{listed, earlier, pairsOf, movePairs, moveLines}
+use Rattle.plan_write.specs.Promises.{MovesPrinted, PlanMoves}
 
 -- ---- the moves: exactly the pairs of a sender and a receiver with a tree to move, each once, by sender and then receiver
-
--- a pair is in a list
-unfoldable pub listed : ℕ → ℕ → List (ℕ × ℕ) → Bool
-listed p q [] = false
-listed p q (m ∷ ms) = eqb p (m .0) && eqb q (m .1) || listed p q ms
-
--- a pair comes before another: by sender and then receiver
-unfoldable pub earlier : ℕ × ℕ → ℕ × ℕ → Bool
-earlier m n = ltb (m .0) (n .0) || (eqb (m .0) (n .0) && ltb (m .1) (n .1))
-
--- a sender beside each receiver of a list
-unfoldable pub pairsOf : ℕ → List ℕ → List (ℕ × ℕ)
-pairsOf p [] = []
-pairsOf p (q ∷ qs) = (p, q) ∷ pairsOf p qs
 
 pairs-append : (p : ℕ) (a b : List ℕ) → pairsOf p (a ++ b) ≡ pairsOf p a ++ pairsOf p b
 unfolding pairsOf
@@ -60,49 +49,46 @@ listed-pairs p q n [] = rw and-false
 listed-pairs p q n (r ∷ qs) = rw (listed-pairs p q n qs) (either (eqb p n) (λ t. rw t) (λ f. rw f))
 
 module _ (old new : List ℕ) where
-  -- the pairs whose sender is below n: each sender beside its send set
-  unfoldable pub movePairs : ℕ → List (ℕ × ℕ)
-  movePairs zero = []
-  movePairs (suc n) = movePairs n ++ pairsOf n (sendSet old new n)
-
-  -- their lines
-  unfoldable pub moveLines : List (ℕ × ℕ) → List ℕ
-  moveLines [] = []
-  moveLines (m ∷ ms) = moveText old new (m .0) (m .1) ++ moveLines ms
-
-  lines-append : (a b : List (ℕ × ℕ)) → moveLines (a ++ b) ≡ moveLines a ++ moveLines b
+  lines-append : (a b : List (ℕ × ℕ)) → moveLines old new (a ++ b) ≡ moveLines old new a ++ moveLines old new b
   unfolding moveLines
   lines-append [] b = refl
   lines-append (m ∷ a) b = rw (lines-append a b, append-assoc)
 
-  lines-one : (p q : ℕ) (b : Bool) → moveLines (pairsOf p (cond b (q ∷ []) [])) ≡ cond b (moveText old new p q) []
+  lines-one : (p q : ℕ) (b : Bool) → moveLines old new (pairsOf p (cond b (q ∷ []) [])) ≡ cond b (moveText old new p q) []
   unfolding moveLines pairsOf
   lines-one p q true = rw append-nil
   lines-one p q false = refl
 
-  lines-from : (p n : ℕ) → moveLines (pairsOf p (keptBelow n (sendsTo old new p))) ≡ movesFrom old new p n
+  lines-from : (p n : ℕ) → moveLines old new (pairsOf p (keptBelow n (sendsTo old new p))) ≡ movesFrom old new p n
   unfolding keptBelow movesFrom pairsOf moveLines
   lines-from p zero = refl
   lines-from p (suc n) = rw (pairs-append, lines-append, lines-from p n, lines-one p n (sendsTo old new p n))
 
   -- the text of the moves is the lines of these pairs
-  pub moves-listed : (n : ℕ) → movesText old new n ≡ moveLines (movePairs n)
+  pub moves-listed : (n : ℕ) → movesText old new n ≡ moveLines old new (movePairs old new n)
   unfolding movesText movePairs moveLines sendSet
   moves-listed zero = refl
   moves-listed (suc n) = rw (lines-append, moves-listed n, lines-from n (ranks old))
 
-  pairs-count : (n : ℕ) → length (movePairs n) ≡ sumBelow n (λ p. countBelow (ranks old) (sendsTo old new p))
+  pairs-count : (n : ℕ) → length (movePairs old new n) ≡ sumBelow n (λ p. countBelow (ranks old) (sendsTo old new p))
   unfolding movePairs sumBelow
   pairs-count zero = refl
   pairs-count (suc n) = rw (length-append, pairs-count n, pairs-length, send-length old new n)
 
   -- `messages` counts them
-  pub moves-counted : moveCount old new ≡ length (movePairs (ranks old))
+  pub moves-counted : moveCount old new ≡ length (movePairs old new (ranks old))
   unfolding moveCount
   moves-counted = sym (pairs-count (ranks old))
 
+  -- the whole output
+  pub output-listed : movesOutput old new
+      ≡ lineText ranksWord (ranks old)
+      ++ (lineText treesWord (trees old) ++ (moveLines old new (movePairs old new (ranks old)) ++ lineText messagesWord (length (movePairs old new (ranks old)))))
+  unfolding movesOutput
+  output-listed = rw (← moves-listed (ranks old), ← moves-counted)
+
   -- a pair is listed exactly where both are ranks and the first sends the second a tree
-  pub pairs-exact : (n p q : ℕ) → listed p q (movePairs n) ≡ (ltb p n && (ltb q (ranks old) && sendsTo old new p q))
+  pub pairs-exact : (n p q : ℕ) → listed p q (movePairs old new n) ≡ (ltb p n && (ltb q (ranks old) && sendsTo old new p q))
   unfolding movePairs listed
   pairs-exact zero p q = rw (le-ltb p 0 (omega arith))
   pairs-exact (suc n) p q =
@@ -114,38 +100,38 @@ module _ (old new : List ℕ) where
       rw (f, g, or-false)))
 
   module _ (n i : ℕ) (d : ℕ × ℕ) where
-    front-at : i < length (movePairs n) → getD (movePairs (suc n)) i d ≡ getD (movePairs n) i d
+    front-at : i < length (movePairs old new n) → getD (movePairs old new (suc n)) i d ≡ getD (movePairs old new n) i d
     unfolding movePairs
-    front-at h = List·getD-append (movePairs n) (pairsOf n (sendSet old new n)) d i h
+    front-at h = List·getD-append (movePairs old new n) (pairsOf n (sendSet old new n)) d i h
 
-    back-at : length (movePairs n) ≤ i → i < length (movePairs (suc n))
-        → (i - length (movePairs n) < length (sendSet old new n)) × (getD (movePairs (suc n)) i d ≡ (n, getD (sendSet old new n) (i - length (movePairs n)) 0))
+    back-at : length (movePairs old new n) ≤ i → i < length (movePairs old new (suc n))
+        → (i - length (movePairs old new n) < length (sendSet old new n)) × (getD (movePairs old new (suc n)) i d ≡ (n, getD (sendSet old new n) (i - length (movePairs old new n)) 0))
     unfolding movePairs
     back-at h l =
-        let a = movePairs n in
+        let a = movePairs old new n in
         let s = sendSet old new n in
         let e : length a + (i - length a) ≡ i = omega arith in
         let k : i - length a < length s = omega (arith, length-append a (pairsOf n s), pairs-length n s) in
         let g : getD (a ++ pairsOf n s) (length a + (i - length a)) d ≡ getD (pairsOf n s) (i - length a) d = getD-append-add a (pairsOf n s) (i - length a) d in
         (k, (rw e at g) ∙ pairs-at n s (i - length a) d k)
 
-  no-pairs : (i : ℕ) → i < length (movePairs 0) → ⊥
+  no-pairs : (i : ℕ) → i < length (movePairs old new 0) → ⊥
   unfolding movePairs
   no-pairs i h = omega arith
 
-  pairs-below : (n i : ℕ) (d : ℕ × ℕ) → i < length (movePairs n) → getD (movePairs n) i d .0 < n
+  pairs-below : (n i : ℕ) (d : ℕ × ℕ) → i < length (movePairs old new n) → getD (movePairs old new n) i d .0 < n
   pairs-below zero i d h = absurd (no-pairs i h)
   pairs-below (suc n) i d h =
-      either (ltb i (length (movePairs n)))
-      (λ t. rw (front-at n i d (ltb-true i (length (movePairs n)) t)) (omega (arith, pairs-below n i d (ltb-true i (length (movePairs n)) t))))
+      either (ltb i (length (movePairs old new n)))
+      (λ t. rw (front-at n i d (ltb-true i (length (movePairs old new n)) t)) (omega (arith, pairs-below n i d (ltb-true i (length (movePairs old new n)) t))))
       (λ f. rw (back-at n i d (omega tests) h .1) (le-refl (suc n)))
 
   -- each pair comes before those behind it
-  pub pairs-ascend : (n i j : ℕ) (d : ℕ × ℕ) → i < j → j < length (movePairs n) → earlier (getD (movePairs n) i d) (getD (movePairs n) j d) ≡ true
+  pub pairs-ascend : (n i j : ℕ) (d : ℕ × ℕ) → i < j → j < length (movePairs old new n) → earlier (getD (movePairs old new n) i d) (getD (movePairs old new n) j d) ≡ true
   unfolding earlier
   pairs-ascend zero i j d h l = absurd (no-pairs j l)
   pairs-ascend (suc n) i j d h l =
-      let N = length (movePairs n) in
+      let N = length (movePairs old new n) in
       either (ltb j N)
       (λ t. rw (front-at n i d (omega tests), front-at n j d (omega tests)) (pairs-ascend n i j d h (omega tests)))
       (λ f. let b = back-at n j d (omega tests) l in
@@ -171,3 +157,13 @@ module _ (old new : List ℕ) (T : Tables old new) (p q : ℕ) (l : p < ranks ol
       let c = sentCount old new p q in
       one-range old new T p q l r k h
       ∙ ap (λ b. leb f k && b) (iff-eq (ltb k (f + c)) (leb k (f + c - 1)) (λ t. le-leb k (f + c - 1) (omega tests)) (λ t. lt-ltb k (f + c) (omega tests)))
+
+-- the moves printed are these
+pub moves-printed : PlanMoves
+moves-printed old new T =
+    record {
+      lines = output-listed old new;
+      exact = pairs-exact old new (ranks old);
+      ascend = pairs-ascend old new (ranks old);
+      moved = move-trees old new T;
+    }

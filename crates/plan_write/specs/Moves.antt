@@ -1,4 +1,4 @@
--- The output's lines.
+-- The output's lines, in ASCII: 10 is LF, 44 comma.
 use Prim.Native.Nat.{ℕ, zero, suc, _+_, _-_}
 use mathlib.Core.Bool.{cond}
 use mathlib.Core.List.{List, [], _∷_, _++_}
@@ -12,19 +12,19 @@ use Rattle.plan_read.specs.Text.{decimal, ranksWord}
 abbrev pub planRanks : ℕ
 planRanks = 1024
 
--- trees=
+-- `trees=`: t, r, e, e, s, =
 abbrev pub treesWord : List ℕ
 treesWord = 116 ∷ 114 ∷ 101 ∷ 101 ∷ 115 ∷ 61 ∷ []
 
--- move=
+-- `move=`: m, o, v, e, =
 abbrev pub moveWord : List ℕ
 moveWord = 109 ∷ 111 ∷ 118 ∷ 101 ∷ 61 ∷ []
 
--- messages=
+-- `messages=`: m, e, s, s, a, g, e, s, =
 abbrev pub messagesWord : List ℕ
 messagesWord = 109 ∷ 101 ∷ 115 ∷ 115 ∷ 97 ∷ 103 ∷ 101 ∷ 115 ∷ 61 ∷ []
 
--- refused=
+-- `refused=`: r, e, f, u, s, e, d, =
 abbrev pub refusedWord : List ℕ
 refusedWord = 114 ∷ 101 ∷ 102 ∷ 117 ∷ 115 ∷ 101 ∷ 100 ∷ 61 ∷ []
 

@@ -5,8 +5,8 @@ use borrow.Author.Needs.{needs}
 use Rattle.plan.proofs.answer.Statement.{statement}
 use Rattle.plan.proofs.answer.Tie as tie
 
-plan-requires : tie.Need-plan-requires
-plan-requires c κs = search needs
+plan-output-requires : tie.Need-plan-output-requires
+plan-output-requires c κs = search needs
 
 slice-reshare-prefix-write-all : tie.Need-slice-reshare-prefix-write-all
 slice-reshare-prefix-write-all c = search needs
@@ -33,7 +33,7 @@ pub answer-spec : {M : Type 1} → statement M
 answer-spec =
     tie.close
     (tie.spec
-    plan-requires
+    plan-output-requires
     slice-reshare-prefix-write-all
     slice-aggregate-write-all
     write-all-requires

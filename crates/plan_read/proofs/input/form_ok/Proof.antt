@@ -1,5 +1,4 @@
-use Rattle.plan_read.specs.Means.{formTests}
-use Rattle.plan_read.specs.Read.{byteAt, wordAt}
+use Rattle.plan_read.specs.Means.{formTests, byteAt, wordAt}
 use Rattle.plan_read.specs.Text.{ranksWord, oldWord, newWord}
 use Rattle.plan_read.specs.declared.input.Counted.{Counted}
 use Rattle.plan_read.specs.declared.number.Numeral.{Numeral}

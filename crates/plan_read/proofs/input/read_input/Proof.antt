@@ -1,7 +1,6 @@
 use Rattle.plan_read.proofs.Grammar.{number-sound, formed}
-use Rattle.plan_read.specs.Means.{numberOf, formTests, ListRead, InputRead}
-use Rattle.plan_read.specs.Read.{inputLimit, byteAt, isDigit, digitCount, digitsOk, readNumber, readList, readRanks, readOld, readNew, formOk, parse, Number}
-use Rattle.plan_read.specs.Text.{numberLimit}
+use Rattle.plan_read.specs.Means.{numberOf, formTests, ListRead, InputRead, byteAt, isDigit, digitCount, digitsOk, readNumber, readList, readRanks, readOld, readNew, formOk, parse, Number}
+use Rattle.plan_read.specs.Text.{inputLimit, numberLimit}
 use Rattle.plan_read.specs.declared.input.Counted.{Counted}
 use Rattle.plan_read.specs.declared.number.Numeral.{Numeral}
 use Rattle.encoding.proofs.Below.{either, clash, least-le}

@@ -1,5 +1,5 @@
 use mathlib.Core.List.{List}
-use Rattle.plan_read.specs.Read.{byteAt, wordAt}
+use Rattle.plan_read.specs.Means.{byteAt, wordAt}
 use Rattle.encoding.proofs.Below.{all-more, all-fails, all-to}
 use Rattle.encoding.specs.Below.{allBelow}
 use borrow.Author.Tests.{not-true, not-false}

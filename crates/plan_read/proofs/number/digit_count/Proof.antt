@@ -1,4 +1,4 @@
-use Rattle.plan_read.specs.Read.{byteAt, isDigit, digitCount}
+use Rattle.plan_read.specs.Means.{byteAt, isDigit, digitCount}
 use Rattle.encoding.proofs.Below.{all-at, all-more, least-is, least-none, any-none}
 use Rattle.encoding.specs.Below.{allBelow}
 use borrow.Author.Tests.{not-true, not-false}

@@ -1,6 +1,6 @@
 use Rattle.plan_read.proofs.Grammar.{count-digits}
 use Rattle.plan_read.proofs.Decimals.{digit-range, decimal-limit, value-snoc}
-use Rattle.plan_read.specs.Read.{byteAt, digitCount, valueOf}
+use Rattle.plan_read.specs.Means.{byteAt, digitCount, valueOf}
 use Rattle.plan_read.specs.Text.{numberLimit}
 use Rattle.encoding.proofs.Pieces.{piece-length, piece-at, piece-add, piece-cons}
 use Rattle.encoding.specs.Pieces.{piece}

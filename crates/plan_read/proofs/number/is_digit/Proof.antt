@@ -1,4 +1,4 @@
-use Rattle.plan_read.specs.Read.{isDigit}
+use Rattle.plan_read.specs.Means.{isDigit}
 use mathlib.Core.Path.{refl}
 use Rattle.plan_read.proofs.number.is_digit.Statement.{statement}
 use Rattle.plan_read.proofs.number.is_digit.Tie as tie

@@ -1,6 +1,6 @@
 use mathlib.Core.Path.{_≡_}
 use Prim.Native.Nat.{_+_, _-_, _^_}
-use Rattle.plan_read.specs.Read.{negated}
+use Rattle.plan_read.specs.Means.{negated}
 use Rattle.encoding.proofs.Below.{and-snd}
 use borrow.Author.Tests.{ltb-true}
 use native.Mathlib.Omega.{arith}

@@ -1,5 +1,5 @@
 use Rattle.plan_read.proofs.Grammar.{byte-within}
-use Rattle.plan_read.specs.Read.{byteAt, Number, readNumber, negated, readEntry}
+use Rattle.plan_read.specs.Means.{byteAt, Number, readNumber, negated, readEntry}
 use borrow.Author.Tests.{ne-eqb}
 use lib.ListN.{length}
 use native.Mathlib.Omega.{arith}

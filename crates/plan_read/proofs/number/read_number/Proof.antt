@@ -1,6 +1,5 @@
 use Rattle.plan_read.proofs.Grammar.{uncounted}
-use Rattle.plan_read.specs.Means.{digitCountOk}
-use Rattle.plan_read.specs.Read.{byteAt, digitCount, valueOf, digitsOk, readNumber}
+use Rattle.plan_read.specs.Means.{digitCountOk, byteAt, digitCount, valueOf, digitsOk, readNumber}
 use Rattle.encoding.specs.Pieces.{piece}
 use borrow.Author.Tests.{not-true, not-false}
 use lib.ListN.{length}

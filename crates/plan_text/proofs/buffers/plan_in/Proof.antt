@@ -1,8 +1,8 @@
-use lib.Seq.{length-take-le}
-use Rattle.plan_text.proofs.Answers.{prefix-few, read-unformed, read-unranked, read-most, read-tables, answered}
-use borrow.Author.Tests.{not-true, not-false}
-use native.Mathlib.Omega.{arith}
 use mathlib.Core.Path.{sym, _∙_}
+use native.Mathlib.Omega.{arith}
+use borrow.Author.Tests.{not-true, not-false}
+use Rattle.plan_text.proofs.Answers.{prefix-few, read-unformed, read-unranked, read-most, read-tables}
+use lib.Seq.{length-take-le}
 use borrow.Author.Needs.{needs}
 use Rattle.plan_text.proofs.buffers.plan_in.Statement.{statement}
 use Rattle.plan_text.proofs.buffers.plan_in.Tie as tie
@@ -10,8 +10,8 @@ use Rattle.plan_text.proofs.buffers.plan_in.Tie as tie
 read-input-requires : tie.Need-read-input-requires
 read-input-requires c κs = search needs
 
-write-refused-requires : tie.Need-write-refused-requires
-write-refused-requires c κs = search needs
+refused-requires : tie.Need-refused-requires
+refused-requires c κs = search needs
 
 same-length : tie.Need-same-length
 same-length c = search needs
@@ -19,39 +19,31 @@ same-length c = search needs
 same-length-2 : tie.Need-same-length-2
 same-length-2 c = search needs
 
-same-length-3 : tie.Need-same-length-3
-same-length-3 c = search needs
-
 returns : tie.Need-returns
 returns c =
-    let read-input = c .before .before .before .before .before .before .before .before .before .before .read-input in
-    let if1 = c .before .before .before .before .if1 in
-    let write-refused = c .before .before .write-refused in
-    answered _ _ (read-unformed (read-input .ensures) (not-true _ (if1 .taken))) (write-refused .ensures)
+    let read-input = c .before .before .before .before .before .before .before .read-input in
+    let if1 = c .before .if1 in
+    rw (c .refused .ensures) (read-unformed (read-input .ensures) _ (not-true _ (if1 .taken)))
 
 plan-ranks-ok-requires : tie.Need-plan-ranks-ok-requires
 plan-ranks-ok-requires c κs = search needs
 
-write-refused-requires-2 : tie.Need-write-refused-requires-2
-write-refused-requires-2 c κs = search needs
+refused-requires-2 : tie.Need-refused-requires-2
+refused-requires-2 c κs = search needs
+
+same-length-3 : tie.Need-same-length-3
+same-length-3 c = search needs
 
 same-length-4 : tie.Need-same-length-4
 same-length-4 c = search needs
 
-same-length-5 : tie.Need-same-length-5
-same-length-5 c = search needs
-
-same-length-6 : tie.Need-same-length-6
-same-length-6 c = search needs
-
 returns-2 : tie.Need-returns-2
 returns-2 c =
-    let read-input = c .before .before .before .before .before .before .before .before .before .before .before .before .read-input in
-    let if1 = c .before .before .before .before .before .before .if1 in
-    let plan-ranks-ok = c .before .before .before .before .before .plan-ranks-ok in
-    let if2 = c .before .before .before .before .if2 in
-    let write-refused2 = c .before .before .write-refused2 in
-    answered _ _ (read-unranked (read-input .ensures) (not-false _ (if1 .left)) (sym (plan-ranks-ok .ensures) ∙ not-true _ (if2 .taken))) (write-refused2 .ensures)
+    let read-input = c .before .before .before .before .before .before .before .before .before .read-input in
+    let if1 = c .before .before .before .if1 in
+    let plan-ranks-ok = c .before .before .plan-ranks-ok in
+    let if2 = c .before .if2 in
+    rw (c .refused2 .ensures) (read-unranked (read-input .ensures) (not-false _ (if1 .left)) _ (sym (plan-ranks-ok .ensures) ∙ not-true _ (if2 .taken)))
 
 add-end : tie.Need-add-end
 add-end c =
@@ -106,40 +98,38 @@ plan-tables-requires c κs =
     let if2 = c .before .before .before .if2 in
     let m = read-most (read-input .ensures) (not-false _ (if1 .left)) (sym (plan-ranks-ok .ensures) ∙ not-false _ (if2 .left)) in prefix-few _ _ (omega arith) m
 
+same-length-5 : tie.Need-same-length-5
+same-length-5 c = search needs
+
+same-length-6 : tie.Need-same-length-6
+same-length-6 c = search needs
+
 same-length-7 : tie.Need-same-length-7
 same-length-7 c = search needs
 
-same-length-8 : tie.Need-same-length-8
-same-length-8 c = search needs
-
-same-length-9 : tie.Need-same-length-9
-same-length-9 c = search needs
-
 returns-3 : tie.Need-returns-3
 returns-3 c =
+    let plan-tables = c .before .before .plan-tables in
     let read-input = c .before .before .before .before .before .before .before .before .before .before .before .before .before .before .read-input in
     let if1 = c .before .before .before .before .before .before .before .before .if1 in
     let plan-ranks-ok = c .before .before .before .before .before .before .before .plan-ranks-ok in
     let if2 = c .before .before .before .before .before .before .if2 in
     let pre = c .before .before .before .before .before .before .before .before .before .before .before .before .before .before .before .before .before .before .before .before .before .pre in
-    let plan-tables = c .before .before .plan-tables in
-    answered _ _ (read-tables (read-input .ensures) (not-false _ (if1 .left)) (sym (plan-ranks-ok .ensures) ∙ not-false _ (if2 .left)) (pre .0) (pre .1)) (plan-tables .ensures)
+    plan-tables .ensures ∙ read-tables (read-input .ensures) (not-false _ (if1 .left)) (sym (plan-ranks-ok .ensures) ∙ not-false _ (if2 .left)) _ (pre .0) (pre .1)
 
 pub plan-in-spec : {M : Type 1} → statement M
 plan-in-spec =
     tie.close
     (tie.spec
     read-input-requires
-    write-refused-requires
+    refused-requires
     same-length
     same-length-2
-    same-length-3
     returns
     plan-ranks-ok-requires
-    write-refused-requires-2
+    refused-requires-2
+    same-length-3
     same-length-4
-    same-length-5
-    same-length-6
     returns-2
     add-end
     mul-end
@@ -148,7 +138,7 @@ plan-in-spec =
     slice-reshare-prefix-plan-tables-2
     slice-aggregate-plan-tables-2
     plan-tables-requires
+    same-length-5
+    same-length-6
     same-length-7
-    same-length-8
-    same-length-9
     returns-3)

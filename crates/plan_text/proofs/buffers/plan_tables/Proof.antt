@@ -1,7 +1,6 @@
-use Rattle.plan_text.proofs.Answers.{table-few, tables-small, tables-refused, tables-moved}
-use Rattle.plan_write.specs.Means.{outputAnswer}
+use mathlib.Core.Path.{_∙_}
 use Rattle.pattern.proofs.Answers.{tables-agree}
-use mathlib.Core.Path.{ap, _∙_}
+use Rattle.plan_text.proofs.Answers.{table-few, tables-refused, tables-moved}
 use borrow.Author.Needs.{needs}
 use Rattle.plan_text.proofs.buffers.plan_tables.Statement.{statement}
 use Rattle.plan_text.proofs.buffers.plan_tables.Tie as tie
@@ -9,19 +8,11 @@ use Rattle.plan_text.proofs.buffers.plan_tables.Tie as tie
 tables-refusal-requires : tie.Need-tables-refusal-requires
 tables-refusal-requires c κs = search needs
 
-write-refused-requires : tie.Need-write-refused-requires
-write-refused-requires c κs = tables-small _ _ (c .before .before .tables-refusal .ensures)
-
-same-length : tie.Need-same-length
-same-length c = search needs
+refused-requires : tie.Need-refused-requires
+refused-requires c κs = search needs
 
 returns : tie.Need-returns
-returns c =
-    let write-refused = c .before .before .write-refused in
-    let args = c .before .before .before .before .before .before .before .before .before .args in
-    let tables-refusal = c .before .before .before .before .before .tables-refusal in
-    let if1 = c .before .before .before .before .if1 in
-    write-refused .ensures ∙ ap (λ o. outputAnswer o (args .out .now)) (tables-refused _ _ (tables-refusal .ensures) (if1 .taken))
+returns c = rw (c .refused .ensures) (tables-refused _ _ (c .before .before .tables-refusal .ensures) _ (c .before .if1 .taken))
 
 write-moves-requires : tie.Need-write-moves-requires
 write-moves-requires c κs =
@@ -35,25 +26,23 @@ write-moves-requires c κs =
       few = table-few _ pre;
     }
 
-same-length-2 : tie.Need-same-length-2
-same-length-2 c = search needs
+same-length : tie.Need-same-length
+same-length c = search needs
 
 returns-2 : tie.Need-returns-2
 returns-2 c =
     let write-moves = c .before .before .write-moves in
-    let args = c .before .before .before .before .before .before .before .before .before .args in
     let tables-refusal = c .before .before .before .before .before .tables-refusal in
     let if1 = c .before .before .before .before .if1 in
-    write-moves .ensures ∙ ap (λ o. outputAnswer o (args .out .now)) (tables-moved _ _ (tables-refusal .ensures) (if1 .left))
+    write-moves .ensures ∙ tables-moved _ _ (tables-refusal .ensures) _ (if1 .left)
 
 pub plan-tables-spec : {M : Type 1} → statement M
 plan-tables-spec =
     tie.close
     (tie.spec
     tables-refusal-requires
-    write-refused-requires
-    same-length
+    refused-requires
     returns
     write-moves-requires
-    same-length-2
+    same-length
     returns-2)

@@ -15,8 +15,7 @@ use Rattle.encoding.proofs.Pieces.{splice-none, splice-then}
 use Rattle.encoding.proofs.Numbers.{length-put}
 use Rattle.offsets.specs.Table.{tableBytes}
 use Rattle.plan_read.specs.Text.{entryText}
-use Rattle.plan_read.specs.Read.{byteAt, Number, readEntry, Entries, noEntries, before, readList}
-use Rattle.plan_read.specs.Means.{stored, ListRead}
+use Rattle.plan_read.specs.Means.{byteAt, Number, readEntry, Entries, noEntries, before, readList, stored, ListRead}
 use Rattle.plan_read.proofs.Grammar.{byte-within, entry-least, entry-sound, from-length, before-ok, table-length, table-snoc}
 
 -- ---- one entry

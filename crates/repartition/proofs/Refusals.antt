@@ -21,10 +21,10 @@ use Rattle.part_cut.specs.Calls.{cutPartOf}
 use Rattle.message.specs.Layout.{messageSender, messageReceiver, messageGhosts, inLayout}
 use Rattle.message.specs.Build.{partMessage}
 use Rattle.message.specs.Calls.{buildChecks, buildMessageOf}
-use Rattle.area.specs.Area.{areaRank, areaGhosts, areaBound, heard, areaSound}
+use Rattle.area.specs.Area.{areaRank, areaGhosts, areaNew, areaBound, heard, areaSound}
 use Rattle.area_open.specs.Calls.{openAreaOf}
 use Rattle.area.specs.Deliver.{sameRun, senderDue, treesDue, ghostDue, ghostNew, deliverChecks, deliverOf}
-use Rattle.area.specs.Close.{allHeard, joinSound, joinedPart, closeChecks, closeOf}
+use Rattle.area.specs.Close.{allHeard, joinedPart, closeChecks, closeOf}
 use Rattle.repartition.specs.Refusals.{Unchanged, RefusedUnchanged, RefusalsMean}
 
 -- ---- what a refused call leaves
@@ -120,7 +120,7 @@ unfolding closeOf closeChecks firstFailed
 some-unheard area out e =
     let e10 = sym (refusal-is _ (joinedPart area) out) ∙ e in
     let e20 = passed (areaSound area) _ 10 20 (λ z. omega arith) e10 in
-    failed (allHeard area) _ 20 (neither (joinSound area) _ 21 20 (neither (leb (length (joinedPart area)) (length out)) 0 22 20 (λ z. omega arith) (λ z. omega arith)) (λ z. omega arith)) e20
+    failed (allHeard area) _ 20 (neither (partSound (joinedPart area) (areaNew area) (areaRank area)) _ 21 20 (neither (leb (length (joinedPart area)) (length out)) 0 22 20 (λ z. omega arith) (λ z. omega arith)) (λ z. omega arith)) e20
 
 pub refusals-mean : RefusalsMean
 refusals-mean = record { nothing-for-you = not-sent; already-heard = was-heard; not-all-heard = some-unheard }

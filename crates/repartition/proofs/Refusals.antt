@@ -162,5 +162,5 @@ closed-part : (area out : List ℕ) → closeOf area out .0 .refusal ≡ 0 → t
 unfolding closeOf
 closed-part area out = written-front _ (joinedPart area) out
 
-pub closes-sound : ClosesSound
-closes-sound = record { accepted = λ area out e. rw (closed-part area out e) (part-sound area out e); declined = part-unsound }
+pub close-writes-sound : ClosesSound
+close-writes-sound = record { accepted = λ area out e. rw (closed-part area out e) (part-sound area out e); declined = part-unsound }

@@ -14,18 +14,14 @@ use Rattle.records.specs.Shape.{facesIn}
 use Rattle.records.specs.Record.{unused, numberOf}
 use Rattle.part.specs.Layout.{headerBytes}
 use Rattle.part.specs.Cut.{renamed}
-use Rattle.part.specs.View.{viewSound}
+use Rattle.part.specs.Part.{partSound}
 use Rattle.area.specs.Layout.{slotsOf}
-use Rattle.area.specs.Area.{areaDimension, areaK, areaP, areaRank, areaCount, areaGhosts, areaOld, areaNew, areaFirst, heard, treeSlot, treeSlotCore, ghostSlot, areaSound}
+use Rattle.area.specs.Area.{areaDimension, areaK, areaP, areaRank, areaCount, areaGhosts, areaOld, areaNew, areaFirst, heard, treeSlot, ghostSlot, areaSound}
 
 module _ (a : List ℕ) where
   -- 20: every sender of the receive set is heard
   unfoldable pub allHeard : Bool
   allHeard = allBelow (areaP a) (λ s. cond (getsFrom (areaOld a) (areaNew a) (areaRank a) s) (heard a s) true)
-
-  -- 21: the joined part is sound
-  unfoldable pub joinSound : Bool
-  joinSound = viewSound (areaFirst a) (areaCount a) (areaGhosts a) (treeSlotCore a) (ghostSlot a) (areaDimension a) (areaK a)
 
   -- the local index of a neighbour: below n the local tree, else n plus the ghost's position; unused stays
   unfoldable pub joinIndex : ℕ → ℕ
@@ -39,9 +35,9 @@ module _ (a : List ℕ) where
       headerBytes (areaDimension a) (areaK a) (areaP a) (areaRank a) (areaFirst a) (areaCount a) (areaGhosts a)
       ++ (slotsOf (λ i. renamed joinIndex (facesIn (areaDimension a)) (treeSlot a i)) (areaCount a) ++ slotsOf (ghostSlot a) (areaGhosts a))
 
-  -- the checks of a close but for the buffer
+  -- the checks of a close but for the buffer; 21: the joined part is sound for the new table and the area's rank
   unfoldable pub closeChecks : List Check
-  closeChecks = check (areaSound a) 10 ∷ check allHeard 20 ∷ check joinSound 21 ∷ []
+  closeChecks = check (areaSound a) 10 ∷ check allHeard 20 ∷ check (partSound joinedPart (areaNew a) (areaRank a)) 21 ∷ []
 
 -- how long the part is
 unfoldable pub closeLengthOf : List ℕ → Length

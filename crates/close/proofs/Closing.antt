@@ -14,11 +14,12 @@ use Rattle.encoding.proofs.Below.{either}
 use Rattle.part.specs.Layout.{partSize}
 use Rattle.part.specs.Part.{partSound}
 use Rattle.area.specs.Area.{areaRank, areaCount, areaGhosts, areaNew, areaSound}
-use Rattle.area.specs.Close.{allHeard, joinSound, joinedPart, closeChecks, closeOf}
+use Rattle.area.specs.Close.{allHeard, joinedPart, closeChecks, closeOf}
+use Rattle.close_check.specs.Means.{joinSound}
+use Rattle.close_check.proofs.AreaSlots.{joined-length}
+use Rattle.close_check.proofs.Reading.{join-sound-part}
 use Rattle.close.specs.Means.{JoinRoom}
 use Rattle.close_check.proofs.Checks.{closes-sound, refused-heard, refused-join}
-use Rattle.close.proofs.Lengths.{joined-length}
-use Rattle.close.proofs.Reading.{join-sound-part}
 
 -- one more check behind the three
 more-checks : (b c d : Bool) (x : ℕ) → cond b (cond c (cond d x 21) 20) 10 ≡ cond (eqb (cond b (cond c (cond d 0 21) 20) 10) 0) x (cond b (cond c (cond d 0 21) 20) 10)
@@ -28,41 +29,41 @@ more-checks true true false x = refl
 more-checks true true true x = refl
 
 module _ (a : List ℕ) where
-  -- what holds where no check fails
+  -- what holds where no check fails; the last is check 21's slots
   pub record Closable : Type 0 where
     pub isSound : areaSound a ≡ true
     pub heardAll : allHeard a ≡ true
     pub joined : joinSound a ≡ true
 
-  pub closable : firstFailed (closeChecks a) ≡ 0 → Closable
-  closable e =
+  pub closable : Bytes a → firstFailed (closeChecks a) ≡ 0 → Closable
+  closable b e =
       let s : areaSound a ≡ true = closes-sound a e in
       let h : allHeard a ≡ true = either (allHeard a) (λ t. t) (λ f. absurd (omega (arith, refused-heard a s f))) in
-      record { isSound = s; heardAll = h; joined = either (joinSound a) (λ t. t) (λ f. absurd (omega (arith, refused-join a s h f))) }
+      record { isSound = s; heardAll = h; joined = either (joinSound a) (λ t. t) (λ f. absurd (omega (arith, refused-join a s h b f))) }
 
 -- the part that a close writes is sound for the new table and the area's rank
 pub closed-sound : (a : List ℕ) → Bytes a → firstFailed (closeChecks a) ≡ 0 → partSound (joinedPart a) (areaNew a) (areaRank a) ≡ true
 closed-sound a b e =
-    let h = closable a e in
+    let h = closable a b e in
     sym (join-sound-part a b (h .isSound) (h .heardAll)) ∙ h .joined
 
 module _ (a out : List ℕ) {r : ℕ} (checked : r ≡ firstFailed (closeChecks a)) where
   with-room : (b : Bool) → firstFailed (closeChecks a ++ (check b 22 ∷ [])) ≡ cond (eqb r 0) (cond b 0 22) r
   unfolding firstFailed closeChecks
-  with-room b = rw checked (more-checks (areaSound a) (allHeard a) (joinSound a) (cond b 0 22))
+  with-room b = rw checked (more-checks (areaSound a) (allHeard a) (partSound (joinedPart a) (areaNew a) (areaRank a)) (cond b 0 22))
 
   pub close-refused : (r ≡ 0 → ⊥) → (lengthRefused r, out) ≡ closeOf a out
   unfolding closeOf writeAnswer lengthAnswer written
   close-refused h = rw (with-room (leb (length (joinedPart a)) (length out)), ne-eqb r 0 h, ne-eqb r 0 h)
 
-  module _ (ok : r ≡ 0) where
+  module _ (ok : r ≡ 0) (b : Bytes a) where
     pub all-hold : Closable a
-    all-hold = closable a (sym checked ∙ ok)
+    all-hold = closable a b (sym checked ∙ ok)
 
-    module _ (b : Bytes a) {n g size : ℕ} (is-n : n ≡ areaCount a) (is-g : g ≡ areaGhosts a) (is-size : size ≡ partSize n g) where
+    module _ {n g size : ℕ} (is-n : n ≡ areaCount a) (is-g : g ≡ areaGhosts a) (is-size : size ≡ partSize n g) where
       -- the length that the code compares
       part-long : size ≡ length (joinedPart a)
-      part-long = is-size ∙ rw (is-n, is-g) (sym (joined-length a b (all-hold .isSound)))
+      part-long = is-size ∙ rw (is-n, is-g) (sym (joined-length a (all-hold .isSound)))
 
       pub close-short : length out < size → (lengthRefused 22, out) ≡ closeOf a out
       unfolding closeOf writeAnswer lengthAnswer written

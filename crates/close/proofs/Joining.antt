@@ -1,8 +1,8 @@
 -- The part that the code writes is the joined part of the definition.
-use Prim.Native.Nat.{ℕ, _+_, _*_, _≤_, _<_}
+use Prim.Native.Nat.{ℕ, _+_, _*_, _<_}
 use native.Mathlib.Nat.{zero-add, add-sub-cancel-left}
 use native.Mathlib.Omega.{arith}
-use mathlib.Core.Path.{_≡_, refl, sym, ap, ap₂, _∙_}
+use mathlib.Core.Path.{_≡_, sym, ap, ap₂, _∙_}
 use mathlib.Core.Bool.{Bool, true, false}
 use mathlib.Core.List.{List, _++_, append-assoc}
 use lib.Dec.{ltb, eqb}
@@ -12,56 +12,30 @@ use Rattle.encoding.specs.Below.{anyBelow, leastBelow}
 use Rattle.encoding.specs.Header.{eightBytes}
 use Rattle.encoding.specs.Pieces.{piece, splice, Bytes}
 use Rattle.encoding.proofs.Below.{either, tests, clash, count-initial, least-lt, least-at}
-use Rattle.encoding.proofs.Pieces.{piece-length, splice-then}
-use Rattle.offsets.specs.Limits.{maxTrees}
-use Rattle.offsets.specs.Table.{firstTree, endTree, holds}
-use Rattle.offsets.proofs.Tables.{count-add}
+use Rattle.encoding.proofs.Pieces.{splice-then}
 use Rattle.records.specs.Shape.{faceCount, facesIn}
 use Rattle.records.specs.Record.{coreSize, treeSize, unused, numberOf, shapeOf, neighbourOf}
 use Rattle.records.specs.Links.{rowOf, rowsOf}
 use Rattle.records.proofs.Forms.{at-piece, number-at, form-unused, unused-neighbour}
-use Rattle.records.proofs.Shapes.{faces-positive, faces-six}
+use Rattle.records.proofs.Shapes.{faces-positive}
 use Rattle.part.specs.Layout.{partHeader, headerBytes}
 use Rattle.part.specs.Cut.{renamed, renameRow}
 use Rattle.part.specs.Means.{inRange, numberAt, smaller}
 use Rattle.part_cut.specs.Means.{Held, localRead}
-use Rattle.part.specs.View.{isLocal, ghostIs, held}
+use Rattle.part.specs.View.{held}
 use Rattle.part.proofs.Records.{header-length}
-use Rattle.part_theorems.proofs.Views.{TreeView, view-trees, core-tree, tree-link-held}
-use Rattle.area.specs.Layout.{ghostBound, slotsPlace, ghostSlotsPlace, slotsOf}
-use Rattle.area.specs.Area.{areaDimension, areaK, areaP, areaRank, areaCount, areaGhosts, areaNew, areaFirst, treeSlot, treeSlotCore, ghostSlot, areaBound, areaSound}
-use Rattle.area.specs.Close.{joinSound, joinIndex, joinedPart}
-use Rattle.area.specs.Means.{wordsEnd, HeaderHolds}
-use Rattle.area.proofs.Headers.{slots-place-is, ghosts-place-is, size-long}
-use Rattle.area.proofs.Ranges.{bound-read, range-trees}
+use Rattle.area.specs.Layout.{slotsPlace, ghostSlotsPlace, slotsOf}
+use Rattle.area.specs.Area.{areaDimension, areaK, areaP, areaRank, areaCount, areaGhosts, areaNew, areaFirst, treeSlot, treeSlotCore, ghostSlot, areaSound}
+use Rattle.area.specs.Close.{joinIndex, joinedPart}
+use Rattle.area.specs.Means.{HeaderHolds}
+use Rattle.area.proofs.Headers.{slots-place-is, ghosts-place-is}
 use Rattle.area.proofs.Soundness.{sound-holds}
 use Rattle.area_theorems.proofs.Again.{area-parts, sound-ghosts}
 use Rattle.area_theorems.proofs.Joined.{slots-length, slots-same, slots-piece}
 use Rattle.area_theorems.proofs.Kept.{Ghosts}
-use Rattle.area_theorems.proofs.Zones.{few-trees}
+use Rattle.close_check.specs.Means.{joinSound}
+use Rattle.close_check.proofs.AreaSlots.{slots-long, tree-long, few-held, range-is, ghost-held, tree-view, neighbour-held}
 use Rattle.close.specs.Means.{GhostsRoom, SlotsRoom, slotRecord, JoinRoom}
-use Rattle.close.proofs.Slots.{renamed-length}
-
--- ---- the slots
-
-module _ (a : List ℕ) (sound : areaSound a ≡ true) where
-  long : wordsEnd (areaP a) + treeSize * areaCount a + coreSize * areaBound a ≤ length a
-  long = size-long a (area-parts a sound .header .long)
-
-  pub slot-long : (i : ℕ) → i < areaCount a → length (treeSlot a i) ≡ treeSize
-  unfolding treeSlot
-  slot-long i h = piece-length a (slotsPlace (areaP a) + treeSize * i) treeSize (omega (arith, long, slots-place-is (areaP a)))
-
-  pub ghost-long : (j : ℕ) → j < areaGhosts a → length (ghostSlot a j) ≡ coreSize
-  unfolding ghostSlot
-  ghost-long j h =
-      piece-length a (ghostSlotsPlace (areaP a) (areaCount a) + coreSize * j) coreSize (omega (arith, long, ghosts-place-is (areaP a) (areaCount a), area-parts a sound .fit))
-
-  abbrev tree : ℕ → List ℕ
-  tree i = renamed (joinIndex a) (facesIn (areaDimension a)) (treeSlot a i)
-
-  pub tree-long : (i : ℕ) → i < areaCount a → length (renamed (joinIndex a) (facesIn (areaDimension a)) (treeSlot a i)) ≡ treeSize
-  tree-long i h = renamed-length (joinIndex a) (facesIn (areaDimension a)) (treeSlot a i) (slot-long i h)
 
 -- ---- the local indices
 
@@ -90,36 +64,17 @@ module _ (a : List ℕ) (b : Bytes a) (sound : areaSound a ≡ true) where
   unfolding numberAt ghostSlot
   number-is j = sym (number-at a (at + coreSize * j))
 
-  -- trees and ghosts are few
-  pub few-held : areaFirst a + areaCount a + areaGhosts a ≤ 7 * maxTrees
-  unfolding areaBound
-  few-held =
-      let bound = bound-read (areaDimension a) (areaCount a) refl (faces-six (areaDimension a)) in
-      let fit : areaGhosts a ≤ ghostBound (facesIn (areaDimension a)) (areaCount a) = area-parts a sound .fit in
-      omega (arith, range-trees a header, few-trees _ _ (header .tables), bound .0, bound .1)
-
   -- the held ghosts ascend
   pub ghosts-held : Held a (ghostSlotsPlace (areaP a) (areaCount a)) (areaGhosts a) (areaFirst a) (areaFirst a + areaCount a)
   ghosts-held =
       record {
         ghosts = record {
-          fits = omega (arith, long a sound, ghosts-place-is (areaP a) (areaCount a), area-parts a sound .fit);
+          fits = omega (arith, slots-long a sound, ghosts-place-is (areaP a) (areaCount a), area-parts a sound .fit);
           ascends = λ i j h l. rw (number-is i, number-is j) (G .ascends i j h l);
         };
         range = omega arith;
-        small = omega (arith, few-held);
+        small = omega (arith, few-held a b sound);
       }
-
-  -- one past the last tree of the range
-  range-end : areaFirst a + areaCount a ≡ endTree (areaNew a) (areaRank a)
-  unfolding areaFirst
-  range-end =
-      ap (λ (m : ℕ). firstTree (areaNew a) (areaRank a) + m) (header .countIs)
-      ∙ count-add (areaNew a) (header .tables .newBytes) (header .tables .newRanks) (header .tables .newValid) (areaRank a) (omega (arith, header .rankBelow, header .ranksAre, header .tables .sameRanks))
-
-  pub range-is : (k : ℕ) → inRange (areaFirst a) (areaFirst a + areaCount a) k ≡ holds (areaNew a) (areaRank a) k
-  unfolding inRange holds areaFirst
-  range-is k = rw range-end
 
   abbrev is : ℕ → ℕ → Bool
   is k j = eqb (numberOf (ghostSlot a j)) k
@@ -141,29 +96,12 @@ module _ (a : List ℕ) (b : Bytes a) (sound : areaSound a ≡ true) where
       → localRead a at (areaGhosts a) (areaFirst a) (areaFirst a + areaCount a) k ≡ joinIndex a k
   unfolding localRead joinIndex
   index-is k h =
-      rw (← range-is k, add-sub-cancel-left (areaFirst a) (areaCount a))
+      rw (← range-is a b sound k, add-sub-cancel-left (areaFirst a) (areaCount a))
       (either (eqb k unused) (λ p. rw p)
       (λ p. rw p
       (either (inRange (areaFirst a) (areaFirst a + areaCount a) k) (λ q. rw q) (λ q. rw (q, smaller-is k (h p q))))))
 
-  -- a number held outside the range is a ghost's
-  pub ghost-held : (k : ℕ) → held (areaFirst a) (areaCount a) (areaGhosts a) (treeSlotCore a) (ghostSlot a) k ≡ true
-      → inRange (areaFirst a) (areaFirst a + areaCount a) k ≡ false → anyBelow (areaGhosts a) (λ j. eqb (numberOf (ghostSlot a j)) k) ≡ true
-  unfolding held isLocal inRange ghostIs
-  ghost-held k e o = rw o at e
-
   module _ (joined : joinSound a ≡ true) where
-    tree-view : (i : ℕ) → i < areaCount a → TreeView (areaFirst a) (areaCount a) (areaGhosts a) (treeSlotCore a) (ghostSlot a) (areaDimension a) i
-    unfolding joinSound
-    tree-view = view-trees (areaFirst a) (areaCount a) (areaGhosts a) (treeSlotCore a) (ghostSlot a) (areaDimension a) (areaK a) joined
-
-    -- the neighbour across a used face is held
-    pub neighbour-held : (i : ℕ) → i < areaCount a → (f : ℕ) → f < faceCount (shapeOf (treeSlotCore a i))
-        → held (areaFirst a) (areaCount a) (areaGhosts a) (treeSlotCore a) (ghostSlot a) (neighbourOf (treeSlotCore a i) f) ≡ true
-    neighbour-held i h f l =
-        rw (core-tree (areaFirst a) (areaCount a) (areaGhosts a) (treeSlotCore a) (ghostSlot a) i h)
-        at (tree-link-held (areaFirst a) (areaCount a) (areaGhosts a) (treeSlotCore a) (ghostSlot a) (areaFirst a + i) f (tree-view i h .links f l))
-
     -- every neighbour of a tree gets its local index
     pub tree-index : (i : ℕ) → i < areaCount a → (f : ℕ) → f < 6
         → localRead a (ghostSlotsPlace (areaP a) (areaCount a)) (areaGhosts a) (areaFirst a) (areaFirst a + areaCount a) (neighbourOf (treeSlot a i) f) ≡ joinIndex a (neighbourOf (treeSlot a i) f)
@@ -171,8 +109,8 @@ module _ (a : List ℕ) (b : Bytes a) (sound : areaSound a ≡ true) where
         let r : List ℕ = treeSlotCore a i in
         rw (slot-neighbour a i f l)
         (index-is (neighbourOf r f)
-        (λ u o. either (ltb f (faceCount (shapeOf r))) (λ p. ghost-held (neighbourOf r f) (neighbour-held i h f (ltb-true f (faceCount (shapeOf r)) p)) o)
-        (λ p. clash (eq-eqb (neighbourOf r f) unused (unused-neighbour r f (form-unused (areaFirst a + i) r (tree-view i h .form) f (omega tests) l))) u)))
+        (λ u o. either (ltb f (faceCount (shapeOf r))) (λ p. ghost-held a b sound (neighbourOf r f) (neighbour-held a joined i h f (ltb-true f (faceCount (shapeOf r)) p)) o)
+        (λ p. clash (eq-eqb (neighbourOf r f) unused (unused-neighbour r f (form-unused (areaFirst a + i) r (tree-view a joined i h .form) f (omega tests) l))) u)))
 
     slot-is : (i : ℕ) → i < areaCount a
         → slotRecord (localRead a (ghostSlotsPlace (areaP a) (areaCount a)) (areaGhosts a) (areaFirst a) (areaFirst a + areaCount a)) (facesIn (areaDimension a)) a (slotsPlace (areaP a)) i
@@ -205,7 +143,7 @@ module _ (a out : List ℕ) (room : JoinRoom a out) (b : Bytes a) {P first n g F
   pub trees-room : {o1 : List ℕ} → length o1 ≡ length out → SlotsRoom a o1 from F first n at g
   trees-room l =
       record {
-        source = omega (arith, place-from, read .is-n, slots-place-is (areaP a), long a (room .isSound));
+        source = omega (arith, place-from, read .is-n, slots-place-is (areaP a), slots-long a (room .isSound));
         target = omega (arith, read .is-n, room .room);
         faced = rw (read .is-F) (faces-positive (areaDimension a));
         held = held-read;
@@ -236,7 +174,7 @@ module _ (a out : List ℕ) (room : JoinRoom a out) (b : Bytes a) {P first n g F
       let H : List ℕ = headerBytes (areaDimension a) (areaK a) (areaP a) (areaRank a) (areaFirst a) (areaCount a) (areaGhosts a) in
       let ghosts : List ℕ = slotsOf (ghostSlot a) (areaGhosts a) in
       let lH : length H ≡ 32 = header-length (areaDimension a) (areaK a) (areaP a) (areaRank a) (areaFirst a) (areaCount a) (areaGhosts a) in
-      let lT : length trees ≡ treeSize * areaCount a = slots-length (tree a (room .isSound)) treeSize (areaCount a) (tree-long a (room .isSound)) in
+      let lT : length trees ≡ treeSize * areaCount a = slots-length (λ i. renamed (joinIndex a) (facesIn (areaDimension a)) (treeSlot a i)) treeSize (areaCount a) (tree-long a (room .isSound)) in
       let q1 : o1 ≡ splice out 0 H = rw (is-d, is-K, read .is-P, is-rank, read .is-first, read .is-n, read .is-g) at e1 in
       let r2 : o2 ≡ splice o1 32 (slotsOf (slotRecord (localRead a (ghostSlotsPlace (areaP a) (areaCount a)) (areaGhosts a) (areaFirst a) (areaFirst a + areaCount a)) (facesIn (areaDimension a)) a (slotsPlace (areaP a))) (areaCount a)) =
       rw (place-at, read .is-g, read .is-first, read .is-n, read .is-F, place-from) at e2 in

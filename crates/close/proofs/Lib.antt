@@ -2,5 +2,4 @@
 pub mod Slots
 pub mod Lengths
 pub mod Joining
-pub mod Reading
 pub mod Closing

@@ -16,7 +16,7 @@ use Rattle.part.specs.Layout.{partHeader}
 use Rattle.part.specs.Cut.{renamed, renameRow}
 use Rattle.part_cut.specs.Means.{localRead}
 use Rattle.part.specs.Means.{rowsWith}
-use Rattle.part.proofs.Records.{links-length, rows-length, splice-over, with-hold, with-rows, rows-core}
+use Rattle.part.proofs.Records.{links-length, splice-over, with-hold, with-rows, rows-core}
 use Rattle.part_cut.proofs.Trees.{read-word}
 use Rattle.area.specs.Layout.{newPlace, wordsPlace, slotsOf}
 use Rattle.area.specs.Area.{areaP, areaRank, areaCount, areaNew, areaFirst}
@@ -25,6 +25,7 @@ use Rattle.area.proofs.Headers.{tabled}
 use Rattle.area.proofs.Ranges.{range-trees}
 use Rattle.area_theorems.proofs.Joined.{slots-length}
 use Rattle.area_theorems.proofs.Zones.{few-trees}
+use Rattle.close_check.proofs.AreaSlots.{renamed-length}
 use Rattle.close.specs.Means.{SlotRoom, SlotsRoom, slotRecord}
 
 -- ---- the range
@@ -48,10 +49,6 @@ ghosts-copied a out from count to p =
     p ∙ ap (λ (m : ℕ). splice out to (take m (drop from a))) e
 
 -- ---- one tree
-
-pub renamed-length : (rename : ℕ → ℕ) (F : ℕ) (r : List ℕ) → length r ≡ treeSize → length (renamed rename F r) ≡ treeSize
-unfolding renamed
-renamed-length rename F r l = rows-length _ F r (omega arith) ∙ l
 
 module _ (a out : List ℕ) (from F first end at count to : ℕ) (room : SlotRoom a out from F first end at count to) where
   abbrev local-of : ℕ → ℕ

@@ -10,7 +10,7 @@ use Rattle.part.specs.Layout.{partHeader, partSize}
 use Rattle.part.specs.Cut.{renamed}
 use Rattle.part_cut.specs.Means.{Held}
 use Rattle.area.specs.Area.{areaCount, areaGhosts, areaSound}
-use Rattle.area.specs.Close.{joinSound}
+use Rattle.close_check.specs.Means.{joinSound}
 
 -- count core records from byte from of an area, and room for them at byte to
 pub record GhostsRoom (a out : List ℕ) (from count to : ℕ) : Type 0 where
@@ -35,7 +35,7 @@ pub record SlotsRoom (a out : List ℕ) (from faces first n at count : ℕ) : Ty
 unfoldable pub slotRecord : (ℕ → ℕ) → ℕ → List ℕ → ℕ → ℕ → List ℕ
 slotRecord rename F a from i = renamed rename F (piece a (from + treeSize * i) treeSize)
 
--- a sound area whose joined part is sound, and room for the part
+-- a sound area whose records are those of a sound part, and room for the part
 pub record JoinRoom (a out : List ℕ) : Type 0 where
   pub isSound : areaSound a ≡ true
   pub joined : joinSound a ≡ true

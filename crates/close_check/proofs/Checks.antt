@@ -5,14 +5,16 @@ use mathlib.Core.Path.{_≡_, sym, _∙_}
 use mathlib.Core.Bool.{Bool, true, false}
 use mathlib.Core.List.{List}
 use Rattle.encoding.specs.Below.{allBelow}
+use Rattle.encoding.specs.Pieces.{Bytes}
 use Rattle.encoding.specs.Refusal.{firstFailed}
 use Rattle.encoding.proofs.Below.{either, all-fails, all-to}
 use Rattle.pattern.specs.Sets.{sendsTo, getsFrom}
 use Rattle.pattern.proofs.Sets.{gets-sends}
 use Rattle.area.specs.Area.{areaP, areaRank, areaOld, areaNew, heard, areaSound}
-use Rattle.area.specs.Close.{allHeard, joinSound, closeChecks}
+use Rattle.area.specs.Close.{allHeard, closeChecks}
 use Rattle.area.specs.Means.{Tabled}
-use Rattle.close_check.specs.Means.{senderHeard}
+use Rattle.close_check.specs.Means.{senderHeard, joinSound}
+use Rattle.close_check.proofs.Reading.{join-sound-part}
 
 -- ---- the heard senders
 
@@ -54,11 +56,11 @@ module _ (a : List ℕ) where
     unfolding closeChecks firstFailed
     refused-heard e = rw (sound, e)
 
-    module _ (all : allHeard a ≡ true) where
+    module _ (all : allHeard a ≡ true) (bytes : Bytes a) where
       pub refused-join : joinSound a ≡ false → 21 ≡ firstFailed (closeChecks a)
       unfolding closeChecks firstFailed
-      refused-join e = rw (sound, all, e)
+      refused-join e = rw (sound, all, ← join-sound-part a bytes sound all, e)
 
       pub not-refused : joinSound a ≡ true → 0 ≡ firstFailed (closeChecks a)
       unfolding closeChecks firstFailed
-      not-refused e = rw (sound, all, e)
+      not-refused e = rw (sound, all, ← join-sound-part a bytes sound all, e)

@@ -1,20 +1,17 @@
--- Where an area is sound and every due sender is heard, the tests left for its records are those of the joined part's soundness.
+-- Where an area is sound and every due sender is heard, the tests left for its records say that they are those of a sound part.
 use Prim.Native.Nat.{ℕ, _+_, _-_, _*_, _≤_, _<_}
 use native.Mathlib.Omega.{arith}
-use mathlib.Core.Path.{_≡_, refl, sym, ap, ap₂, _∙_}
-use mathlib.Core.Bool.{Bool, true, false, cond, _&&_}
+use mathlib.Core.Path.{_≡_, refl, sym, ap₂, _∙_}
+use mathlib.Core.Bool.{Bool, true, false, _&&_}
 use mathlib.Core.List.{List}
 use lib.Dec.{eqb}
 use lib.ListN.{length}
-use borrow.Author.Tests.{eqb-true, eqb-false, eq-eqb, lt-ltb}
+use borrow.Author.Tests.{eqb-false, lt-ltb}
 use Rattle.encoding.specs.Pieces.{Bytes}
-use Rattle.encoding.proofs.Below.{and-fst, and-snd, either, all-at, all-same, any-intro}
+use Rattle.encoding.proofs.Below.{and-fst, either, all-same}
 use Rattle.offsets.specs.Limits.{maxTrees}
-use Rattle.offsets.specs.Table.{ranks, firstTree, endTree, treeCount, holds}
-use Rattle.offsets.proofs.Tables.{count-add, trees-high}
-use Rattle.pattern.specs.Sender.{sender}
-use Rattle.pattern.specs.Sets.{getsFrom}
-use Rattle.pattern.proofs.Senders.{sender-lt}
+use Rattle.offsets.specs.Table.{firstTree}
+use Rattle.offsets.proofs.Tables.{trees-high}
 use Rattle.records.specs.Shape.{faceCount}
 use Rattle.records.specs.Record.{numberOf, shapeOf, inForm}
 use Rattle.records.proofs.Forms.{form-shape}
@@ -22,8 +19,8 @@ use Rattle.part.specs.View.{isLocal, treeLink, ghostLink, localSound, ghostAfte
 use Rattle.part.specs.Means.{inRange, neighbourIn}
 use Rattle.mesh.specs.Means.{linkByDimension, linkBetween}
 use Rattle.area.specs.Layout.{slotsPlace, ghostSlotsPlace}
-use Rattle.area.specs.Area.{areaDimension, areaK, areaP, areaRank, areaCount, areaGhosts, areaOld, areaNew, areaFirst, heard, treeSlotCore, ghostSlot, dueHeard, treeSlotSound, areaSound}
-use Rattle.area.specs.Close.{allHeard, joinSound}
+use Rattle.area.specs.Area.{areaDimension, areaK, areaP, areaRank, areaCount, areaGhosts, areaOld, areaNew, areaFirst, heard, treeSlotCore, ghostSlot, areaSound}
+use Rattle.area.specs.Close.{allHeard}
 use Rattle.area.specs.Means.{HeaderHolds}
 use Rattle.area.proofs.Headers.{slots-place-is}
 use Rattle.area.proofs.Ranges.{range-trees}
@@ -31,7 +28,8 @@ use Rattle.area.proofs.Tabled.{tabled-long}
 use Rattle.area.proofs.Soundness.{sound-holds}
 use Rattle.area_theorems.proofs.Kept.{Ghosts}
 use Rattle.area_theorems.proofs.Again.{area-parts, sound-ghosts}
-use Rattle.close_check.specs.Means.{treeFrom, ghostFrom, Slots, linkOfTree, linkOfGhost, treeJoins, ghostJoins, recordsJoin, Complete}
+use Rattle.close_check.specs.Means.{treeFrom, ghostFrom, Slots, linkOfTree, linkOfGhost, treeJoins, ghostJoins, recordsJoin, joinSound, Complete}
+use Rattle.close_check.proofs.AreaSlots.{range-is, tree-slot, tree-number}
 use Rattle.close_check.proofs.Links.{tree-link-is, ghost-link-is}
 use Rattle.close_check.proofs.ByDimension.{records-by-dimension}
 
@@ -58,18 +56,6 @@ module _ (a : List ℕ) (bytes : Bytes a) (sound : areaSound a ≡ true) where
   abbrev ghostly : ℕ → List ℕ
   ghostly = ghostFrom a (slotsPlace (areaP a)) (areaCount a)
 
-  rank-old : areaRank a < ranks (areaOld a)
-  rank-old = omega (arith, H .ranksAre, H .rankBelow)
-
-  rank-new : areaRank a < ranks (areaNew a)
-  rank-new = omega (arith, rank-old, H .tables .sameRanks)
-
-  range-end : endTree (areaNew a) (areaRank a) ≡ areaFirst a + areaCount a
-  unfolding areaFirst
-  range-end =
-      sym (count-add (areaNew a) (H .tables .newBytes) (H .tables .newRanks) (H .tables .newValid) (areaRank a) rank-new)
-      ∙ ap (λ (m : ℕ). firstTree (areaNew a) (areaRank a) + m) (sym (H .countIs))
-
   pub range-most : areaFirst a + areaCount a ≤ maxTrees
   range-most = omega (arith, range-trees a H, trees-high (areaOld a) (H .tables .oldBytes) (H .tables .oldRanks) (H .tables .oldValid))
 
@@ -80,8 +66,7 @@ module _ (a : List ℕ) (bytes : Bytes a) (sound : areaSound a ≡ true) where
   held-ghosts = sound-ghosts a bytes sound
 
   ghost-outside : (j : ℕ) → j < areaGhosts a → inRange (areaFirst a) (areaFirst a + areaCount a) (numberOf (ghostFrom a (slotsPlace (areaP a)) (areaCount a) j)) ≡ false
-  unfolding inRange holds areaFirst
-  ghost-outside j h = rw range-end at (held-ghosts .outside j h)
+  ghost-outside j h = range-is a bytes sound (numberOf (ghostFrom a (slotsPlace (areaP a)) (areaCount a) j)) ∙ held-ghosts .outside j h
 
   ghost-behind : (j : ℕ) → j < areaGhosts a → ghostAfter first n g tree ghostly j ≡ true
   unfolding ghostAfter
@@ -93,23 +78,13 @@ module _ (a : List ℕ) (bytes : Bytes a) (sound : areaSound a ≡ true) where
   -- ---- the trees
 
   module _ (all : allHeard a ≡ true) where
-    -- the sender of each is due, and so heard
-    tree-heard : (i : ℕ) → i < areaCount a → dueHeard a i ≡ true
-    unfolding allHeard dueHeard areaFirst getsFrom
-    tree-heard i h =
-        let k : ℕ = firstTree (areaNew a) (areaRank a) + i in
-        let s : ℕ = sender (areaOld a) k (areaRank a) in
-        let l : s < ranks (areaOld a) = sender-lt (areaOld a) (areaNew a) (H .tables) k (areaRank a) (omega (arith, range-trees a H)) rank-old in
-        let due : getsFrom (areaOld a) (areaNew a) (areaRank a) s ≡ true =
-        any-intro (treeCount (areaNew a) (areaRank a)) (λ m. eqb (sender (areaOld a) (firstTree (areaNew a) (areaRank a) + m) (areaRank a)) s) i (omega (arith, H .countIs)) (eq-eqb s s refl) in
-        rw due at (all-at (areaP a) (λ m. cond (getsFrom (areaOld a) (areaNew a) (areaRank a) m) (heard a m) true) all s (omega (arith, H .ranksAre)))
-
-    tree-slot : (i : ℕ) → i < areaCount a → (inForm (areaFirst a + i) (treeFrom a (slotsPlace (areaP a)) i) && eqb (numberOf (treeFrom a (slotsPlace (areaP a)) i)) (areaFirst a + i)) ≡ true
-    unfolding treeSlotSound treeSlotCore treeFrom
-    tree-slot i h = rw (tree-heard i h) at (area-parts a sound .tree i h)
+    form-number : (i : ℕ) → i < areaCount a → (inForm (areaFirst a + i) (treeFrom a (slotsPlace (areaP a)) i) && eqb (numberOf (treeFrom a (slotsPlace (areaP a)) i)) (areaFirst a + i)) ≡ true
+    unfolding treeSlotCore treeFrom
+    form-number = tree-slot a bytes sound all
 
     tree-numbered : (i : ℕ) → i < areaCount a → numberOf (treeFrom a (slotsPlace (areaP a)) i) ≡ areaFirst a + i
-    tree-numbered i h = eqb-true _ _ (and-snd (inForm (areaFirst a + i) (treeFrom a (slotsPlace (areaP a)) i)) (eqb (numberOf (treeFrom a (slotsPlace (areaP a)) i)) (areaFirst a + i)) (tree-slot i h))
+    unfolding treeSlotCore treeFrom
+    tree-numbered = tree-number a bytes sound all
 
     pub area-slots : Slots a (slotsPlace (areaP a)) (areaFirst a) (areaCount a) (areaGhosts a)
     area-slots =
@@ -126,7 +101,7 @@ module _ (a : List ℕ) (bytes : Bytes a) (sound : areaSound a ≡ true) where
     unfolding localSound treeJoins
     tree-same D i h =
         rw (
-          tree-slot i h,
+          form-number i h,
           all-same (faceCount (shapeOf (tree i))) (treeLink first n g tree ghostly (first + i)) (linkOfTree linkBetween a at first n g i) (λ f l. tree-link-is a at first n g area-slots i h f),
         )
 
@@ -155,7 +130,7 @@ module _ (a : List ℕ) (bytes : Bytes a) (sound : areaSound a ≡ true) where
         (all-same n (localSound first n g tree ghostly (areaDimension a)) (treeJoins linkBetween a at first n g (areaDimension a)) (tree-same (areaDimension a)))
         (all-same g (ghostSound first n g tree ghostly (areaDimension a) (areaK a)) (ghostJoins linkBetween a at first n g (areaDimension a) (areaK a)) (ghost-same (areaDimension a)))
         ∙ sym (records-by-dimension (areaDimension a) a at first n g (areaK a)
-        (λ i h. form-shape (first + i) (tree i) (and-fst (inForm (first + i) (tree i)) (eqb (numberOf (tree i)) (first + i)) (tree-slot i h)))
+        (λ i h. form-shape (first + i) (tree i) (and-fst (inForm (first + i) (tree i)) (eqb (numberOf (tree i)) (first + i)) (form-number i h)))
         (λ j h. form-shape (numberOf (ghostly j)) (ghostly j) (held-ghosts .form j h)))
 
 -- the same with what the code has read

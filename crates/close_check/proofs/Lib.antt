@@ -2,5 +2,7 @@
 pub mod Places
 pub mod Links
 pub mod ByDimension
+pub mod AreaSlots
 pub mod Joining
+pub mod Reading
 pub mod Checks

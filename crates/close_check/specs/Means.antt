@@ -12,9 +12,9 @@ use Rattle.pattern.specs.Sets.{getsFrom}
 use Rattle.records.specs.Shape.{dimensionOf, faceCount}
 use Rattle.records.specs.Record.{coreSize, treeSize, numberOf, shapeOf, neighbourOf}
 use Rattle.mesh.specs.Link.{orientationOk}
-use Rattle.part.specs.View.{held, heldCore}
+use Rattle.part.specs.View.{held, heldCore, viewSound}
 use Rattle.part.specs.Means.{inRange, neighbourIn, ghostHas}
-use Rattle.area.specs.Area.{areaRank, areaOld, areaNew, heard, areaSound}
+use Rattle.area.specs.Area.{areaDimension, areaK, areaRank, areaCount, areaGhosts, areaOld, areaNew, areaFirst, heard, treeSlotCore, ghostSlot, areaSound}
 use Rattle.area.specs.Close.{allHeard}
 use Rattle.area.specs.Means.{HeaderHolds}
 
@@ -82,6 +82,10 @@ module _ (link : ℕ → List ℕ → ℕ → List ℕ → Bool) (a : List ℕ) 
 
   unfoldable pub recordsJoin : ℕ → ℕ → Bool
   recordsJoin D K = allBelow n (treeJoins D) && allBelow g (ghostJoins D K)
+
+-- the records in an area's slots are those of a sound part; proofs/Reading.antt: with every due sender heard this is the joined part's soundness
+unfoldable pub joinSound : List ℕ → Bool
+joinSound a = viewSound (areaFirst a) (areaCount a) (areaGhosts a) (treeSlotCore a) (ghostSlot a) (areaDimension a) (areaK a)
 
 -- a sound area with every due sender heard, and its new table
 pub record Complete (a new : List ℕ) : Type 0 where

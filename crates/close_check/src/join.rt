@@ -17,8 +17,7 @@ ghost use Rattle.encoding.specs.Pieces.{piece};
 ghost use Rattle.records.specs.Record.{coreSize};
 ghost use Rattle.part.specs.Means.{inRange, ghostHas};
 ghost use Rattle.mesh.specs.Means.{linkByDimension};
-ghost use Rattle.area.specs.Close.{joinSound};
-ghost use Rattle.close_check.specs.Means.{ghostFrom, Slots, placeOf, linkOfTree, linkOfGhost, treeJoins, ghostJoins, recordsJoin, Complete};
+ghost use Rattle.close_check.specs.Means.{ghostFrom, Slots, placeOf, linkOfTree, linkOfGhost, treeJoins, ghostJoins, recordsJoin, joinSound, Complete};
 
 fn ghost_has(
     area: &[u8],

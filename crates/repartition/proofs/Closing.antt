@@ -24,26 +24,22 @@ use Rattle.records.specs.Record.{coreSize, treeSize, unused, numberOf, neighbou
 use Rattle.records.specs.Shape.{facesIn}
 use Rattle.records.proofs.Forms.{at-piece}
 use Rattle.mesh.specs.Mesh.{meshHeader, meshDimension, meshTrees, meshCore, meshRecord}
-use Rattle.part.specs.Ghosts.{isGhost, ghostsOf, ghostPosition}
+use Rattle.part.specs.Ghosts.{isGhost, ghostPosition}
 use Rattle.part.specs.Cut.{renameRow, renamed, localIndex, partTree, partTrees, partGhosts, ghostCount, cutPart}
-use Rattle.part.specs.Part.{partDimension, partK, partFirst, partCount, partGhostCount, globalTree, storedGhost}
-use Rattle.part.specs.View.{viewSound}
+use Rattle.part.specs.Part.{partSound}
 use Rattle.part_cut.proofs.Cutting.{Cuttable, cores-length}
-use Rattle.part_theorems.proofs.CutRead.{cut-dimension, cut-K, cut-first, cut-count, cut-ghosts, cut-ghost}
-use Rattle.part_theorems.proofs.CutSound.{neighbour-cases, range-local, cut-global, cut-sound}
-use Rattle.part_theorems.proofs.SoundParts.{part-view}
-use Rattle.part_theorems.proofs.Views.{view-same}
+use Rattle.part_theorems.proofs.CutSound.{neighbour-cases, range-local, cut-sound}
 use Rattle.message.specs.Rule.{ghostSender}
 use Rattle.message.proofs.Ghosts.{sender-below, sends-some, ghost-sender-lt, ghost-sender-sends}
 use Rattle.area.specs.Layout.{slotsOf}
-use Rattle.area.specs.Area.{areaDimension, areaRank, areaGhosts, areaOld, areaNew, heard, treeSlot, treeSlotCore, ghostSlot}
-use Rattle.area.specs.Close.{allHeard, joinSound, joinIndex, joinedPart, closeChecks, closeOf}
+use Rattle.area.specs.Area.{areaDimension, areaRank, areaGhosts, areaOld, areaNew, heard, treeSlot, ghostSlot}
+use Rattle.area.specs.Close.{allHeard, joinIndex, joinedPart, closeChecks, closeOf}
 use Rattle.area_theorems.proofs.Zones.{Reads}
 use Rattle.repartition.proofs.Canonical.{slotHeard, ghostHeard, ghostsHeard, canonical}
 use Rattle.repartition.specs.Run.{Run, Setting}
 use Rattle.repartition.specs.Lists.{allDue}
 use Rattle.repartition.proofs.Receive.{InReceive}
-use Rattle.repartition.proofs.Heard.{record-core, rank-bit, canonical-reads, heard-kept, canonical-sound}
+use Rattle.repartition.proofs.Heard.{rank-bit, canonical-reads, heard-kept, canonical-sound}
 
 -- records whose neighbours get the same names
 same-names : (a b : ℕ → ℕ) (F : ℕ) (r : List ℕ) → ((f : ℕ) → f < 6 → a (neighbourOf r f) ≡ b (neighbourOf r f)) → renamed a F r ≡ renamed b F r
@@ -133,10 +129,6 @@ module _ (run : Run) (S : Setting run) where
       unfolding slotHeard
       slot-there i h = reads .at-slot i h ∙ rw (tree-heard i h)
 
-      core-there : (i : ℕ) → i < n → treeSlotCore a i ≡ meshCore (run .mesh) (first + i)
-      unfolding slotHeard
-      core-there i h = reads .at-core i h ∙ rw (tree-heard i h) (record-core run (first + i))
-
       ghosts-there : (k : ℕ) → ghostsHeard run H k ≡ partGhosts (run .mesh) (run .new) (run .rank) k
       unfolding ghostsHeard partGhosts
       ghosts-there zero = refl
@@ -217,24 +209,9 @@ module _ (run : Run) (S : Setting run) where
           let e = S .tables .sameRanks in
           rw (reads .at-count, reads .at-ghosts, joined-trees n (le-refl n), joined-ghosts, reads .at-dimension, reads .at-K, reads .at-P, reads .at-rank, reads .at-first, many, S .same-trees, e)
 
-      cut-at : (j : ℕ) → j < ghostCount (run .mesh) (run .new) (run .rank) → storedGhost (cutPart (run .mesh) (run .new) (run .rank)) j ≡ core (number j)
-      unfolding ghostsOf
-      cut-at j h = cut-ghost (run .mesh) (run .new) (run .rank) new-cuttable (S .tables .newBytes) j h
-
-      -- and sound
-      pub join-sound : joinSound a ≡ true
-      unfolding joinSound
-      join-sound =
-          let ok = new-cuttable in
-          let bytes = S .tables .newBytes in
-          let part : List ℕ = cutPart (run .mesh) (run .new) (run .rank) in
-          let v : viewSound (partFirst part) (partCount part) (partGhostCount part) (globalTree part) (storedGhost part) (partDimension part) (partK part) ≡ true = part-view part (run .new) (run .rank) (cut-sound (run .mesh) (run .new) (run .rank) ok (S .mesh-bytes) bytes) in
-          let w : viewSound first n (ghostCount (run .mesh) (run .new) (run .rank)) (globalTree part) (storedGhost part) (meshDimension (run .mesh)) K ≡ true =
-          rw (cut-first (run .mesh) (run .new) (run .rank) ok bytes, cut-count (run .mesh) (run .new) (run .rank) ok bytes, cut-ghosts (run .mesh) (run .new) (run .rank) ok bytes, cut-dimension (run .mesh) (run .new) (run .rank) ok bytes, cut-K (run .mesh) (run .new) (run .rank) ok bytes) at v in
-          rw (reads .at-first, reads .at-count, reads .at-ghosts, reads .at-dimension, reads .at-K, many, ← S .same-trees)
-          (view-same first n (ghostCount (run .mesh) (run .new) (run .rank)) (treeSlotCore a) (globalTree part) (ghostSlot a) (storedGhost part)
-          (λ i h. core-there i h ∙ sym (cut-global (run .mesh) (run .new) (run .rank) ok (S .mesh-bytes) bytes i h))
-          (λ j h. slot-core j (rw many h) ∙ sym (cut-at j h)) (meshDimension (run .mesh)) K ∙ w)
+      -- and so is sound
+      pub join-sound : partSound (joinedPart a) (areaNew a) (areaRank a) ≡ true
+      join-sound = rw (join-is-cut, reads .at-new, reads .at-rank) (cut-sound (run .mesh) (run .new) (run .rank) new-cuttable (S .mesh-bytes) (S .tables .newBytes))
 
     -- a close: 20 until the receive set is heard, then 22 if the buffer is shorter than the part, else the part
     pub close-step : InReceive run H → (out : List ℕ)

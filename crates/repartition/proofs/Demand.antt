@@ -21,6 +21,7 @@ use Rattle.pattern.proofs.Sets.{gets-sends}
 use Rattle.records.specs.Record.{numberOf}
 use Rattle.mesh.specs.Mesh.{meshDimension, meshTrees, meshCore, meshRecord}
 use Rattle.part.specs.Ghosts.{isGhost}
+use Rattle.message.specs.Build.{partRecord}
 use Rattle.message.specs.Rule.{ghostGoes}
 use Rattle.message.proofs.Ghosts.{tree-one-message, ghost-one-message}
 use Rattle.area_open.specs.Calls.{openChecks, openAreaOf}
@@ -35,15 +36,15 @@ use Rattle.part.specs.Part.{partCount, partGhostCount, storedTree, storedGhost}
 use Rattle.part_theorems.proofs.CutSound.{range-local}
 use Rattle.area.specs.Close.{closeOf}
 use Rattle.repartition.specs.Run.{Run, Setting}
-use Rattle.repartition.specs.Lists.{deliver, Call, close, countIn, treeIn, ghostWith, Built, AllBuilt, messageOf, opened, hears, hearsAll, nobody, allDue, areaAfterAll, answersOf, dueAll, acceptedBy, newPart}
+use Rattle.repartition.specs.Lists.{deliver, Call, close, countIn, AllIn, treeIn, ghostWith, TreeIs, GhostIs, Built, AllBuilt, messageOf, opened, hears, hearsAll, nobody, allDue, areaAfterAll, answersOf, dueAll, acceptedBy, newPart}
 use Rattle.repartition.specs.Demand.{Demand3, size, heardBy, bytesAfter, cameIn, closeAfter}
 use Rattle.repartition.proofs.Receive.{InReceive, nobody-receive, hears-receive}
-use Rattle.repartition.proofs.Sequences.{Steps, after-all, answers-all, accepted-times}
+use Rattle.repartition.proofs.Sequences.{Steps, accepted-all, after-all, answers-all, accepted-times}
 use Rattle.repartition.proofs.Building.{message-of}
 use Rattle.repartition.proofs.Heard.{canonical-zones, canonical-agree, canonical-apart, fresh-canonical}
 use Rattle.repartition.proofs.Delivering.{deliver-step}
-use Rattle.repartition.proofs.RuleMessages.{trees-in, goes-in}
-use Rattle.repartition.proofs.Records.{front-count, front-ghosts, front-tree, front-ghost}
+use Rattle.repartition.proofs.RuleMessages.{trees-in, goes-in, follows-rule}
+use Rattle.repartition.proofs.Records.{front-count, front-ghosts, front-tree, front-ghost, front-ghost-core, front-record}
 use Rattle.repartition.proofs.Closing.{close-step, new-cuttable}
 
 module _ (run : Run) (S : Setting run) where
@@ -204,6 +205,33 @@ module _ (run : Run) (S : Setting run) where
         let g = front-ghost (run .mesh) (run .new) (run .rank) ok (S .mesh-bytes) (T .newBytes) rest j l in
         rw (c .1) (ghosts-once (c .0) (numberOf (storedGhost (newPart run ++ rest) j)) (g .0) (g .1))
 
+    -- the records of messages that are built are the mesh's, and so are the part's
+    trees-whole : (out : List ℕ) → closeAfter run b cs out .0 .refusal ≡ 0 → (i : ℕ) → i < partCount (closeAfter run b cs out .1)
+        → AllIn (TreeIs (numberOf (storedTree (closeAfter run b cs out .1) i)) (partRecord (closeAfter run b cs out .1) (numberOf (storedTree (closeAfter run b cs out .1) i)))) (cameIn run b cs)
+    unfolding TreeIs
+    trees-whole out e i h =
+        let ok = new-cuttable run S in
+        let c = accepted-close out e in
+        let rest : List ℕ = drop (length (newPart run)) out in
+        let l : i < treeCount (run .new) (run .rank) = rw (c .1, front-count (run .mesh) (run .new) (run .rank) ok (S .mesh-bytes) (T .newBytes) rest) at h in
+        let k : ℕ = firstTree (run .new) (run .rank) + i in
+        let r : partRecord (newPart run ++ rest) k ≡ meshRecord (run .mesh) k = front-record (run .mesh) (run .new) (run .rank) ok (S .mesh-bytes) (T .newBytes) rest i l in
+        rw (c .1, front-tree (run .mesh) (run .new) (run .rank) ok (S .mesh-bytes) (T .newBytes) rest i l)
+        (accepted-all run S (TreeIs k (partRecord (newPart run ++ rest) k)) (λ p q f m j u. follows-rule run S p q f .tree-records m j ∙ ap (meshRecord (run .mesh)) u ∙ sym r) cs built (opened run b .1))
+
+    ghosts-whole : (out : List ℕ) → closeAfter run b cs out .0 .refusal ≡ 0 → (j : ℕ) → j < partGhostCount (closeAfter run b cs out .1)
+        → AllIn (GhostIs (numberOf (storedGhost (closeAfter run b cs out .1) j)) (storedGhost (closeAfter run b cs out .1) j)) (cameIn run b cs)
+    unfolding GhostIs
+    ghosts-whole out e j h =
+        let ok = new-cuttable run S in
+        let c = accepted-close out e in
+        let rest : List ℕ = drop (length (newPart run)) out in
+        let l : j < ghostCount (run .mesh) (run .new) (run .rank) = rw (c .1, front-ghosts (run .mesh) (run .new) (run .rank) ok (S .mesh-bytes) (T .newBytes) rest) at h in
+        let g : List ℕ = storedGhost (newPart run ++ rest) j in
+        let r : g ≡ meshCore (run .mesh) (numberOf g) = front-ghost-core (run .mesh) (run .new) (run .rank) ok (S .mesh-bytes) (T .newBytes) rest j l in
+        rw (c .1)
+        (accepted-all run S (GhostIs (numberOf g) g) (λ p q f m i u. follows-rule run S p q f .ghost-records m i ∙ ap (meshCore (run .mesh)) u ∙ sym r) cs built (opened run b .1))
+
 -- the theorem of demand 3
 pub demand-3 : Demand3
 demand-3 run S b c long-b long-c cs ds built-c built-d =
@@ -226,4 +254,6 @@ demand-3 run S b c long-b long-c cs ds built-c built-d =
       ghost-once = ghosts-once run S b long-b cs built-c;
       tree-record-once = tree-records run S b long-b cs built-c;
       ghost-record-once = ghost-records run S b long-b cs built-c;
+      tree-record-whole = trees-whole run S b long-b cs built-c;
+      ghost-record-whole = ghosts-whole run S b long-b cs built-c;
     }

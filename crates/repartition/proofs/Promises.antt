@@ -7,9 +7,10 @@ use mathlib.Core.List.{List, [], _∷_}
 use lib.Dec.{eqb}
 use lib.ListN.{length}
 use borrow.Author.Tests.{lt-ltb, le-leb, eq-eqb}
-use Rattle.encoding.specs.Answer.{writeAnswer}
+use Rattle.encoding.specs.Answer.{lengthAnswer, writeAnswer}
 use Rattle.encoding.specs.Pieces.{Bytes}
 use Rattle.encoding.specs.Refusal.{check, firstFailed}
+use Rattle.encoding.specs.declared.answer.Length.{Length}
 use Rattle.encoding.proofs.Below.{either, and-fst, and-snd, and-intro}
 use Rattle.offsets.specs.Limits.{rankCountOk, treeCountOk}
 use Rattle.offsets.specs.Table.{tableLength, ranks, ranksOk, trees, firstTree, treeCount, entriesWithin, countsOk, valid, entry}
@@ -33,9 +34,16 @@ use Rattle.part_check.specs.Calls.{partRefusal}
 use Rattle.part_cut.proofs.Cutting.{Cuttable}
 use Rattle.part_theorems.proofs.CutLinks.{cut-answer}
 use Rattle.part_theorems.proofs.CutSound.{cut-holds, held-below, cut-core, cut-sound}
+use Rattle.message.specs.Layout.{messageTrees, messageGhosts, inLayout}
+use Rattle.message.specs.Calls.{messageRefusal, readingOf}
+use Rattle.message.proofs.Layouts.{layout-size}
+use Rattle.message.proofs.Reading.{count-all}
 use Rattle.message.proofs.Ghosts.{tree-one-message, ghost-one-message}
+use Rattle.message_reader.specs.Handing.{beginOf, begunSeen}
+use Rattle.message_reader.specs.declared.Begun.{Begun}
+use Rattle.message_reader.proofs.Whole.{reads-records, reads-bytes, reads-remains, reads-end, reads-refused, reads-nothing}
 use Rattle.repartition.specs.Lists.{Built}
-use Rattle.repartition.specs.Promises.{BecomesTable, OneTable, OnlyValid, TableAgain, SharedFirst, LeafTables, Received, SetsAscend, CutParts, Messages, BuiltInLayout, TreeOneMessage, GhostOneMessage, Demand2}
+use Rattle.repartition.specs.Promises.{BecomesTable, OneTable, OnlyValid, TableAgain, SharedFirst, LeafTables, Received, SetsAscend, CutParts, Messages, BuiltInLayout, ReadsMessages, TreeOneMessage, GhostOneMessage, Demand2}
 use Rattle.repartition.proofs.Building.{own-record, build-answer}
 use Rattle.repartition.proofs.PartMessages.{part-in-layout}
 use Rattle.repartition.proofs.RuleMessages.{trees-in, goes-in, follows-rule}
@@ -205,6 +213,25 @@ part-passes part table rank ok v below e =
 pub built-in-layout : BuiltInLayout
 built-in-layout part old new p q epoch T l r e = part-in-layout part old new p q T l r (part-passes part old p (T .oldRanks) (T .oldValid) l e) epoch
 
+-- how many records a message in layout has
+answer-read : (m : List ℕ) (b : Begun) → begunSeen b ≡ beginOf m → inLayout m ≡ true → b .answer ≡ record { refusal = 0; length = messageTrees m + messageGhosts m }
+unfolding beginOf readingOf messageRefusal lengthAnswer firstFailed
+answer-read m b begun laid = ap (λ (x : Length × (List ℕ × ℕ)). x .0) begun ∙ rw (laid, count-all m (layout-size m laid))
+
+pub reads-messages : ReadsMessages
+reads-messages m b begun = (
+  (λ laid. (
+    answer-read m b begun laid,
+    record {
+      records = reads-records m b begun laid;
+      bytes = reads-bytes m b begun laid;
+      remain = reads-remains m b begun laid;
+      end = reads-end m b begun laid;
+    },
+  )),
+  (λ unlaid. (reads-refused m b begun unlaid, reads-nothing m b begun unlaid)),
+)
+
 pub tree-in-one : TreeOneMessage
 tree-in-one run S q k l h =
     let w = tree-one-message (run .old) (run .new) (S .tables) q k l h in
@@ -235,6 +262,7 @@ demand-2 =
       cut-parts = cut-parts;
       messages = messages;
       built-in-layout = built-in-layout;
+      reads-messages = reads-messages;
       tree-one-message = tree-in-one;
       ghost-one-message = ghost-in-one;
     }

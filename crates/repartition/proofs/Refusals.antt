@@ -1,16 +1,18 @@
--- What a refused call leaves, and what three refusals mean.
-use Prim.Native.Nat.{ℕ, _+_}
+-- What a refused call leaves, what three refusals mean, and that a close writes none but sound parts.
+use Prim.Native.Nat.{ℕ, suc, _+_}
 use native.Mathlib.Omega.{arith}
 use mathlib.Core.Path.{_≡_, refl, sym, _∙_}
 use mathlib.Core.Bool.{Bool, true, false, cond, not, _&&_}
 use mathlib.Core.List.{List}
 use lib.Dec.{leb, ltb, eqb}
-use lib.ListN.{length}
-use borrow.Author.Tests.{eqb-true, not-false}
+use lib.ListN.{length, take, drop}
+use lib.Seq.{take-at}
+use borrow.Author.Tests.{eqb-true, eq-eqb, not-false}
 use Rattle.encoding.specs.Answer.{lengthAnswer, written, writeAnswer}
 use Rattle.encoding.specs.Below.{allBelow}
+use Rattle.encoding.specs.Pieces.{splice}
 use Rattle.encoding.specs.Refusal.{firstFailed}
-use Rattle.encoding.proofs.Below.{either}
+use Rattle.encoding.proofs.Below.{either, clash}
 use Rattle.offsets.specs.Table.{ranks, ranksOk, trees, valid}
 use Rattle.offsets_write.specs.Calls.{writeTable}
 use Rattle.leaves.specs.Calls.{tableFromLeaves}
@@ -21,11 +23,11 @@ use Rattle.part_cut.specs.Calls.{cutPartOf}
 use Rattle.message.specs.Layout.{messageSender, messageReceiver, messageGhosts, inLayout}
 use Rattle.message.specs.Build.{partMessage}
 use Rattle.message.specs.Calls.{buildChecks, buildMessageOf}
-use Rattle.area.specs.Area.{areaRank, areaGhosts, areaBound, heard, areaSound}
+use Rattle.area.specs.Area.{areaRank, areaGhosts, areaNew, areaBound, heard, areaSound}
 use Rattle.area_open.specs.Calls.{openAreaOf}
 use Rattle.area.specs.Deliver.{sameRun, senderDue, treesDue, ghostDue, ghostNew, deliverChecks, deliverOf}
-use Rattle.area.specs.Close.{allHeard, joinSound, joinedPart, closeChecks, closeOf}
-use Rattle.repartition.specs.Refusals.{Unchanged, RefusedUnchanged, RefusalsMean}
+use Rattle.area.specs.Close.{allHeard, joinedPart, closeChecks, closeOf}
+use Rattle.repartition.specs.Refusals.{Unchanged, RefusedUnchanged, RefusalsMean, ClosesSound}
 
 -- ---- what a refused call leaves
 
@@ -120,7 +122,45 @@ unfolding closeOf closeChecks firstFailed
 some-unheard area out e =
     let e10 = sym (refusal-is _ (joinedPart area) out) ∙ e in
     let e20 = passed (areaSound area) _ 10 20 (λ z. omega arith) e10 in
-    failed (allHeard area) _ 20 (neither (joinSound area) _ 21 20 (neither (leb (length (joinedPart area)) (length out)) 0 22 20 (λ z. omega arith) (λ z. omega arith)) (λ z. omega arith)) e20
+    failed (allHeard area) _ 20 (neither (partSound (joinedPart area) (areaNew area) (areaRank area)) _ 21 20 (neither (leb (length (joinedPart area)) (length out)) 0 22 20 (λ z. omega arith) (λ z. omega arith)) (λ z. omega arith)) e20
 
 pub refusals-mean : RefusalsMean
 refusals-mean = record { nothing-for-you = not-sent; already-heard = was-heard; not-all-heard = some-unheard }
+
+-- ---- a close
+
+part-unsound : (area out : List ℕ) → closeOf area out .0 .refusal ≡ 21 → partSound (joinedPart area) (areaNew area) (areaRank area) ≡ false
+unfolding closeOf closeChecks firstFailed
+part-unsound area out e =
+    let e10 = sym (refusal-is _ (joinedPart area) out) ∙ e in
+    let e20 = passed (areaSound area) _ 10 21 (λ z. omega arith) e10 in
+    let e21 = passed (allHeard area) _ 20 21 (λ z. omega arith) e20 in
+    failed (partSound (joinedPart area) (areaNew area) (areaRank area)) _ 21 (neither (leb (length (joinedPart area)) (length out)) 0 22 21 (λ z. omega arith) (λ z. omega arith)) e21
+
+-- a check that passed
+holds-true : (b : Bool) (rest n : ℕ) → cond b rest (suc n) ≡ 0 → b ≡ true
+holds-true true rest n e = refl
+holds-true false rest n e = absurd (omega arith)
+
+part-sound : (area out : List ℕ) → closeOf area out .0 .refusal ≡ 0 → partSound (joinedPart area) (areaNew area) (areaRank area) ≡ true
+unfolding closeOf closeChecks firstFailed
+part-sound area out e =
+    let e10 = sym (refusal-is _ (joinedPart area) out) ∙ e in
+    let e20 = passed (areaSound area) _ 10 0 (λ z. omega arith) e10 in
+    let e21 = passed (allHeard area) _ 20 0 (λ z. omega arith) e20 in
+    holds-true (partSound (joinedPart area) (areaNew area) (areaRank area)) _ 20 e21
+
+-- what an accepted call wrote
+written-front : (refusal : ℕ) (object out : List ℕ) → writeAnswer refusal object out .0 .refusal ≡ 0 → take (writeAnswer refusal object out .0 .length) (writeAnswer refusal object out .1) ≡ object
+unfolding writeAnswer lengthAnswer written splice
+written-front refusal object out e =
+    either (eqb refusal 0)
+    (λ t. rw t (take-at object (drop (0 + length object) out) (length object) refl))
+    (λ t. clash (eq-eqb refusal 0 (rw t at e)) t)
+
+closed-part : (area out : List ℕ) → closeOf area out .0 .refusal ≡ 0 → take (closeOf area out .0 .length) (closeOf area out .1) ≡ joinedPart area
+unfolding closeOf
+closed-part area out = written-front _ (joinedPart area) out
+
+pub close-writes-sound : ClosesSound
+close-writes-sound = record { accepted = λ area out e. rw (closed-part area out e) (part-sound area out e); declined = part-unsound }

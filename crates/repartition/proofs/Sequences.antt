@@ -14,7 +14,7 @@ use Rattle.area.specs.Deliver.{deliverOf}
 use Rattle.area.specs.Close.{closeOf}
 use Rattle.repartition.proofs.Canonical.{canonical}
 use Rattle.repartition.specs.Run.{Run, Setting}
-use Rattle.repartition.specs.Lists.{deliver, Call, close, Answer, countIn, Built, AllBuilt, messageOf, areaAfter, answerOf, areaAfterAll, answersOf, acceptedBy, hears, hearsAll, allDue, due, dueAll}
+use Rattle.repartition.specs.Lists.{deliver, Call, close, Answer, countIn, AllIn, Built, AllBuilt, messageOf, areaAfter, answerOf, areaAfterAll, answersOf, acceptedBy, hears, hearsAll, allDue, due, dueAll}
 use Rattle.repartition.proofs.Receive.{InReceive, hears-receive}
 
 module _ (run : Run) (S : Setting run) where
@@ -26,6 +26,15 @@ module _ (run : Run) (S : Setting run) where
     pub closes : (H : ℕ → Bool) → InReceive run H → (tail out : List ℕ)
         → closeOf (canonical run H ++ tail) out
         ≡ writeAnswer (cond (allDue run H) (cond (leb (length (cutPart (run .mesh) (run .new) (run .rank))) (length out)) 0 22) 20) (cutPart (run .mesh) (run .new) (run .rank)) out
+
+  -- what is so of every message built is so of every message accepted
+  pub accepted-all : (Q : List ℕ → Type 0) → ((p q : ℕ) → Built run p q → Q (messageOf run p q)) → (cs : List Call) → AllBuilt run cs → (a : List ℕ) → AllIn Q (acceptedBy run a cs)
+  unfolding AllBuilt acceptedBy AllIn
+  accepted-all Q each [] b a = tt
+  accepted-all Q each (deliver p q ∷ cs) b a =
+      let more : AllIn Q (acceptedBy run (areaAfter run a (deliver p q)) cs) = accepted-all Q each cs (b .1) (areaAfter run a (deliver p q)) in
+      either (eqb (deliverOf a (messageOf run p q) .0) 0) (λ t. rw t (each p q (b .0), more)) (λ t. rw t more)
+  accepted-all Q each (close out ∷ cs) b a = accepted-all Q each cs b (areaAfter run a (close out))
 
   module _ (steps : Steps) where
     -- a delivery to the area of a heard set, and its answer

@@ -10,10 +10,11 @@ use Rattle.records.specs.Record.{numberOf}
 use Rattle.mesh.specs.Mesh.{meshDimension, meshTrees, meshCore}
 use Rattle.part.specs.Ghosts.{isGhost}
 use Rattle.part.specs.Part.{partCount, partGhostCount, storedTree, storedGhost}
+use Rattle.message.specs.Build.{partRecord}
 use Rattle.area.specs.Layout.{areaSize}
 use Rattle.area.specs.Close.{closeOf}
 use Rattle.repartition.specs.Run.{Run, Setting}
-use Rattle.repartition.specs.Lists.{Call, countIn, treeIn, ghostWith, nobody, AllBuilt, opened, areaAfterAll, answersOf, acceptedBy, hearsAll, allDue, dueAll}
+use Rattle.repartition.specs.Lists.{Call, countIn, AllIn, treeIn, ghostWith, TreeIs, GhostIs, nobody, AllBuilt, opened, areaAfterAll, answersOf, acceptedBy, hearsAll, allDue, dueAll}
 
 module _ (run : Run) where
   -- how long the area is
@@ -57,8 +58,13 @@ module _ (run : Run) where
         → countIn (treeIn (numberOf (storedTree (closeAfter b cs out .1) i))) (cameIn b cs) ≡ 1
     pub ghost-record-once : (out : List ℕ) → closeAfter b cs out .0 .refusal ≡ 0 → (j : ℕ) → j < partGhostCount (closeAfter b cs out .1)
         → countIn (ghostWith (numberOf (storedGhost (closeAfter b cs out .1) j))) (cameIn b cs) ≡ 1
+    -- whole: the record in the accepted message is the one written, a tree with its data, its neighbours as global numbers
+    pub tree-record-whole : (out : List ℕ) → closeAfter b cs out .0 .refusal ≡ 0 → (i : ℕ) → i < partCount (closeAfter b cs out .1)
+        → AllIn (TreeIs (numberOf (storedTree (closeAfter b cs out .1) i)) (partRecord (closeAfter b cs out .1) (numberOf (storedTree (closeAfter b cs out .1) i)))) (cameIn b cs)
+    pub ghost-record-whole : (out : List ℕ) → closeAfter b cs out .0 .refusal ≡ 0 → (j : ℕ) → j < partGhostCount (closeAfter b cs out .1)
+        → AllIn (GhostIs (numberOf (storedGhost (closeAfter b cs out .1) j)) (storedGhost (closeAfter b cs out .1) j)) (cameIn b cs)
 
--- Demand 3. Take any sound whole mesh, two valid tables that agree in P and in the mesh's K, a rank of theirs and an epoch; two buffers of any content that are at least as long as the area; and any two lists of deliver and close calls, in any order and with repeats, where each delivery is the message that an old rank built from its part of the mesh, for this rank or another. Then the open call accepts, and after the lists the areas are equal in every byte exactly when the same senders are heard by the lists; the bytes behind the area stay; the first delivery of each message meant for the rank is accepted, a repeated one gets 15, one for another rank 13; a close gets 20 until the receive set is heard, then 22 if its buffer is shorter than the part, and else its buffer begins with the part that cutting the mesh by the new table gives, and its answer is that length; and once all are heard, each tree and each ghost of that part came in exactly one accepted message.
+-- Demand 3. Take any sound whole mesh, two valid tables that agree in P and in the mesh's K, a rank of theirs and an epoch; two buffers of any content that are at least as long as the area; and any two lists of deliver and close calls, in any order and with repeats, where each delivery is the message that an old rank built from its part of the mesh, for this rank or another. Then the open call accepts, and after the lists the areas are equal in every byte exactly when the same senders are heard by the lists; the bytes behind the area stay; the first delivery of each message meant for the rank is accepted, a repeated one gets 15, one for another rank 13; a close gets 20 until the receive set is heard, then 22 if its buffer is shorter than the part, and else its buffer begins with the part that cutting the mesh by the new table gives, and its answer is that length; and once all are heard, each tree and each ghost of that part came in exactly one accepted message, its record there the one in the part.
 abbrev pub Demand3 : Type 0
 Demand3 =
     (run : Run) → Setting run → (b c : List ℕ) → size run ≤ length b → size run ≤ length c

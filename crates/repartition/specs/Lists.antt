@@ -7,12 +7,14 @@ use lib.Dec.{leb, eqb}
 use lib.ListN.{length}
 use Rattle.encoding.specs.Answer.{writeAnswer}
 use Rattle.encoding.specs.Below.{allBelow}
+use Rattle.encoding.specs.Pieces.{piece}
 use Rattle.encoding.specs.declared.answer.Length.{Length}
 use Rattle.offsets.specs.Table.{ranks}
 use Rattle.pattern.specs.Sets.{sendsTo, getsFrom}
+use Rattle.records.specs.Record.{treeSize, numberOf}
 use Rattle.mesh.specs.Mesh.{meshDimension}
 use Rattle.part.specs.Cut.{cutPart}
-use Rattle.message.specs.Layout.{messageTrees, messageGhosts, messageTree, messageGhost}
+use Rattle.message.specs.Layout.{messageTreePlace, messageTrees, messageGhosts, messageTree, messageGhost}
 use Rattle.message.specs.Build.{partMessage}
 use Rattle.area_open.specs.Calls.{openAreaOf}
 use Rattle.area.specs.Deliver.{among, deliverOf}
@@ -34,12 +36,24 @@ unfoldable pub countIn : {A : Type 0} → (A → Bool) → List A → ℕ
 countIn f [] = 0
 countIn f (x ∷ xs) = cond (f x) 1 0 + countIn f xs
 
+-- something is so of each element of a list
+unfoldable pub AllIn : {A : Type 0} → (A → Type 0) → List A → Type 0
+AllIn Q [] = Unit {0}
+AllIn Q (x ∷ xs) = Q x × AllIn Q xs
+
 -- tree k came in a message if its number is among the trees there, a ghost if its number is among the ghosts there
 unfoldable pub treeIn : ℕ → List ℕ → Bool
 treeIn k m = among (messageTrees m) (messageTree m) k
 
 unfoldable pub ghostWith : ℕ → List ℕ → Bool
 ghostWith k m = among (messageGhosts m) (messageGhost m) k
+
+-- each tree record of a message that has number k is r, and each ghost record
+unfoldable pub TreeIs : ℕ → List ℕ → List ℕ → Type 0
+TreeIs k r m = (i : ℕ) → i < messageTrees m → numberOf (messageTree m i) ≡ k → piece m (messageTreePlace i) treeSize ≡ r
+
+unfoldable pub GhostIs : ℕ → List ℕ → List ℕ → Type 0
+GhostIs k r m = (j : ℕ) → j < messageGhosts m → numberOf (messageGhost m j) ≡ k → messageGhost m j ≡ r
 
 -- nobody is heard
 unfoldable pub nobody : ℕ → Bool

@@ -1,11 +1,11 @@
 -- Demand 2: it follows the published rule. One named proposition for each sentence, over the values in the calls' contracts.
 use Prim.Native.Nat.{ℕ, _+_, _≤_, _<_}
 use mathlib.Core.Path.{_≡_}
-use mathlib.Core.Bool.{Bool, true, cond, _&&_, _||_}
-use mathlib.Core.List.{List}
+use mathlib.Core.Bool.{Bool, true, false, cond, _&&_, _||_}
+use mathlib.Core.List.{List, [], _++_, flatten}
 use lib.Dec.{leb, ltb}
-use lib.ListN.{length, getD}
-use Rattle.encoding.specs.Answer.{writeAnswer}
+use lib.ListN.{length, getD, drop}
+use Rattle.encoding.specs.Answer.{lengthRefused, writeAnswer}
 use Rattle.encoding.specs.Below.{member}
 use Rattle.encoding.specs.Pieces.{piece, Bytes}
 use Rattle.offsets.specs.Limits.{rankCountOk, treeCountOk}
@@ -27,10 +27,13 @@ use Rattle.part_neighbour.specs.Neighbour.{meshLink}
 use Rattle.part_cut.specs.Calls.{cutPartOf}
 use Rattle.part_check.specs.Calls.{partRefusal}
 use Rattle.part_neighbour.specs.Calls.{neighbourAnswer}
-use Rattle.message.specs.Layout.{messageTreePlace, messageEpoch, messageDimension, messageK, messageP, messageSender, messageReceiver, messageTrees, messageGhosts, messageTree, messageGhost, inLayout}
+use Rattle.message.specs.Layout.{messageHeader, messageTreePlace, messageEpoch, messageDimension, messageK, messageP, messageSender, messageReceiver, messageTrees, messageGhosts, messageTree, messageGhost, inLayout}
 use Rattle.message.specs.Rule.{sendsGhost}
 use Rattle.message.specs.Build.{partRecord, partMessage}
 use Rattle.message.specs.Calls.{buildMessageOf}
+use Rattle.message.specs.Reading.{recordCount}
+use Rattle.message_reader.specs.Handing.{beginOf, begunSeen, nextOf, handed, remains, readerAfter, treesOf, ghostsOf, down}
+use Rattle.message_reader.specs.declared.Begun.{Begun}
 use Rattle.repartition.specs.Run.{Run, Setting}
 use Rattle.repartition.specs.Lists.{treeIn, ghostWith, Built, messageOf}
 
@@ -166,6 +169,24 @@ BuiltInLayout =
     (part old new : List ℕ) (p q epoch : ℕ) → Tables old new → p < ranks old → q < ranks old → partRefusal part old p ≡ 0
     → inLayout (partMessage part old new p q epoch) ≡ true
 
+-- reading a message in layout to its end, by the next call on the reader that each one before it left
+pub record ReadToEnd (m : List ℕ) (b : Begun) : Type 0 where
+  -- hands out its records in order, trees with their data before ghosts
+  pub records : handed (recordCount m) (b .reader) ≡ treesOf m ++ ghostsOf m
+  -- which are every byte behind the header, once
+  pub bytes : flatten (handed (recordCount m) (b .reader)) ≡ drop messageHeader m
+  -- what remains falls by one each time, to none
+  pub remain : remains (recordCount m) (b .reader) ≡ down (recordCount m)
+  -- and behind the last come an empty piece and 0, however often it is asked
+  pub end : nextOf (readerAfter (recordCount m) (b .reader)) ≡ ([], (0, readerAfter (recordCount m) (b .reader)))
+
+-- what the begin call gives: how many records there are and a reader over them; 11 out of layout, and a reader without records
+abbrev pub ReadsMessages : Type 0
+ReadsMessages =
+    (m : List ℕ) (b : Begun) → begunSeen b ≡ beginOf m
+    → (inLayout m ≡ true → (b .answer ≡ record { refusal = 0; length = messageTrees m + messageGhosts m }) × ReadToEnd m b)
+    × (inLayout m ≡ false → (b .answer ≡ lengthRefused 11) × (nextOf (b .reader) ≡ ([], (0, b .reader))))
+
 -- each tree of f'(q), and each ghost of q under f', is in exactly one message to q
 abbrev pub TreeOneMessage : Type 0
 TreeOneMessage =
@@ -192,5 +213,6 @@ pub record Demand2 : Type 0 where
   pub cut-parts : CutParts
   pub messages : Messages
   pub built-in-layout : BuiltInLayout
+  pub reads-messages : ReadsMessages
   pub tree-one-message : TreeOneMessage
   pub ghost-one-message : GhostOneMessage

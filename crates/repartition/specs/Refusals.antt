@@ -1,20 +1,22 @@
--- Of demand 1: what a refused call leaves, and what three refusals mean.
+-- Of demand 1: what a refused call leaves, what three refusals mean, and that a close writes none but sound parts.
 use Prim.Native.Nat.{ℕ}
 use mathlib.Core.Path.{_≡_}
 use mathlib.Core.Bool.{true, false}
 use mathlib.Core.List.{List}
+use lib.ListN.{take}
 use Rattle.encoding.specs.declared.answer.Length.{Length}
 use Rattle.offsets_write.specs.Calls.{writeTable}
 use Rattle.leaves.specs.Calls.{tableFromLeaves}
 use Rattle.pattern.specs.Sets.{sendsTo}
 use Rattle.pattern.specs.Calls.{sendSetOf, receiveSetOf}
+use Rattle.part.specs.Part.{partSound}
 use Rattle.part_cut.specs.Calls.{cutPartOf}
 use Rattle.message.specs.Layout.{messageSender}
 use Rattle.message.specs.Calls.{buildMessageOf}
-use Rattle.area.specs.Area.{heard}
+use Rattle.area.specs.Area.{areaRank, areaNew, heard}
 use Rattle.area_open.specs.Calls.{openAreaOf}
 use Rattle.area.specs.Deliver.{deliverOf}
-use Rattle.area.specs.Close.{allHeard, closeOf}
+use Rattle.area.specs.Close.{allHeard, joinedPart, closeOf}
 
 -- what is refused leaves the lent buffer as it was, and the other field is 0
 abbrev pub Unchanged : Length × List ℕ → List ℕ → Type 0
@@ -36,3 +38,8 @@ pub record RefusalsMean : Type 0 where
   pub nothing-for-you : (part old new : List ℕ) (p q epoch : ℕ) (out : List ℕ) → buildMessageOf part old new p q epoch out .0 .refusal ≡ 9 → sendsTo old new p q ≡ false
   pub already-heard : (area m : List ℕ) → deliverOf area m .0 ≡ 15 → heard area (messageSender m) ≡ true
   pub not-all-heard : (area out : List ℕ) → closeOf area out .0 .refusal ≡ 20 → allHeard area ≡ false
+
+-- what an accepted close writes is a part that is sound for the area's new table and its rank; 21 says that the part to write isn't
+pub record ClosesSound : Type 0 where
+  pub accepted : (area out : List ℕ) → closeOf area out .0 .refusal ≡ 0 → partSound (take (closeOf area out .0 .length) (closeOf area out .1)) (areaNew area) (areaRank area) ≡ true
+  pub declined : (area out : List ℕ) → closeOf area out .0 .refusal ≡ 21 → partSound (joinedPart area) (areaNew area) (areaRank area) ≡ false

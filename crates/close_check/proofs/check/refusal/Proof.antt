@@ -96,20 +96,22 @@ join-sound-requires c κs =
 returns-3 : tie.Need-returns-3
 returns-3 c =
     let area-sound = c .before .before .before .before .before .before .before .before .before .before .area-sound in
+    let shared-slice-known = c .before .before .before .before .before .before .before .before .before .before .before .shared-slice-known in
     let if1 = c .before .before .before .before .before .before .before .before .before .if1 in
     let all-heard = c .before .before .before .all-heard in
     let if2 = c .before .before .if2 in
     let join-sound = c .before .join-sound in
-    refused-join _ (sym (area-sound .ensures) ∙ not-false _ (if1 .left)) (sym (all-heard .ensures) ∙ not-false _ (if2 .left)) (sym (join-sound .ensures) ∙ not-true _ (c .if3 .taken))
+    refused-join _ (sym (area-sound .ensures) ∙ not-false _ (if1 .left)) (sym (all-heard .ensures) ∙ not-false _ (if2 .left)) (λ i. shared-slice-known .given i .fits) (sym (join-sound .ensures) ∙ not-true _ (c .if3 .taken))
 
 returns-4 : tie.Need-returns-4
 returns-4 c =
     let area-sound = c .before .before .before .before .before .before .before .before .before .before .area-sound in
+    let shared-slice-known = c .before .before .before .before .before .before .before .before .before .before .before .shared-slice-known in
     let if1 = c .before .before .before .before .before .before .before .before .before .if1 in
     let all-heard = c .before .before .before .all-heard in
     let if2 = c .before .before .if2 in
     let join-sound = c .before .join-sound in
-    not-refused _ (sym (area-sound .ensures) ∙ not-false _ (if1 .left)) (sym (all-heard .ensures) ∙ not-false _ (if2 .left)) (sym (join-sound .ensures) ∙ not-false _ (c .if3 .left))
+    not-refused _ (sym (area-sound .ensures) ∙ not-false _ (if1 .left)) (sym (all-heard .ensures) ∙ not-false _ (if2 .left)) (λ i. shared-slice-known .given i .fits) (sym (join-sound .ensures) ∙ not-false _ (c .if3 .left))
 
 pub refusal-spec : {M : Type 1} → statement M
 refusal-spec =

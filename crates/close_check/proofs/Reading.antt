@@ -3,7 +3,7 @@ use Prim.Native.Nat.{ℕ, _+_, _-_, _*_, _≤_, _<_}
 use native.Mathlib.Nat.{add-zero, zero-add, add-sub-cancel-left}
 use native.Mathlib.Omega.{arith}
 use mathlib.Core.Path.{_≡_, refl, sym, ap, _∙_}
-use mathlib.Core.Bool.{Bool, true, false, cond, _&&_, _||_}
+use mathlib.Core.Bool.{Bool, true, false, _&&_, _||_}
 use mathlib.Core.List.{List, [], _∷_, _++_, map, append-nil}
 use lib.Dec.{leb, ltb, eqb}
 use lib.ListN.{length, getD}
@@ -11,18 +11,13 @@ use borrow.Author.Tests.{leb-true, ltb-true, eqb-true, lt-ltb, le-ltb, le-leb, e
 use Rattle.encoding.specs.Below.{anyBelow, leastBelow}
 use Rattle.encoding.specs.Numbers.{leBytes, u32At}
 use Rattle.encoding.specs.Pieces.{piece, splice, Bytes}
-use Rattle.encoding.proofs.Below.{either, tests, clash, and-fst, and-snd, iff-eq, all-at, least-lt, least-at, least-le, least-none}
+use Rattle.encoding.proofs.Below.{either, tests, clash, and-fst, and-snd, iff-eq, least-lt, least-at, least-le, least-none}
 use Rattle.encoding.proofs.Numbers.{at-bound}
 use Rattle.encoding.proofs.Pieces.{piece-length, piece-same, bytes-piece, length-splice}
 use Rattle.offsets.specs.Limits.{maxTrees}
-use Rattle.offsets.specs.Table.{ranks, firstTree, holds}
-use Rattle.pattern.specs.Sender.{Tables, sender, sends}
-use Rattle.pattern.specs.Sets.{getsFrom}
-use Rattle.pattern.proofs.Senders.{sends-in}
-use Rattle.pattern.proofs.Sets.{gets-sends}
-use Rattle.message.proofs.Ghosts.{sender-below, sends-some}
+use Rattle.offsets.specs.Table.{firstTree, holds}
 use Rattle.records.specs.Shape.{faceCount, facesIn}
-use Rattle.records.specs.Record.{coreSize, treeSize, unused, numberOf, shapeOf, neighbourOf, inForm}
+use Rattle.records.specs.Record.{coreSize, treeSize, unused, numberOf, shapeOf, neighbourOf}
 use Rattle.records.specs.Links.{rowsOf, neighbourBytes, codeBytes, withRows}
 use Rattle.records.proofs.Forms.{piece-piece, neighbour-word, form-unused, unused-neighbour}
 use Rattle.records.proofs.Rows.{splice-inside}
@@ -37,17 +32,17 @@ use Rattle.part_theorems.proofs.Renamed.{renamed-length, renamed-number, rename
 use Rattle.part_theorems.proofs.SoundParts.{part-view}
 use Rattle.part_theorems.proofs.Views.{view-trees, view-ghosts, view-same, core-tree, held-cases, tree-link-held}
 use Rattle.area.specs.Layout.{slotsPlace, slotsOf}
-use Rattle.area.specs.Area.{areaDimension, areaK, areaP, areaRank, areaCount, areaGhosts, areaOld, areaNew, areaFirst, heard, treeSlot, treeSlotCore, ghostSlot, areaSound}
-use Rattle.area.specs.Close.{allHeard, joinSound, joinIndex, joinedPart}
+use Rattle.area.specs.Area.{areaDimension, areaK, areaP, areaRank, areaCount, areaGhosts, areaNew, areaFirst, heard, treeSlot, treeSlotCore, ghostSlot, areaSound}
+use Rattle.area.specs.Close.{allHeard, joinIndex, joinedPart}
 use Rattle.area.specs.Means.{HeaderHolds}
 use Rattle.area.proofs.Soundness.{sound-holds}
 use Rattle.area.proofs.Ranges.{range-trees}
-use Rattle.area_theorems.proofs.Again.{area-parts, new-ranks, sound-rank, sound-tables, sound-ghosts, sound-held}
+use Rattle.area_theorems.proofs.Again.{area-parts, new-ranks, sound-ghosts}
 use Rattle.area_theorems.proofs.Joined.{words, word-at, piece-first, piece-behind, slots-length, slots-at}
 use Rattle.area_theorems.proofs.Kept.{Ghosts}
 use Rattle.area_theorems.proofs.Zones.{few-trees, core-slot}
-use Rattle.close.proofs.Lengths.{joined-length}
-use Rattle.close.proofs.Joining.{slot-long, ghost-long, tree-long, few-held, range-is, ghost-held, neighbour-held}
+use Rattle.close_check.specs.Means.{joinSound}
+use Rattle.close_check.proofs.AreaSlots.{slot-long, ghost-long, tree-long, joined-length, few-held, range-is, ghost-held, tree-form, tree-number, neighbour-held}
 
 -- ---- a record
 
@@ -93,6 +88,14 @@ or-snd false y e = e
 range-bounds : (low end k : ℕ) → inRange low end k ≡ true → (low ≤ k) × (k < end)
 unfolding inRange
 range-bounds low end k e = (leb-true low k (and-fst (leb low k) (ltb k end) e), ltb-true k end (and-snd (leb low k) (ltb k end) e))
+
+-- a part is sound where its header, its length and its records are
+pub part-sound-view : (part table : List ℕ) (rank : ℕ)
+    → partSound part table rank
+    ≡ (partHeaderSound part table rank && eqb (length part) (partSize (partCount part) (partGhostCount part))
+    && viewSound (partFirst part) (partCount part) (partGhostCount part) (globalTree part) (storedGhost part) (partDimension part) (partK part))
+unfolding partSound
+part-sound-view part table rank = refl
 
 module _ (a : List ℕ) (b : Bytes a) (sound : areaSound a ≡ true) where
   abbrev part : List ℕ
@@ -183,7 +186,7 @@ module _ (a : List ℕ) (b : Bytes a) (sound : areaSound a ≡ true) where
       )
 
   length-ok : eqb (length part) (partSize (partCount part) (partGhostCount part)) ≡ true
-  length-ok = eq-eqb (length part) (partSize (partCount part) (partGhostCount part)) (rw (read-count, read-ghosts) (joined-length a b sound))
+  length-ok = eq-eqb (length part) (partSize (partCount part) (partGhostCount part)) (rw (read-count, read-ghosts) (joined-length a sound))
 
   -- ---- trees and ghosts
 
@@ -284,30 +287,9 @@ module _ (a : List ℕ) (b : Bytes a) (sound : areaSound a ≡ true) where
         let small = few-held a b sound in
         rw (join-ghost o, least-none g (is k) e, read-count, read-ghosts, ne-eqb (n + g) unused (λ q. omega arith), le-ltb (n + g) n (omega arith), le-ltb (n + g) (n + g) (omega arith))
 
-  -- ---- trees that are in form and have their numbers
+  -- ---- with all due senders heard
 
   module _ (heard-all : allHeard a ≡ true) where
-    due : (i : ℕ) → i < n → heard a (sender (areaOld a) (firstTree (areaNew a) (areaRank a) + i) (areaRank a)) ≡ true
-    unfolding allHeard
-    due i h =
-        let T : Tables (areaOld a) (areaNew a) = sound-tables a b sound in
-        let rank : ℕ = areaRank a in
-        let k : ℕ = firstTree (areaNew a) rank + i in
-        let s : ℕ = sender (areaOld a) k rank in
-        let r : rank < ranks (areaOld a) = sound-rank a b sound in
-        let e : sends (areaOld a) (areaNew a) s rank k ≡ true = sends-in (areaOld a) (areaNew a) T rank k (local-holds i h) in
-        let l : s < ranks (areaOld a) = sender-below (areaOld a) (areaNew a) T s rank k r e in
-        let w : getsFrom (areaOld a) (areaNew a) rank s ≡ true = gets-sends (areaOld a) (areaNew a) T s rank l r ∙ sends-some (areaOld a) (areaNew a) T s rank k r e in
-        rw w at (all-at (areaP a) (λ s. cond (getsFrom (areaOld a) (areaNew a) (areaRank a) s) (heard a s) true) heard-all s (omega (arith, header .ranksAre)))
-
-    tree-form : (i : ℕ) → i < n → inForm (first + i) (treeSlotCore a i) ≡ true
-    unfolding areaFirst
-    tree-form i h = rw (core-slot a i) (sound-held a b sound .tree-form i (rw (← header .countIs) h) (due i h))
-
-    tree-number : (i : ℕ) → i < n → numberOf (treeSlotCore a i) ≡ first + i
-    unfolding areaFirst
-    tree-number i h = rw (core-slot a i) (sound-held a b sound .tree-number i (rw (← header .countIs) h) (due i h))
-
     -- a tree's index leads to its number
     index-tree : (k : ℕ) → eqb k unused ≡ false → inRange first (first + n) k ≡ true → globalIndex part (joinIndex a k) ≡ k
     unfolding globalIndex
@@ -317,7 +299,7 @@ module _ (a : List ℕ) (b : Bytes a) (sound : areaSound a ≡ true) where
         let h : i < n = omega arith in
         let s : first + i ≡ k = omega arith in
         rw (join-local k used (sym (range-is a b sound k) ∙ e), read-count, ne-eqb i unused (λ q. omega (arith, few)), lt-ltb i n h)
-        (ap numberOf (stored-tree i h) ∙ renamed-number (joinIndex a) F (treeSlotCore a i) (core-long i h) ∙ tree-number i h ∙ s)
+        (ap numberOf (stored-tree i h) ∙ renamed-number (joinIndex a) F (treeSlotCore a i) (core-long i h) ∙ tree-number a b sound heard-all i h ∙ s)
 
     -- every neighbour's index leads back, where each used face of a tree leads to a record held
     module _ (reached : (i : ℕ) → i < n → (f : ℕ) → f < faceCount (shapeOf (treeSlotCore a i)) → has (neighbourOf (treeSlotCore a i) f) ≡ true) where
@@ -329,7 +311,7 @@ module _ (a : List ℕ) (b : Bytes a) (sound : areaSound a ≡ true) where
           (λ p. either (inRange first (first + n) k) (index-tree k p)
           (λ q. either (ltb f (faceCount (shapeOf r)))
           (λ s. index-ghost k p (sym (range-is a b sound k) ∙ q) (ghost-held a b sound k (reached i h f (ltb-true f (faceCount (shapeOf r)) s)) q))
-          (λ s. clash (eq-eqb k unused (unused-neighbour r f (form-unused (first + i) r (tree-form i h) f (omega tests) l))) p)))
+          (λ s. clash (eq-eqb k unused (unused-neighbour r f (form-unused (first + i) r (tree-form a b sound heard-all i h) f (omega tests) l))) p)))
 
       -- so the part has the trees of the slots
       tree-back : (i : ℕ) → i < n → globalTree part i ≡ treeSlotCore a i
@@ -346,8 +328,7 @@ module _ (a : List ℕ) (b : Bytes a) (sound : areaSound a ≡ true) where
           (view-same first n g (globalTree part) (treeSlotCore a) (storedGhost part) (ghostSlot a) tree-back stored-ghost (areaDimension a) (areaK a))
 
       sound-is : partSound part (areaNew a) (areaRank a) ≡ joinSound a
-      unfolding partSound
-      sound-is = rw (header-sound, length-ok) view-is
+      sound-is = rw (part-sound-view part (areaNew a) (areaRank a), header-sound, length-ok) view-is
 
     -- ---- a sound part
 
@@ -409,9 +390,9 @@ module _ (a : List ℕ) (b : Bytes a) (sound : areaSound a ≡ true) where
             let m : globalIndex part (joinIndex a k) ≡ noTree = index-none k u (sym (range-is a b sound k) ∙ o .0) (o .1) in
             absurd (omega (arith, neighbour-below, global-neighbour (rw m (omega arith))))))
 
--- where all due senders are heard, the part that the slots make is sound exactly where it is sound as a part
+-- the slots decide check 21: in a sound area with all due senders heard, their records are those of a sound part exactly where the joined part is sound
 pub join-sound-part : (a : List ℕ) → Bytes a → areaSound a ≡ true → allHeard a ≡ true → joinSound a ≡ partSound (joinedPart a) (areaNew a) (areaRank a)
 join-sound-part a b sound full =
     iff-eq (joinSound a) (partSound (joinedPart a) (areaNew a) (areaRank a))
-    (λ e. sound-is a b sound full (neighbour-held a b sound e) ∙ e)
+    (λ e. sound-is a b sound full (neighbour-held a e) ∙ e)
     (λ e. sym (sound-is a b sound full (reach a b sound full e)) ∙ e)

@@ -14,7 +14,7 @@ use Rattle.records.specs.Shape.{facesIn}
 use Rattle.records.specs.Record.{unused, numberOf}
 use Rattle.part.specs.Layout.{headerBytes}
 use Rattle.part.specs.Cut.{renamed}
-use Rattle.part.specs.View.{viewSound}
+use Rattle.part.specs.Means.{viewSound}
 use Rattle.area.specs.Layout.{slotsOf}
 use Rattle.area.specs.Area.{areaDimension, areaK, areaP, areaRank, areaCount, areaGhosts, areaOld, areaNew, areaFirst, heard, treeSlot, treeSlotCore, ghostSlot, areaSound}
 

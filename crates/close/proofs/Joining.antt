@@ -23,11 +23,10 @@ use Rattle.records.proofs.Forms.{at-piece, number-at, form-unused, unused-neigh
 use Rattle.records.proofs.Shapes.{faces-positive, faces-six}
 use Rattle.part.specs.Layout.{partHeader, headerBytes}
 use Rattle.part.specs.Cut.{renamed, renameRow}
-use Rattle.part.specs.Means.{inRange, numberAt, smaller}
+use Rattle.part.specs.Means.{inRange, numberAt, smaller, isLocal, ghostIs, held}
 use Rattle.part_cut.specs.Means.{Held, localRead}
-use Rattle.part.specs.View.{isLocal, ghostIs, held}
 use Rattle.part.proofs.Records.{header-length}
-use Rattle.part_theorems.proofs.Views.{TreeView, view-trees, core-tree, tree-link-held}
+use Rattle.part.proofs.Views.{TreeView, view-trees, core-tree, tree-link-held}
 use Rattle.area.specs.Layout.{ghostBound, slotsPlace, ghostSlotsPlace, slotsOf}
 use Rattle.area.specs.Area.{areaDimension, areaK, areaP, areaRank, areaCount, areaGhosts, areaNew, areaFirst, treeSlot, treeSlotCore, ghostSlot, areaBound, areaSound}
 use Rattle.area.specs.Close.{joinSound, joinIndex, joinedPart}

@@ -29,13 +29,13 @@ use Rattle.records.proofs.Rows.{splice-inside}
 use Rattle.records.proofs.Shapes.{count-six, faces-positive}
 use Rattle.part.specs.Layout.{partHeader, treePlace, ghostPlace, partSize, headerBytes}
 use Rattle.part.specs.Cut.{renamed, renameRow}
-use Rattle.part.specs.Means.{inRange}
+use Rattle.part.specs.Means.{inRange, isLocal, ghostIs, held, viewSound, RankKnown, partLinked}
 use Rattle.part.specs.Part.{noTree, partDimension, partK, partFirst, partCount, partGhostCount, storedTree, storedGhost, globalIndex, globalTree, partHeaderSound, partSound}
-use Rattle.part.specs.View.{isLocal, ghostIs, held, viewSound}
+use Rattle.part.proofs.Sound.{part-sound-is}
 use Rattle.part.proofs.Records.{links-length, header-length, rows-core}
 use Rattle.part_theorems.proofs.Renamed.{renamed-length, renamed-number, renamed-shape, renamed-neighbour, renamed-back}
 use Rattle.part_theorems.proofs.SoundParts.{part-view}
-use Rattle.part_theorems.proofs.Views.{view-trees, view-ghosts, view-same, core-tree, held-cases, tree-link-held}
+use Rattle.part.proofs.Views.{view-trees, view-ghosts, view-same, core-tree, held-cases, tree-link-held}
 use Rattle.area.specs.Layout.{slotsPlace, slotsOf}
 use Rattle.area.specs.Area.{areaDimension, areaK, areaP, areaRank, areaCount, areaGhosts, areaOld, areaNew, areaFirst, heard, treeSlot, treeSlotCore, ghostSlot, areaSound}
 use Rattle.area.specs.Close.{allHeard, joinSound, joinIndex, joinedPart}
@@ -346,8 +346,12 @@ module _ (a : List ℕ) (b : Bytes a) (sound : areaSound a ≡ true) where
           (view-same first n g (globalTree part) (treeSlotCore a) (storedGhost part) (ghostSlot a) tree-back stored-ghost (areaDimension a) (areaK a))
 
       sound-is : partSound part (areaNew a) (areaRank a) ≡ joinSound a
-      unfolding partSound
-      sound-is = rw (header-sound, length-ok) view-is
+      unfolding partLinked
+      sound-is =
+          let T : Tables (areaOld a) (areaNew a) = sound-tables a b sound in
+          let below : areaRank a < ranks (areaNew a) = rw (T .sameRanks) (sound-rank a b sound) in
+          part-sound-is part (areaNew a) (areaRank a) (T .newBytes) (record { counted = T .newRanks; checked = T .newValid; below = below })
+          ∙ rw (header-sound, length-ok) view-is
 
     -- ---- a sound part
 

@@ -12,8 +12,7 @@ use Rattle.pattern.specs.Sets.{getsFrom}
 use Rattle.records.specs.Shape.{dimensionOf, faceCount}
 use Rattle.records.specs.Record.{coreSize, treeSize, numberOf, shapeOf, neighbourOf}
 use Rattle.mesh.specs.Link.{orientationOk}
-use Rattle.part.specs.View.{held, heldCore}
-use Rattle.part.specs.Means.{inRange, neighbourIn, ghostHas}
+use Rattle.part.specs.Means.{held, heldCore, inRange, neighbourIn, ghostHas}
 use Rattle.area.specs.Area.{areaRank, areaOld, areaNew, heard, areaSound}
 use Rattle.area.specs.Close.{allHeard}
 use Rattle.area.specs.Means.{HeaderHolds}

@@ -27,12 +27,12 @@ use Rattle.mesh.specs.Mesh.{meshHeader, meshDimension, meshTrees, meshCore, mes
 use Rattle.part.specs.Ghosts.{isGhost, ghostsOf, ghostPosition}
 use Rattle.part.specs.Cut.{renameRow, renamed, localIndex, partTree, partTrees, partGhosts, ghostCount, cutPart}
 use Rattle.part.specs.Part.{partDimension, partK, partFirst, partCount, partGhostCount, globalTree, storedGhost}
-use Rattle.part.specs.View.{viewSound}
+use Rattle.part.specs.Means.{viewSound}
 use Rattle.part_cut.proofs.Cutting.{Cuttable, cores-length}
 use Rattle.part_theorems.proofs.CutRead.{cut-dimension, cut-K, cut-first, cut-count, cut-ghosts, cut-ghost}
 use Rattle.part_theorems.proofs.CutSound.{neighbour-cases, range-local, cut-global, cut-sound}
 use Rattle.part_theorems.proofs.SoundParts.{part-view}
-use Rattle.part_theorems.proofs.Views.{view-same}
+use Rattle.part.proofs.Views.{view-same}
 use Rattle.message.specs.Rule.{ghostSender}
 use Rattle.message.proofs.Ghosts.{sender-below, sends-some, ghost-sender-lt, ghost-sender-sends}
 use Rattle.area.specs.Layout.{slotsOf}

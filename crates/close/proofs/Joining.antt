@@ -20,9 +20,8 @@ use Rattle.records.proofs.Forms.{at-piece, number-at, form-unused, unused-neigh
 use Rattle.records.proofs.Shapes.{faces-positive}
 use Rattle.part.specs.Layout.{partHeader, headerBytes}
 use Rattle.part.specs.Cut.{renamed, renameRow}
-use Rattle.part.specs.Means.{inRange, numberAt, smaller}
+use Rattle.part.specs.Means.{inRange, numberAt, smaller, isLocal, ghostIs, held}
 use Rattle.part_cut.specs.Means.{Held, localRead}
-use Rattle.part.specs.View.{held}
 use Rattle.part.proofs.Records.{header-length}
 use Rattle.area.specs.Layout.{slotsPlace, ghostSlotsPlace, slotsOf}
 use Rattle.area.specs.Area.{areaDimension, areaK, areaP, areaRank, areaCount, areaGhosts, areaNew, areaFirst, treeSlot, treeSlotCore, ghostSlot, areaSound}

@@ -22,10 +22,9 @@ use Rattle.records.specs.Record.{coreSize, treeSize, numberOf, shapeOf, neighbo
 use Rattle.records.proofs.Shapes.{faces-six}
 use Rattle.part.specs.Layout.{partSize}
 use Rattle.part.specs.Cut.{renamed}
-use Rattle.part.specs.Means.{inRange}
-use Rattle.part.specs.View.{isLocal, ghostIs, held}
+use Rattle.part.specs.Means.{inRange, isLocal, ghostIs, held}
 use Rattle.part.proofs.Records.{rows-length, header-length}
-use Rattle.part_theorems.proofs.Views.{TreeView, view-trees, core-tree, tree-link-held}
+use Rattle.part.proofs.Views.{TreeView, view-trees, core-tree, tree-link-held}
 use Rattle.area.specs.Layout.{ghostBound, slotsPlace, ghostSlotsPlace}
 use Rattle.area.specs.Area.{areaDimension, areaK, areaP, areaRank, areaCount, areaGhosts, areaOld, areaNew, areaFirst, heard, treeSlot, treeSlotCore, ghostSlot, dueHeard, treeSlotSound, areaBound, areaSound}
 use Rattle.area.specs.Close.{allHeard, joinIndex, joinedPart}

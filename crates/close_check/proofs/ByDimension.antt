@@ -12,8 +12,7 @@ use Rattle.records.specs.Shape.{shapeOk, dimensionOf, faceCount}
 use Rattle.records.specs.Record.{numberOf, shapeOf, neighbourOf}
 use Rattle.mesh.specs.Means.{linkBetween, linkByDimension}
 use Rattle.mesh.proofs.ByDimension.{Fits, AllFit, link-same, checked-by-dimension}
-use Rattle.part.specs.View.{isLocal, ghostIs, held, heldCore}
-use Rattle.part.specs.Means.{neighbourIn}
+use Rattle.part.specs.Means.{isLocal, ghostIs, held, heldCore, neighbourIn}
 use Rattle.close_check.specs.Means.{treeFrom, ghostFrom, treeTo, linkOfTree, ghostTo, linkOfGhost, treeJoins, ghostJoins, recordsJoin}
 
 -- that every record has a shape at all is known of a sound area

@@ -15,8 +15,7 @@ use Rattle.offsets.proofs.Tables.{trees-high}
 use Rattle.records.specs.Shape.{faceCount}
 use Rattle.records.specs.Record.{numberOf, shapeOf, inForm}
 use Rattle.records.proofs.Forms.{form-shape}
-use Rattle.part.specs.View.{isLocal, treeLink, ghostLink, localSound, ghostAfter, ghostBeside, ghostSound, viewSound}
-use Rattle.part.specs.Means.{inRange, neighbourIn}
+use Rattle.part.specs.Means.{isLocal, treeLink, ghostLink, localSound, ghostAfter, ghostBeside, ghostSound, viewSound, inRange, neighbourIn}
 use Rattle.mesh.specs.Means.{linkByDimension, linkBetween}
 use Rattle.area.specs.Layout.{slotsPlace, ghostSlotsPlace}
 use Rattle.area.specs.Area.{areaDimension, areaK, areaP, areaRank, areaCount, areaGhosts, areaOld, areaNew, areaFirst, heard, treeSlotCore, ghostSlot, areaSound}

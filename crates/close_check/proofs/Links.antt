@@ -13,10 +13,9 @@ use Rattle.encoding.proofs.Below.{least-is}
 use Rattle.records.specs.Shape.{dimensionOf, faceCount}
 use Rattle.records.specs.Record.{coreSize, treeSize, numberOf, shapeOf, neighbourOf}
 use Rattle.mesh.specs.Link.{orientationOk, linkOk}
-use Rattle.part.specs.View.{isLocal, ghostIs, held, heldCore, treeLink, ghostLink}
-use Rattle.part.specs.Means.{inRange, neighbourIn}
+use Rattle.part.specs.Means.{isLocal, ghostIs, held, heldCore, treeLink, ghostLink, inRange, neighbourIn}
 use Rattle.mesh.specs.Means.{linkByDimension, linkBetween}
-use Rattle.part_theorems.proofs.Views.{core-tree}
+use Rattle.part.proofs.Views.{core-tree}
 use Rattle.close_check.specs.Means.{treeFrom, ghostFrom, Slots, placeOf, treeTo, linkOfTree, ghostTo, linkOfGhost, treeJoins, ghostJoins}
 use Rattle.close_check.proofs.Places.{Found, place-found, place-none}
 

@@ -12,8 +12,7 @@ use Rattle.encoding.specs.Pieces.{piece}
 use Rattle.encoding.proofs.Below.{tests, either, and-fst, and-snd, any-intro, any-none, count-initial, least-is, least-lt}
 use Rattle.records.specs.Record.{coreSize, treeSize, numberOf}
 use Rattle.records.proofs.Forms.{number-at}
-use Rattle.part.specs.View.{isLocal, ghostIs, held, heldCore}
-use Rattle.part.specs.Means.{inRange, numberAt, Ascending, smaller, ghostHas}
+use Rattle.part.specs.Means.{isLocal, ghostIs, held, heldCore, inRange, numberAt, Ascending, smaller, ghostHas}
 use Rattle.close_check.specs.Means.{treeFrom, ghostFrom, Slots, placeOf}
 
 module _ (a : List ℕ) (at first n g : ℕ) (S : Slots a at first n g) where

@@ -15,7 +15,8 @@ use Rattle.encoding.proofs.Below.{either, tests, clash, and-fst, and-snd, iff-e
 use Rattle.encoding.proofs.Numbers.{at-bound}
 use Rattle.encoding.proofs.Pieces.{piece-length, piece-same, bytes-piece, length-splice}
 use Rattle.offsets.specs.Limits.{maxTrees}
-use Rattle.offsets.specs.Table.{firstTree, holds}
+use Rattle.offsets.specs.Table.{ranks, firstTree, holds}
+use Rattle.pattern.specs.Sender.{Tables}
 use Rattle.records.specs.Shape.{faceCount, facesIn}
 use Rattle.records.specs.Record.{coreSize, treeSize, unused, numberOf, shapeOf, neighbourOf}
 use Rattle.records.specs.Links.{rowsOf, neighbourBytes, codeBytes, withRows}
@@ -24,20 +25,20 @@ use Rattle.records.proofs.Rows.{splice-inside}
 use Rattle.records.proofs.Shapes.{count-six, faces-positive}
 use Rattle.part.specs.Layout.{partHeader, treePlace, ghostPlace, partSize, headerBytes}
 use Rattle.part.specs.Cut.{renamed, renameRow}
-use Rattle.part.specs.Means.{inRange}
+use Rattle.part.specs.Means.{inRange, isLocal, ghostIs, held, viewSound, RankKnown, partLinked}
 use Rattle.part.specs.Part.{noTree, partDimension, partK, partFirst, partCount, partGhostCount, storedTree, storedGhost, globalIndex, globalTree, partHeaderSound, partSound}
-use Rattle.part.specs.View.{isLocal, ghostIs, held, viewSound}
+use Rattle.part.proofs.Sound.{part-sound-is}
 use Rattle.part.proofs.Records.{links-length, header-length, rows-core}
 use Rattle.part_theorems.proofs.Renamed.{renamed-length, renamed-number, renamed-shape, renamed-neighbour, renamed-back}
 use Rattle.part_theorems.proofs.SoundParts.{part-view}
-use Rattle.part_theorems.proofs.Views.{view-trees, view-ghosts, view-same, core-tree, held-cases, tree-link-held}
+use Rattle.part.proofs.Views.{view-trees, view-ghosts, view-same, core-tree, held-cases, tree-link-held}
 use Rattle.area.specs.Layout.{slotsPlace, slotsOf}
-use Rattle.area.specs.Area.{areaDimension, areaK, areaP, areaRank, areaCount, areaGhosts, areaNew, areaFirst, heard, treeSlot, treeSlotCore, ghostSlot, areaSound}
+use Rattle.area.specs.Area.{areaDimension, areaK, areaP, areaRank, areaCount, areaGhosts, areaOld, areaNew, areaFirst, heard, treeSlot, treeSlotCore, ghostSlot, areaSound}
 use Rattle.area.specs.Close.{allHeard, joinIndex, joinedPart}
 use Rattle.area.specs.Means.{HeaderHolds}
 use Rattle.area.proofs.Soundness.{sound-holds}
 use Rattle.area.proofs.Ranges.{range-trees}
-use Rattle.area_theorems.proofs.Again.{area-parts, new-ranks, sound-ghosts}
+use Rattle.area_theorems.proofs.Again.{area-parts, new-ranks, sound-rank, sound-tables, sound-ghosts}
 use Rattle.area_theorems.proofs.Joined.{words, word-at, piece-first, piece-behind, slots-length, slots-at}
 use Rattle.area_theorems.proofs.Kept.{Ghosts}
 use Rattle.area_theorems.proofs.Zones.{few-trees, core-slot}
@@ -88,14 +89,6 @@ or-snd false y e = e
 range-bounds : (low end k : ℕ) → inRange low end k ≡ true → (low ≤ k) × (k < end)
 unfolding inRange
 range-bounds low end k e = (leb-true low k (and-fst (leb low k) (ltb k end) e), ltb-true k end (and-snd (leb low k) (ltb k end) e))
-
--- a part is sound where its header, its length and its records are
-pub part-sound-view : (part table : List ℕ) (rank : ℕ)
-    → partSound part table rank
-    ≡ (partHeaderSound part table rank && eqb (length part) (partSize (partCount part) (partGhostCount part))
-    && viewSound (partFirst part) (partCount part) (partGhostCount part) (globalTree part) (storedGhost part) (partDimension part) (partK part))
-unfolding partSound
-part-sound-view part table rank = refl
 
 module _ (a : List ℕ) (b : Bytes a) (sound : areaSound a ≡ true) where
   abbrev part : List ℕ
@@ -328,7 +321,12 @@ module _ (a : List ℕ) (b : Bytes a) (sound : areaSound a ≡ true) where
           (view-same first n g (globalTree part) (treeSlotCore a) (storedGhost part) (ghostSlot a) tree-back stored-ghost (areaDimension a) (areaK a))
 
       sound-is : partSound part (areaNew a) (areaRank a) ≡ joinSound a
-      sound-is = rw (part-sound-view part (areaNew a) (areaRank a), header-sound, length-ok) view-is
+      unfolding partLinked
+      sound-is =
+          let T : Tables (areaOld a) (areaNew a) = sound-tables a b sound in
+          let below : areaRank a < ranks (areaNew a) = rw (T .sameRanks) (sound-rank a b sound) in
+          part-sound-is part (areaNew a) (areaRank a) (T .newBytes) (record { counted = T .newRanks; checked = T .newValid; below = below })
+          ∙ rw (header-sound, length-ok) view-is
 
     -- ---- a sound part
 

@@ -12,8 +12,7 @@ use Rattle.pattern.specs.Sets.{getsFrom}
 use Rattle.records.specs.Shape.{dimensionOf, faceCount}
 use Rattle.records.specs.Record.{coreSize, treeSize, numberOf, shapeOf, neighbourOf}
 use Rattle.mesh.specs.Link.{orientationOk}
-use Rattle.part.specs.View.{held, heldCore, viewSound}
-use Rattle.part.specs.Means.{inRange, neighbourIn, ghostHas}
+use Rattle.part.specs.Means.{held, heldCore, viewSound, inRange, neighbourIn, ghostHas}
 use Rattle.area.specs.Area.{areaDimension, areaK, areaRank, areaCount, areaGhosts, areaOld, areaNew, areaFirst, heard, treeSlotCore, ghostSlot, areaSound}
 use Rattle.area.specs.Close.{allHeard}
 use Rattle.area.specs.Means.{HeaderHolds}

@@ -19,9 +19,8 @@ use Rattle.bits.proofs.Scanning.{from-le, from-most, from-at, from-below}
 use Rattle.records.specs.Record.{coreSize, numberOf}
 use Rattle.part.specs.Layout.{treePlace, ghostPlace}
 use Rattle.part.specs.Cut.{renamed}
-use Rattle.part.specs.View.{isLocal, ghostIs, held, heldCore}
+use Rattle.part.specs.Means.{isLocal, ghostIs, held, heldCore, inRange, Ascending, smaller, ghostCore, ghostHas}
 use Rattle.part.specs.Part.{partFirst, partCount, partGhostCount, storedTree, storedGhost, globalIndex, globalTree, partHolds, partCore}
-use Rattle.part.specs.Means.{inRange, Ascending, smaller, ghostCore, ghostHas}
 use Rattle.part.proofs.Search.{search-past, search-other, search-found}
 use Rattle.message_build.specs.Means.{RecordRoom, Searchable, coresBelow, GhostRoom}
 

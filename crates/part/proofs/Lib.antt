@@ -5,3 +5,6 @@ pub mod Records
 pub mod Ranges
 pub mod Search
 pub mod Global
+pub mod Views
+pub mod Sound
+pub mod Same

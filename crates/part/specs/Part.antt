@@ -12,7 +12,7 @@ use Rattle.records.specs.Record.{coreSize, unused, numberOf}
 use Rattle.mesh.specs.Mesh.{dimensionOk}
 use Rattle.part.specs.Layout.{treePlace, ghostPlace, partSize}
 use Rattle.part.specs.Cut.{renamed}
-use Rattle.part.specs.View.{held, heldCore, viewSound}
+use Rattle.part.specs.View.{View, heldIn, coreIn, recordsHold}
 
 -- no tree's number, and not the mark of an unused face
 abbrev pub noTree : ℕ
@@ -57,22 +57,34 @@ module _ (part : List ℕ) where
   unfoldable pub globalTree : ℕ → List ℕ
   globalTree i = renamed globalIndex (facesIn partDimension) (storedTree i)
 
+  -- what the part says
+  abbrev pub viewOf : View
+  viewOf =
+      record {
+        dimension = partDimension;
+        K = partK;
+        first = partFirst;
+        n = partCount;
+        g = partGhostCount;
+        stored = storedTree;
+        tree = globalTree;
+        ghost = storedGhost;
+      }
+
   -- the part holds tree k, and its core with neighbours as global numbers
   unfoldable pub partHolds : ℕ → Bool
-  partHolds = held partFirst partCount partGhostCount globalTree storedGhost
+  partHolds = heldIn viewOf
 
   unfoldable pub partCore : ℕ → List ℕ
-  partCore = heldCore partFirst partCount partGhostCount globalTree storedGhost
+  partCore = coreIn viewOf
 
   module _ (table : List ℕ) (rank : ℕ) where
-    -- the header is as table and rank say
+    -- dimension 2 or 3; the header is as table and rank say
     unfoldable pub partHeaderSound : Bool
     partHeaderSound =
         dimensionOk partDimension && eqb partK (trees table) && eqb (u32At part 8) (ranks table) && eqb (u32At part 12) rank
         && eqb partFirst (firstTree table rank) && eqb partCount (treeCount table rank) && eqb (u32At part 28) 0
 
-    -- the part is sound
+    -- the part is sound: header, exact length, records
     unfoldable pub partSound : Bool
-    partSound =
-        partHeaderSound && eqb (length part) (partSize partCount partGhostCount)
-        && viewSound partFirst partCount partGhostCount globalTree storedGhost partDimension partK
+    partSound = partHeaderSound && eqb (length part) (partSize partCount partGhostCount) && recordsHold viewOf

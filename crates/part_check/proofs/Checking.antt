@@ -18,9 +18,9 @@ use Rattle.mesh.specs.Mesh.{dimensionOk}
 use Rattle.offsets.specs.Table.{ranks, entry, trees, firstTree, endTree, treeCount}
 use Rattle.offsets.proofs.Tables.{count-add, end-trees, trees-high}
 use Rattle.part.specs.Layout.{treePlace, ghostPlace, partSize}
-use Rattle.part.specs.View.{viewSound}
+use Rattle.part.specs.Means.{viewSound, inRange, neighbourIn, Ascending, ghostCore, ghostHas, RankKnown, partLinked}
+use Rattle.part.proofs.Sound.{part-sound-is}
 use Rattle.part.specs.Part.{partDimension, partK, partFirst, partCount, partGhostCount, storedTree, storedGhost, globalIndex, globalTree, partHeaderSound, partSound}
-use Rattle.part.specs.Means.{inRange, neighbourIn, Ascending, ghostCore, ghostHas, RankKnown}
 use Rattle.mesh.specs.Means.{linkByDimension}
 use Rattle.part_check.specs.Means.{treeTo, treeFace, treeStored, treeNumbered, ghostBehind, ghostNumbered, ghostTo, ghostFace, ghostStored, recordsSound, PartLaid, PartNumbered}
 use Rattle.part.proofs.Global.{global-alike, global-neighbour}
@@ -195,8 +195,9 @@ module _ (part table : List ℕ) (rank : ℕ) where
 
     pub sound-read : {first n g D K : ℕ} {r : Bool} → Bytes part → first ≡ partFirst part → n ≡ partCount part → g ≡ partGhostCount part → D ≡ partDimension part → K ≡ partK part
         → r ≡ recordsSound (linkByDimension D) first n g (storedTree part) (ghostCore part n) D K → r ≡ partSound part table rank
-    unfolding partSound
-    sound-read b e1 e2 e3 e4 e5 p = rw (← is, ok, p, e1, e2, e3, e4, e5) (sym (part-records part b head-laid (partDimension part)))
+    unfolding partLinked
+    sound-read b e1 e2 e3 e4 e5 p =
+        rw (part-sound-is part table rank tableBytes known, ← is, ok, p, e1, e2, e3, e4, e5) (sym (part-records part b head-laid (partDimension part)))
 
   pub sound-none : {h : Bool} → h ≡ headed → h ≡ false → false ≡ partSound part table rank
   unfolding partSound

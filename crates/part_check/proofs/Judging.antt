@@ -15,9 +15,8 @@ use Rattle.records.specs.Record.{unused, regionLimit, regionOk, numberOf, shape
 use Rattle.records.proofs.Shapes.{count-six}
 use Rattle.records.proofs.Forms.{face-six}
 use Rattle.mesh.specs.Link.{orientationOk, sameCorners, answered, linkOk}
-use Rattle.part.specs.View.{isLocal, ghostIs, held, heldCore, treeLink, ghostLink, localSound, ghostAfter, ghostBeside, ghostSound, viewSound}
+use Rattle.part.specs.Means.{isLocal, ghostIs, held, heldCore, treeLink, ghostLink, localSound, ghostAfter, ghostBeside, ghostSound, viewSound, inRange, neighbourIn, ghostHas}
 use Rattle.part.specs.Part.{noTree}
-use Rattle.part.specs.Means.{inRange, neighbourIn, ghostHas}
 use Rattle.mesh.specs.Means.{linkBetween}
 use Rattle.part_check.specs.Means.{treeNumbered, ghostBehind, ghostNumbered, numbersSound, treeTo, treeFace, treeStored, ghostTo, ghostFace, ghostStored, recordsSound}
 use Rattle.part.proofs.Global.{Alike, alike-itself, alike-face, alike-orientation}

@@ -23,12 +23,14 @@ use Rattle.mesh.proofs.Soundness.{link-orientation, header-parts, sound-header,
 use Rattle.part.specs.Layout.{treePlace, partSize}
 use Rattle.part.specs.Ghosts.{isGhost, ghostsOf, ghostPosition}
 use Rattle.part.specs.Cut.{localIndex, ghostCount, cutPart}
-use Rattle.part.specs.View.{isLocal, ghostIs, held, heldCore, treeLink, ghostLink, ghostAfter, ghostBeside}
+use Rattle.part.specs.Means.{RankKnown, isLocal, ghostIs, held, heldCore, treeLink, ghostLink, ghostAfter, ghostBeside, partLinked}
+use Rattle.part.proofs.Sound.{part-sound-is}
+use Rattle.part.proofs.Same.{holds-held, core-held}
 use Rattle.part.specs.Part.{partDimension, partK, partFirst, partCount, partGhostCount, storedGhost, globalIndex, globalTree, partHolds, partCore, partHeaderSound, partSound}
 use Rattle.part_cut.proofs.Cutting.{Cuttable, cut-length}
 use Rattle.part.proofs.Ghosts.{ghost-at, ghost-found, ghosts-ascend}
 use Rattle.part_theorems.proofs.CutRead.{cuttable-fits, cut-dimension, cut-K, cut-ranks, cut-rank, cut-first, cut-count, cut-ghosts, cut-zero, cut-end, cut-within, cut-tree, cut-data, cut-ghost, position-below, cut-ghost-at, cut-ghost-number}
-use Rattle.part_theorems.proofs.Views.{link-same, tree-link-make, ghost-link-make, TreeView, GhostView, view-make}
+use Rattle.part.proofs.Views.{link-same, tree-link-make, ghost-link-make, TreeView, GhostView, view-make}
 use Rattle.part_theorems.proofs.Renamed.{renamed-number, renamed-back}
 
 -- k is in the range
@@ -230,8 +232,8 @@ module _ (mesh table : List ℕ) (rank : ℕ) (ok : Cuttable mesh table rank) (m
 
   -- the part holds tree k
   holds-is : (k : ℕ) → partHolds part k ≡ (holds table rank k || (ltb k K && ghost k))
-  unfolding partHolds held
-  holds-is k = rw (tree-is k, ghost-there k)
+  unfolding held
+  holds-is k = holds-held part k ∙ rw (tree-is k, ghost-there k)
 
   -- the part holds the trees of f(rank) and the ghosts
   pub cut-holds : (k : ℕ) → k < meshTrees mesh → partHolds (cutPart mesh table rank) k ≡ (holds table rank k || isGhost (meshCore mesh) table rank k)
@@ -245,10 +247,11 @@ module _ (mesh table : List ℕ) (rank : ℕ) (ok : Cuttable mesh table rank) (m
 
   -- each record held is the mesh's
   pub cut-core : (k : ℕ) → partHolds (cutPart mesh table rank) k ≡ true → partCore (cutPart mesh table rank) k ≡ meshCore mesh k
-  unfolding partCore heldCore
+  unfolding heldCore
   cut-core k e =
       let h : (holds table rank k || (ltb k K && ghost k)) ≡ true = sym (holds-is k) ∙ e in
-      rw (tree-is k)
+      core-held part k
+      ∙ rw (tree-is k)
       (either (holds table rank k)
       (λ q.
       let r = holds-range table rank k q in
@@ -300,7 +303,7 @@ module _ (mesh table : List ℕ) (rank : ℕ) (ok : Cuttable mesh table rank) (m
       link-same (partCore part) (meshCore mesh) k f (cut-core k e) (cut-core (neighbourOf (meshCore mesh k) f) t) ∙ sound-link mesh (ok .mesh-sound) k (held-below k e) f h
 
   tree-link : (k : ℕ) → holds table rank k ≡ true → (f : ℕ) → f < faceCount (shapeOf (meshCore mesh k)) → treeLink (partFirst part) (partCount part) (partGhostCount part) (globalTree part) (storedGhost part) k f ≡ true
-  unfolding partHolds partCore
+  unfolding partHolds partCore held heldCore isLocal ghostIs
   tree-link k e f h =
       let t = neighbour-held k e f h in
       let same : neighbourOf (partCore part k) f ≡ neighbourOf (meshCore mesh k) f = ap (λ (r : List ℕ). neighbourOf r f) (cut-core k (tree-held k e)) in
@@ -322,7 +325,7 @@ module _ (mesh table : List ℕ) (rank : ℕ) (ok : Cuttable mesh table rank) (m
       }
 
   ghost-link : (k : ℕ) → k < K → ghost k ≡ true → (f : ℕ) → f < faceCount (shapeOf (meshCore mesh k)) → ghostLink (partFirst part) (partCount part) (partGhostCount part) (globalTree part) (storedGhost part) (partK part) k f ≡ true
-  unfolding partHolds partCore
+  unfolding partHolds partCore held heldCore isLocal ghostIs
   ghost-link k l t f h =
       let e : partHolds part k ≡ true = ghost-held k l t in
       let c : partCore part k ≡ meshCore mesh k = cut-core k e in
@@ -376,11 +379,12 @@ module _ (mesh table : List ℕ) (rank : ℕ) (ok : Cuttable mesh table rank) (m
 
   -- a cut part is sound
   pub cut-sound : partSound (cutPart mesh table rank) table rank ≡ true
-  unfolding partSound
+  unfolding partLinked
   cut-sound =
       let w = cuttable-fits mesh table rank ok bytes in
       let l : length part ≡ partSize (partCount part) (partGhostCount part) = rw (cut-count mesh table rank ok bytes, cut-ghosts mesh table rank ok bytes) (cut-length mesh table rank (ok .mesh-sound) (w .rises) (w .within)) in
-      rw (header-sound, eq-eqb (length part) _ l)
+      part-sound-is part table rank bytes (record { counted = ok .table-ranks; checked = ok .table-valid; below = ok .rank-below })
+      ∙ rw (header-sound, eq-eqb (length part) _ l)
       (view-make (partFirst part) (partCount part) (partGhostCount part) (globalTree part) (storedGhost part) (partDimension part) (partK part)
       (λ i h. tree-sound i (rw (cut-count mesh table rank ok bytes) at h))
       (λ j h. ghost-sound j (rw (cut-ghosts mesh table rank ok bytes) at h)))

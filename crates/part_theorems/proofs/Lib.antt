@@ -1,6 +1,5 @@
 -- Theorems on parts.
 pub mod CutRead
-pub mod Views
 pub mod Renamed
 pub mod CutSound
 pub mod CutLinks

@@ -24,10 +24,12 @@ use Rattle.mesh.proofs.Soundness.{link-there, link-answered}
 use Rattle.part.specs.Layout.{partHeader, treePlace, ghostPlace, partSize}
 use Rattle.part.specs.Ghosts.{besideRank}
 use Rattle.part.specs.Cut.{renamed}
-use Rattle.part.specs.View.{isLocal, ghostIs, viewSound}
-use Rattle.part.specs.Part.{partDimension, partK, partFirst, partCount, partGhostCount, storedTree, storedGhost, globalIndex, globalTree, partHolds, partCore, partHeaderSound, partSound}
+use Rattle.part.specs.Means.{isLocal, ghostIs, held, heldCore, viewSound, partLinked}
+use Rattle.part.proofs.Sound.{sound-linked}
+use Rattle.part.proofs.Same.{records-same}
+use Rattle.part.specs.Part.{partDimension, partK, partFirst, partCount, partGhostCount, storedTree, storedGhost, globalIndex, globalTree, viewOf, partHolds, partCore, partHeaderSound, partSound}
 use Rattle.part_theorems.proofs.Renamed.{renamed-length}
-use Rattle.part_theorems.proofs.Views.{local-at, local-range, core-tree, core-ghost, held-cases, local-held, ghost-at-held, view-ghosts, view-ascends, view-number, view-form, view-shape, view-link, view-neighbour, view-far, view-beside, view-below, held-same, core-same, view-same}
+use Rattle.part.proofs.Views.{local-at, local-range, core-tree, core-ghost, held-cases, local-held, ghost-at-held, view-ghosts, view-ascends, view-number, view-form, view-shape, view-link, view-neighbour, view-far, view-beside, view-below, held-same, core-same}
 
 -- ---- the header
 
@@ -92,8 +94,8 @@ module _ (part table : List ℕ) (rank : ℕ) (sound : partSound part table rank
 
   -- and the records are sound
   pub part-view : viewSound (partFirst part) (partCount part) (partGhostCount part) (globalTree part) (storedGhost part) (partDimension part) (partK part) ≡ true
-  unfolding partSound
-  part-view = and-snd (partHeaderSound part table rank && lengthOk) _ sound
+  unfolding partLinked
+  part-view = and-snd (partHeaderSound part table rank && lengthOk) _ (sound-linked part table rank sound)
 
   abbrev inside : ℕ → Bool
   inside = isLocal (partFirst part) (partCount part) (partGhostCount part) (globalTree part) (storedGhost part)
@@ -106,34 +108,34 @@ module _ (part table : List ℕ) (rank : ℕ) (sound : partSound part table rank
 
   -- a tree of f(rank) is held
   pub part-tree : (k : ℕ) → holds table rank k ≡ true → partHolds part k ≡ true
-  unfolding partHolds
-  part-tree k e = local-held _ _ _ _ _ k (inside-is k ∙ e)
+  unfolding partHolds held isLocal ghostIs
+  part-tree k e = local-held (partFirst part) (partCount part) (partGhostCount part) (globalTree part) (storedGhost part) k (inside-is k ∙ e)
 
   module _ (k : ℕ) (has : partHolds part k ≡ true) where
     -- each record held has its number
     pub part-number : numberOf (partCore part k) ≡ k
-    unfolding partHolds partCore
+    unfolding partHolds partCore held heldCore isLocal ghostIs
     part-number = view-number _ _ _ _ _ _ _ part-view k has
 
     -- is in form
     pub part-form : inForm k (partCore part k) ≡ true
-    unfolding partHolds partCore
+    unfolding partHolds partCore held heldCore isLocal ghostIs
     part-form = view-form _ _ _ _ _ _ _ part-view k has
 
     -- has a shape of the dimension
     pub part-shape : dimensionOf (shapeOf (partCore part k)) ≡ partDimension part
-    unfolding partHolds partCore
+    unfolding partHolds partCore held heldCore isLocal ghostIs
     part-shape = view-shape _ _ _ _ _ _ _ part-view k has
 
     module _ (f : ℕ) (face : f < faceCount (shapeOf (partCore part k))) where
       -- every neighbour of a tree is held
       pub part-held : holds table rank k ≡ true → partHolds part (neighbourOf (partCore part k) f) ≡ true
-      unfolding partHolds partCore
+      unfolding partHolds partCore held heldCore isLocal ghostIs
       part-held e = view-neighbour _ _ _ _ _ _ _ part-view k has f face (inside-is k ∙ e)
 
       -- a link between two records held obeys the whole mesh rule
       pub part-link : partHolds part (neighbourOf (partCore part k) f) ≡ true → linkOk (partCore part) k f ≡ true
-      unfolding partHolds partCore
+      unfolding partHolds partCore held heldCore isLocal ghostIs
       part-link p = view-link _ _ _ _ _ _ _ part-view k has f face p
 
       -- so it is answered by the neighbour's link back, with the same orientation
@@ -149,23 +151,23 @@ module _ (part table : List ℕ) (rank : ℕ) (sound : partSound part table rank
 
       -- a link to a tree not held has a number below K and an orientation below the corners of the face
       pub part-far : partHolds part (neighbourOf (partCore part k) f) ≡ false → (neighbourOf (partCore part k) f < partK part) × (orientationOk (partCore part k) f ≡ true)
-      unfolding partHolds partCore
+      unfolding partHolds partCore held heldCore isLocal ghostIs
       part-far p = view-far _ _ _ _ _ _ _ part-view k has f face p
 
   -- the record of tree i
   pub part-core-tree : (i : ℕ) → i < partCount part → partCore part (partFirst part + i) ≡ globalTree part i
-  unfolding partCore
-  part-core-tree i h = core-tree _ _ _ _ _ i h
+  unfolding partCore heldCore isLocal ghostIs
+  part-core-tree i h = core-tree (partFirst part) (partCount part) (partGhostCount part) (globalTree part) (storedGhost part) i h
 
   -- the record of ghost j
   pub part-core-ghost : (j : ℕ) → j < partGhostCount part → partCore part (numberOf (storedGhost part j)) ≡ storedGhost part j
-  unfolding partCore
+  unfolding partCore heldCore isLocal ghostIs
   part-core-ghost j h = core-ghost _ _ _ _ _ _ _ part-view j h
 
   -- it is held
   pub part-ghost-held : (j : ℕ) → j < partGhostCount part → partHolds part (numberOf (storedGhost part j)) ≡ true
-  unfolding partHolds
-  part-ghost-held j h = ghost-at-held _ _ _ _ _ j h
+  unfolding partHolds held isLocal ghostIs
+  part-ghost-held j h = ghost-at-held (partFirst part) (partCount part) (partGhostCount part) (globalTree part) (storedGhost part) j h
 
   -- its number is below K
   pub part-ghost-below : (j : ℕ) → j < partGhostCount part → numberOf (storedGhost part j) < partK part
@@ -189,9 +191,9 @@ module _ (part table : List ℕ) (rank : ℕ) (sound : partSound part table rank
 
   -- each record held has 40 bytes
   pub part-core-long : (k : ℕ) → partHolds part k ≡ true → length (partCore part k) ≡ coreSize
-  unfolding partHolds
+  unfolding partHolds held isLocal ghostIs
   part-core-long k e =
-      held-cases _ _ _ _ _ k e
+      held-cases (partFirst part) (partCount part) (partGhostCount part) (globalTree part) (storedGhost part) k e
       (λ i h p. rw (p, part-core-tree i h) (tree-long i h))
       (λ j h p o. rw (← p, part-core-ghost j h) (ghost-long j h))
 
@@ -208,7 +210,7 @@ module _ (part table : List ℕ) (rank : ℕ) (sound : partSound part table rank
 
     -- every record held is below K
     pub part-below : (k : ℕ) → partHolds part k ≡ true → k < partK part
-    unfolding partHolds
+    unfolding partHolds held isLocal ghostIs
     part-below k e = view-below _ _ _ _ _ _ _ part-view trees-fit k e
 
     -- and so is each of its neighbours
@@ -242,7 +244,7 @@ module _ (part table : List ℕ) (rank : ℕ) (sound : partSound part table rank
 
     -- the ghosts of a tree outside f(rank)
     outside-is : (k : ℕ) → holds table rank k ≡ false → anyBelow (partGhostCount part) (λ j. eqb (numberOf (storedGhost part j)) k) ≡ besideRank (partCore part) table rank K k
-    unfolding partCore ghostIs
+    unfolding partCore heldCore isLocal ghostIs
     outside-is k o = view-beside _ _ _ _ _ _ _ part-view k (inside-is k ∙ o) ∙ beside-is k
 
     -- the numbers of the ghosts are exactly the trees below K outside f(rank) that a tree of f(rank) has as a face neighbour
@@ -313,19 +315,26 @@ module _ (a b : List ℕ) (same-header : piece a 0 partHeader ≡ piece b 0 part
     pub part-cores : length a ≡ length b → (table : List ℕ) (rank : ℕ) → partSound a table rank ≡ partSound b table rank
     unfolding partSound
     part-cores l table rank =
-        let v : viewSound (partFirst a) (partCount a) (partGhostCount a) (globalTree a) (storedGhost a) (partDimension a) (partK a) ≡ viewSound (partFirst a) (partCount a) (partGhostCount a) (globalTree b) (storedGhost b) (partDimension a) (partK a) =
-        view-same (partFirst a) (partCount a) (partGhostCount a) (globalTree a) (globalTree b) (storedGhost a) (storedGhost b) tree-same same-ghosts (partDimension a) (partK a) in
-        rw (header-same table rank, l, v, first-same, count-same, ghosts-same, dimension-same, K-same)
+        rw (
+          header-same table rank,
+          l,
+          records-same (partDimension a) (partK a) (partFirst a) (partCount a) (partGhostCount a) (storedTree a) (storedTree b) (globalTree a) (globalTree b) (storedGhost a) (storedGhost b) same-trees tree-same same-ghosts,
+          first-same,
+          count-same,
+          ghosts-same,
+          dimension-same,
+          K-same,
+        )
 
     -- and hold the same cores
     pub holds-same : (k : ℕ) → partHolds a k ≡ partHolds b k
-    unfolding partHolds
+    unfolding partHolds held isLocal ghostIs
     holds-same k =
         rw (← first-same, ← count-same, ← ghosts-same)
         (held-same (partFirst a) (partCount a) (partGhostCount a) (globalTree a) (globalTree b) (storedGhost a) (storedGhost b) tree-same same-ghosts k)
 
     pub cores-same : (k : ℕ) → partHolds a k ≡ true → partCore a k ≡ partCore b k
-    unfolding partHolds partCore
+    unfolding partHolds partCore held heldCore isLocal ghostIs
     cores-same k e =
         rw (← first-same, ← count-same, ← ghosts-same)
         (core-same (partFirst a) (partCount a) (partGhostCount a) (globalTree a) (globalTree b) (storedGhost a) (storedGhost b) tree-same same-ghosts k e)

@@ -21,7 +21,7 @@ use Rattle.part.specs.Checks.{rankChecks}
 use Rattle.part.proofs.Global.{renamed-alike}
 use Rattle.part_check.specs.Calls.{partRefusal}
 use Rattle.part_theorems.proofs.SoundParts.{part-length, part-view}
-use Rattle.part_theorems.proofs.Views.{view-trees}
+use Rattle.part.proofs.Views.{view-trees}
 use Rattle.regions.specs.Counts.{regionCounts}
 use Rattle.regions.specs.Calls.{regionsRefusal, regionCountsOf}
 use Rattle.regions.specs.Means.{Countable}

@@ -14,7 +14,7 @@ use Rattle.records.specs.Record.{numberOf, shapeOf, neighbourOf, faceOf, inForm
 use Rattle.mesh.specs.Link.{orientationOk, linkOk}
 use Rattle.mesh.specs.Mesh.{faceNeighbour}
 use Rattle.mesh.proofs.Soundness.{link-there, link-answered}
-use Rattle.part.specs.View.{isLocal, ghostIs, held, heldCore, treeLink, ghostLink, localSound, ghostAfter, ghostBeside, ghostSound, viewSound}
+use Rattle.part.specs.Means.{isLocal, ghostIs, held, heldCore, treeLink, ghostLink, localSound, ghostAfter, ghostBeside, ghostSound, viewSound}
 
 -- a link's rule reads the records at both its ends
 pub link-same : (a b : ℕ → List ℕ) (k f : ℕ) → a k ≡ b k → a (neighbourOf (b k) f) ≡ b (neighbourOf (b k) f) → linkOk a k f ≡ linkOk b k f

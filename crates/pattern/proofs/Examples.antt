@@ -31,3 +31,9 @@ pub plan-moves : (sentFirst planOld planNew 0 0 ≡ 0) × (sentCount planOld pla
     × (sentCount planOld planNew 0 1 ≡ 0) × (sentCount planOld planNew 0 2 ≡ 0) × (sentCount planOld planNew 1 2 ≡ 0) × (sentCount planOld planNew 2 0 ≡ 0)
 unfolding sentFirst sentCount sends countBelow anyBelow sender nearest distance allBelow leastBelow holds firstTree endTree firstOf magnitude negative trees ranks entry leAt piece leValue tableBytes leBytes
 plan-moves = (refl, refl, refl, refl, refl, refl, refl, refl, refl, refl, refl, refl, refl, refl)
+
+-- tree 0, on ranks at several distances from the receiver, which hasn't got it: the nearest sends it, the lower of two
+pub nearest-senders : (sender (tableBytes (0 ∷ minus 1 ∷ 1 ∷ 1 ∷ [])) 0 2 ≡ 1) × (sender (tableBytes (0 ∷ 1 ∷ minus 1 ∷ 1 ∷ [])) 0 1 ≡ 0)
+    × (sender (tableBytes (0 ∷ 1 ∷ 1 ∷ minus 1 ∷ 1 ∷ [])) 0 2 ≡ 3) × (sender (tableBytes (0 ∷ 0 ∷ minus 1 ∷ 1 ∷ [])) 0 0 ≡ 1)
+unfolding sender nearest distance allBelow anyBelow leastBelow holds firstTree endTree firstOf magnitude negative trees ranks entry leAt piece leValue tableBytes leBytes
+nearest-senders = (refl, refl, refl, refl)

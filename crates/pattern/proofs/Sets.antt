@@ -1,18 +1,19 @@
 -- Laws of the send set and the receive set.
 use Prim.Native.Nat.{ℕ, _+_, _-_, _*_, _≤_, _<_}
+use native.Mathlib.Nat.{le-refl}
 use native.Mathlib.Omega.{arith}
 use mathlib.Core.Path.{_≡_, sym, _∙_}
-use mathlib.Core.Bool.{Bool, true, _&&_, _||_, or-true}
+use mathlib.Core.Bool.{Bool, true, false, _&&_, _||_, or-true}
 use mathlib.Core.List.{List}
 use lib.Dec.{leb, ltb, eqb}
 use lib.ListN.{length, getD}
-use borrow.Author.Tests.{ltb-true, eqb-true, eqb-false, lt-ltb, eq-eqb}
-use Rattle.encoding.specs.Below.{anyBelow, countBelow, sumBelow, member}
-use Rattle.encoding.proofs.Below.{tests, either, and-fst, and-snd, and-intro, iff-eq, any-intro, any-at, kept-member, kept-length, kept-ascends}
-use Rattle.offsets.specs.Table.{ranks, trees, entry, magnitude, firstTree, endTree, treeCount, holds}
+use borrow.Author.Tests.{ltb-true, eqb-true, eqb-false, lt-ltb, eq-eqb, ne-eqb}
+use Rattle.encoding.specs.Below.{anyBelow, countBelow, sumBelow, keptBelow, member}
+use Rattle.encoding.proofs.Below.{tests, either, and-fst, and-snd, and-intro, iff-eq, any-intro, any-at, count-lt, kept-member, kept-length, kept-at, kept-found, kept-ascends}
+use Rattle.offsets.specs.Table.{ranks, trees, firstTree, endTree, treeCount, holds}
 use Rattle.offsets.proofs.Tables.{count-add, end-trees}
 use Rattle.pattern.specs.Sender.{Tables, sender, sends, sentFirst, sentCount}
-use Rattle.pattern.specs.Sets.{sendsTo, sendSet, getsFrom, receiveSet}
+use Rattle.pattern.specs.Sets.{sendsTo, sendSet, getsFrom, receiveSet, smallest, largest, Ends}
 use Rattle.pattern.specs.Means.{sentLow, sentHigh}
 use Rattle.pattern.proofs.Counting.{range-true, range-in, range-out, any-span, count-one, pairs-three}
 use Rattle.pattern.proofs.Senders.{holds-true, holds-in, first-near, end-before, sender-lt, sender-holds, sends-true, sends-in, sends-range, sent-high, sent-count, sent-first, sent-old, sent-new, sent-start}
@@ -47,6 +48,55 @@ module _ (old new : List ℕ) where
   pub receive-ascends : (q i j d : ℕ) → i < j → j < length (receiveSet old new q) → getD (receiveSet old new q) i d < getD (receiveSet old new q) j d
   unfolding receiveSet
   receive-ascends q i j d h l = kept-ascends (ranks old) (getsFrom old new q) i j d h (rw (receive-length q) at l)
+
+-- ---- their ends
+
+module _ (n : ℕ) (f : ℕ → Bool) where
+  abbrev kept : List ℕ
+  kept = keptBelow n f
+
+  -- what stands at a place is in the list
+  at-member : (i : ℕ) → i < length kept → member (getD kept i 0) kept ≡ true
+  at-member i h =
+      let a = kept-found n f i 0 (rw (kept-length n f) at h) in
+      rw (kept-member n f (getD kept i 0), lt-ltb (getD kept i 0) n (a .0), a .1)
+
+  -- what is in the list stands at a place
+  member-at : (k : ℕ) → member k kept ≡ true → (i : ℕ) × (i < length kept) × (getD kept i 0 ≡ k)
+  member-at k e =
+      let m : (ltb k n && f k) ≡ true = rw (kept-member n f k) at e in
+      let l = ltb-true k n (and-fst (ltb k n) (f k) m) in
+      let t = and-snd (ltb k n) (f k) m in
+      (countBelow k f, rw (kept-length n f) (count-lt k n f l t), kept-at n f k l t 0)
+
+  in-order : (i j : ℕ) → i ≤ j → j < length kept → getD kept i 0 ≤ getD kept j 0
+  in-order i j h l =
+      either (ltb i j)
+      (λ e. omega (arith, kept-ascends n f i j 0 (ltb-true i j e) (rw (kept-length n f) at l)))
+      (λ e. let d : i ≡ j = omega tests in rw d (le-refl (getD kept j 0)))
+
+  kept-ends : Ends kept
+  unfolding smallest largest
+  kept-ends =
+      record {
+        ofNone = λ e. (rw e, rw e);
+        least = λ k e. let a = member-at k e in
+            let z : eqb (length kept) 0 ≡ false = ne-eqb (length kept) 0 (λ i. omega (arith, a .1)) in
+            (getD kept 0 0, rw z, at-member 0 (omega (arith, a .1)), rw (← a .2) (in-order 0 (a .0) (omega arith) (a .1)));
+        greatest = λ k e. let a = member-at k e in
+            let z : eqb (length kept) 0 ≡ false = ne-eqb (length kept) 0 (λ i. omega (arith, a .1)) in
+            (getD kept (length kept - 1) 0, rw z, at-member (length kept - 1) (omega (arith, a .1)), rw (← a .2) (in-order (a .0) (length kept - 1) (omega (arith, a .1)) (omega (arith, a .1))));
+      }
+
+module _ (old new : List ℕ) where
+  -- smallest and largest are the least and the greatest of either set
+  pub send-ends : (p : ℕ) → Ends (sendSet old new p)
+  unfolding sendSet
+  send-ends p = kept-ends (ranks old) (sendsTo old new p)
+
+  pub receive-ends : (q : ℕ) → Ends (receiveSet old new q)
+  unfolding receiveSet
+  receive-ends q = kept-ends (ranks old) (getsFrom old new q)
 
 -- ---- who is in them
 
@@ -83,6 +133,9 @@ module _ (old new : List ℕ) (T : Tables old new) where
         let h = holds-true new q k (and-fst (holds new q k) (eqb (sender old k q) p) (a .2)) in
         let i : firstTree new q + (k - firstTree new q) ≡ k = omega arith in
         any-intro (treeCount new q) g (k - firstTree new q) (omega arith) (rw i (and-snd (holds new q k) (eqb (sender old k q) p) (a .2))))
+
+    pub gets-from : getsFrom old new q p ≡ ltb (sentLow old new p q) (sentHigh old new p q)
+    gets-from = gets-sends ∙ sends-to
 
     -- q is in the send set of p exactly where p is in the receive set of q
     pub symmetric : member q (sendSet old new p) ≡ member p (receiveSet old new q)

@@ -1,6 +1,5 @@
 use Rattle.pattern.specs.Means.{heldAbove}
 use borrow.Author.Tests.{le-leb, lt-leb}
-use native.Mathlib.Omega.{arith}
 use borrow.Author.Needs.{needs}
 use Rattle.pattern.proofs.holder.holds_above.Statement.{statement}
 use Rattle.pattern.proofs.holder.holds_above.Tie as tie

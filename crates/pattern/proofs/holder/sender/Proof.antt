@@ -27,11 +27,25 @@ holds-below-requires c κs = search needs
 
 -- src/holder.rt:46:20
 sub-result : tie.Need-sub-result Inv-loop μ-loop
-sub-result c = walk-below _ _ _ (λ i. c .before .before .before .before .before .shared-slice-known .given i .fits) (c .before .before .before .before .before .before .pre) _ _ (c .before .before .before .before .ranks .ensures .0) (c .before .before .before .loop .inv) (c .before .before .loop-test .taken) (sym (c .before .holds-below .ensures) ∙ c .if1 .taken) .0
+sub-result c =
+    let shared-slice-known = c .before .before .before .before .before .shared-slice-known in
+    let pre = c .before .before .before .before .before .before .pre in
+    let ranks = c .before .before .before .before .ranks in
+    let loop = c .before .before .before .loop in
+    let loop-test = c .before .before .loop-test in
+    let holds-below = c .before .holds-below in
+    walk-below _ _ _ (λ i. shared-slice-known .given i .fits) pre _ _ (ranks .ensures .0) (loop .inv) (loop-test .taken) (sym (holds-below .ensures) ∙ c .if1 .taken) .0
 
 -- src/holder.rt:46:13
 returns : tie.Need-returns Inv-loop μ-loop
-returns c = (walk-below _ _ _ (λ i. c .before .before .before .before .before .shared-slice-known .given i .fits) (c .before .before .before .before .before .before .pre) _ _ (c .before .before .before .before .ranks .ensures .0) (c .before .before .before .loop .inv) (c .before .before .loop-test .taken) (sym (c .before .holds-below .ensures) ∙ c .if1 .taken) .1, omega (arith, ranks-known _ (c .before .before .before .before .before .before .pre .0 .ranksFit) .high, c .before .before .before .before .before .before .pre .1))
+returns c =
+    let shared-slice-known = c .before .before .before .before .before .shared-slice-known in
+    let pre = c .before .before .before .before .before .before .pre in
+    let ranks = c .before .before .before .before .ranks in
+    let loop = c .before .before .before .loop in
+    let loop-test = c .before .before .loop-test in
+    let holds-below = c .before .holds-below in
+    (walk-below _ _ _ (λ i. shared-slice-known .given i .fits) pre _ _ (ranks .ensures .0) (loop .inv) (loop-test .taken) (sym (holds-below .ensures) ∙ c .if1 .taken) .1, omega (arith, ranks-known _ (pre .0 .ranksFit) .high, pre .1))
 
 -- src/holder.rt:48:12
 holds-above-requires : tie.Need-holds-above-requires Inv-loop μ-loop
@@ -39,11 +53,29 @@ holds-above-requires c κs = search needs
 
 -- src/holder.rt:49:20
 add-result : tie.Need-add-result Inv-loop μ-loop
-add-result c = omega (arith, walk-above _ _ _ (λ i. c .before .before .before .before .before .before .before .shared-slice-known .given i .fits) (c .before .before .before .before .before .before .before .before .pre) _ _ (c .before .before .before .before .before .before .ranks .ensures .0) (c .before .before .before .before .before .loop .inv) (c .before .before .before .before .loop-test .taken) (sym (c .before .before .before .holds-below .ensures) ∙ c .before .before .if1 .left) (sym (c .before .holds-above .ensures) ∙ c .if2 .taken) .0, c .before .before .before .before .before .before .ranks .ensures .1 .1)
+add-result c =
+    let shared-slice-known = c .before .before .before .before .before .before .before .shared-slice-known in
+    let pre = c .before .before .before .before .before .before .before .before .pre in
+    let ranks = c .before .before .before .before .before .before .ranks in
+    let loop = c .before .before .before .before .before .loop in
+    let loop-test = c .before .before .before .before .loop-test in
+    let holds-below = c .before .before .before .holds-below in
+    let if1 = c .before .before .if1 in
+    let holds-above = c .before .holds-above in
+    omega (arith, walk-above _ _ _ (λ i. shared-slice-known .given i .fits) pre _ _ (ranks .ensures .0) (loop .inv) (loop-test .taken) (sym (holds-below .ensures) ∙ if1 .left) (sym (holds-above .ensures) ∙ c .if2 .taken) .0, ranks .ensures .1 .1)
 
 -- src/holder.rt:49:13
 returns-2 : tie.Need-returns-2 Inv-loop μ-loop
-returns-2 c = let w = walk-above _ _ _ (λ i. c .before .before .before .before .before .before .before .shared-slice-known .given i .fits) (c .before .before .before .before .before .before .before .before .pre) _ _ (c .before .before .before .before .before .before .ranks .ensures .0) (c .before .before .before .before .before .loop .inv) (c .before .before .before .before .loop-test .taken) (sym (c .before .before .before .holds-below .ensures) ∙ c .before .before .if1 .left) (sym (c .before .holds-above .ensures) ∙ c .if2 .taken) in (w .1, omega (arith, c .before .before .before .before .before .before .ranks .ensures .1 .1))
+returns-2 c =
+    let shared-slice-known = c .before .before .before .before .before .before .before .shared-slice-known in
+    let pre = c .before .before .before .before .before .before .before .before .pre in
+    let ranks = c .before .before .before .before .before .before .ranks in
+    let loop = c .before .before .before .before .before .loop in
+    let loop-test = c .before .before .before .before .loop-test in
+    let holds-below = c .before .before .before .holds-below in
+    let if1 = c .before .before .if1 in
+    let holds-above = c .before .holds-above in
+    let w = walk-above _ _ _ (λ i. shared-slice-known .given i .fits) pre _ _ (ranks .ensures .0) (loop .inv) (loop-test .taken) (sym (holds-below .ensures) ∙ if1 .left) (sym (holds-above .ensures) ∙ c .if2 .taken) in (w .1, omega (arith, ranks .ensures .1 .1))
 
 -- src/holder.rt:51:9
 add-d : tie.Need-add-d Inv-loop μ-loop
@@ -55,11 +87,25 @@ loop-less c = search needs
 
 -- src/holder.rt:44:5
 loop-again : tie.Need-loop-again Inv-loop μ-loop
-loop-again c = walk-more _ _ _ (λ i. c .before .before .before .before .before .before .before .shared-slice-known .given i .fits) (c .before .before .before .before .before .before .before .before .pre) _ _ (c .before .before .before .before .before .before .ranks .ensures .0) (c .before .before .before .before .before .loop .inv) (c .before .before .before .before .loop-test .taken) (sym (c .before .before .before .holds-below .ensures) ∙ c .before .before .if1 .left) (sym (c .before .holds-above .ensures) ∙ c .if2 .left)
+loop-again c =
+    let shared-slice-known = c .before .before .before .before .before .before .before .shared-slice-known in
+    let pre = c .before .before .before .before .before .before .before .before .pre in
+    let ranks = c .before .before .before .before .before .before .ranks in
+    let loop = c .before .before .before .before .before .loop in
+    let loop-test = c .before .before .before .before .loop-test in
+    let holds-below = c .before .before .before .holds-below in
+    let if1 = c .before .before .if1 in
+    let holds-above = c .before .holds-above in
+    walk-more _ _ _ (λ i. shared-slice-known .given i .fits) pre _ _ (ranks .ensures .0) (loop .inv) (loop-test .taken) (sym (holds-below .ensures) ∙ if1 .left) (sym (holds-above .ensures) ∙ c .if2 .left)
 
 -- src/holder.rt:38:1
 returns-3 : tie.Need-returns-3 Inv-loop μ-loop
-returns-3 c = absurd (walk-ends _ _ _ (λ i. c .before .before .before .shared-slice-known .given i .fits) (c .before .before .before .before .pre) _ _ (c .before .before .ranks .ensures .0) (c .before .loop .inv) (c .loop-test .left))
+returns-3 c =
+    let shared-slice-known = c .before .before .before .shared-slice-known in
+    let pre = c .before .before .before .before .pre in
+    let ranks = c .before .before .ranks in
+    let loop = c .before .loop in
+    absurd (walk-ends _ _ _ (λ i. shared-slice-known .given i .fits) pre _ _ (ranks .ensures .0) (loop .inv) (c .loop-test .left))
 
 pub sender-spec : {M : Type 1} → statement M
 sender-spec =

@@ -28,7 +28,11 @@ has-trees-requires c κs = omega (arith, row-fits _ (c .before .before .before .
 
 -- src/range.rt:51:13
 returns : tie.Need-returns Inv-loop μ-loop
-returns c = (lower-found _ _ _ _ (c .before .before .before .loop .inv .1) (omega arith) (sym (c .before .has-trees .ensures) ∙ c .if1 .taken), omega (arith, ranks-known _ (c .before .before .before .before .before .pre .0) .high))
+returns c =
+    let loop = c .before .before .before .loop in
+    let has-trees = c .before .has-trees in
+    let pre = c .before .before .before .before .before .pre in
+    (lower-found _ _ _ _ (loop .inv .1) (omega arith) (sym (has-trees .ensures) ∙ c .if1 .taken), omega (arith, ranks-known _ (pre .0) .high))
 
 -- src/range.rt:48:5
 loop-less : tie.Need-loop-less Inv-loop μ-loop

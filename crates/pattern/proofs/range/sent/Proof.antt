@@ -32,11 +32,19 @@ sent-high-requires c κs = search needs
 
 -- src/range.rt:113:9
 returns-2 : tie.Need-returns-2
-returns-2 c = sent-none _ _ _ _ (c .before .before .before .before .before .before .before .before .before .pre) _ _ (c .before .before .before .sent-low .ensures) (c .before .sent-high .ensures) (c .if2 .taken)
+returns-2 c =
+    let pre = c .before .before .before .before .before .before .before .before .before .pre in
+    let sent-low = c .before .before .before .sent-low in
+    let sent-high = c .before .sent-high in
+    sent-none _ _ _ _ pre _ _ (sent-low .ensures) (sent-high .ensures) (c .if2 .taken)
 
 -- src/range.rt:116:16
 cast-t10 : tie.Need-cast-t10
-cast-t10 c = omega (arith, sent-fits _ _ _ _ (c .before .before .before .before .before .before .before .before .before .pre) _ _ (c .before .before .before .sent-low .ensures) (c .before .sent-high .ensures))
+cast-t10 c =
+    let pre = c .before .before .before .before .before .before .before .before .before .pre in
+    let sent-low = c .before .before .before .sent-low in
+    let sent-high = c .before .sent-high in
+    omega (arith, sent-fits _ _ _ _ pre _ _ (sent-low .ensures) (sent-high .ensures))
 
 -- src/range.rt:117:17
 sub-t11 : tie.Need-sub-t11
@@ -44,11 +52,19 @@ sub-t11 c = search needs
 
 -- src/range.rt:117:16
 cast-t12 : tie.Need-cast-t12
-cast-t12 c = omega (arith, sent-fits _ _ _ _ (c .before .before .before .before .before .before .before .before .before .pre) _ _ (c .before .before .before .sent-low .ensures) (c .before .sent-high .ensures))
+cast-t12 c =
+    let pre = c .before .before .before .before .before .before .before .before .before .pre in
+    let sent-low = c .before .before .before .sent-low in
+    let sent-high = c .before .sent-high in
+    omega (arith, sent-fits _ _ _ _ pre _ _ (sent-low .ensures) (sent-high .ensures))
 
 -- src/range.rt:103:1
 returns-3 : tie.Need-returns-3
-returns-3 c = sent-some _ _ _ _ (c .before .before .before .before .before .before .before .before .before .pre) _ _ (c .before .before .before .sent-low .ensures) (c .before .sent-high .ensures) (c .if2 .left)
+returns-3 c =
+    let pre = c .before .before .before .before .before .before .before .before .before .pre in
+    let sent-low = c .before .before .before .sent-low in
+    let sent-high = c .before .sent-high in
+    sent-some _ _ _ _ pre _ _ (sent-low .ensures) (sent-high .ensures) (c .if2 .left)
 
 pub sent-spec : {M : Type 1} → statement M
 sent-spec =

@@ -21,7 +21,9 @@ smaller-requires c κs = search needs
 
 -- src/range.rt:91:8
 add-if1 : tie.Need-add-if1
-add-if1 c = omega (arith, pair-small (c .before .before .before .before .before .pre .0), upper-row (c .before .before .before .before .before .pre .0) (c .before .before .before .before .before .pre .1), ranks-known _ (c .before .before .before .before .before .pre .0 .tables .oldRanks))
+add-if1 c =
+    let pre = c .before .before .before .before .before .pre in
+    omega (arith, pair-small (pre .0), upper-row (pre .0) (pre .1), ranks-known _ (pre .0 .tables .oldRanks))
 
 -- src/range.rt:91:20
 add-if1-2 : tie.Need-add-if1-2
@@ -38,12 +40,24 @@ smaller-requires-2 c κs = search needs
 -- src/range.rt:92:9
 returns : tie.Need-returns
 unfolding sentHigh
-returns c = simp (c .smaller2 .ensures, c .before .first-tree .ensures, c .before .before .before .smaller .ensures, c .before .before .before .before .before .end-tree .ensures, c .before .before .before .before .end-tree2 .ensures, ← c .before .before .before .before .before .before .before .before .pre .1, lt-ltb _ _ (c .before .before .if1 .taken))
+returns c =
+    let first-tree = c .before .first-tree in
+    let smaller = c .before .before .before .smaller in
+    let end-tree = c .before .before .before .before .before .end-tree in
+    let end-tree2 = c .before .before .before .before .end-tree2 in
+    let pre = c .before .before .before .before .before .before .before .before .pre in
+    let if1 = c .before .before .if1 in
+    simp (c .smaller2 .ensures, first-tree .ensures, smaller .ensures, end-tree .ensures, end-tree2 .ensures, ← pre .1, lt-ltb _ _ (if1 .taken))
 
 -- src/range.rt:86:1
 returns-2 : tie.Need-returns-2
 unfolding sentHigh
-returns-2 c = simp (c .before .smaller .ensures, c .before .before .before .end-tree .ensures, c .before .before .end-tree2 .ensures, ← c .before .before .before .before .before .before .pre .1, le-ltb _ _ (c .if1 .left))
+returns-2 c =
+    let smaller = c .before .smaller in
+    let end-tree = c .before .before .before .end-tree in
+    let end-tree2 = c .before .before .end-tree2 in
+    let pre = c .before .before .before .before .before .before .pre in
+    simp (smaller .ensures, end-tree .ensures, end-tree2 .ensures, ← pre .1, le-ltb _ _ (c .if1 .left))
 
 pub sent-high-spec : {M : Type 1} → statement M
 sent-high-spec =

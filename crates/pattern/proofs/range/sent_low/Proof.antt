@@ -24,7 +24,10 @@ add-if1 c = omega (arith, pair-small (c .before .before .before .before .before 
 
 -- src/range.rt:79:17
 add-if1-2 : tie.Need-add-if1-2
-add-if1-2 c = omega (arith, pair-small (c .before .before .before .before .before .pre .0), c .before .before .before .before .before .pre .1, lower-le (c .before .before .before .before .before .args .old .now) (c .before .before .before .before .before .args .p))
+add-if1-2 c =
+    let pre = c .before .before .before .before .before .pre in
+    let args = c .before .before .before .before .before .args in
+    omega (arith, pair-small (pre .0), pre .1, lower-le (args .old .now) (args .p))
 
 -- src/range.rt:80:33
 entry-requires : tie.Need-entry-requires
@@ -41,12 +44,25 @@ larger-requires-2 c κs = search needs
 -- src/range.rt:80:9
 returns : tie.Need-returns
 unfolding sentLow
-returns c = simp (c .larger2 .ensures, c .before .magnitude .ensures, c .before .before .entry .ensures, c .before .before .before .before .larger .ensures, c .before .before .before .before .before .before .first-tree .ensures, c .before .before .before .before .before .first-tree2 .ensures, ← c .before .before .before .before .before .before .before .before .before .pre .1, le-leb _ _ (c .before .before .before .if1 .taken))
+returns c =
+    let magnitude = c .before .magnitude in
+    let entry = c .before .before .entry in
+    let larger = c .before .before .before .before .larger in
+    let first-tree = c .before .before .before .before .before .before .first-tree in
+    let first-tree2 = c .before .before .before .before .before .first-tree2 in
+    let pre = c .before .before .before .before .before .before .before .before .before .pre in
+    let if1 = c .before .before .before .if1 in
+    simp (c .larger2 .ensures, magnitude .ensures, entry .ensures, larger .ensures, first-tree .ensures, first-tree2 .ensures, ← pre .1, le-leb _ _ (if1 .taken))
 
 -- src/range.rt:74:1
 returns-2 : tie.Need-returns-2
 unfolding sentLow
-returns-2 c = simp (c .before .larger .ensures, c .before .before .before .first-tree .ensures, c .before .before .first-tree2 .ensures, ← c .before .before .before .before .before .before .pre .1, lt-leb _ _ (c .if1 .left))
+returns-2 c =
+    let larger = c .before .larger in
+    let first-tree = c .before .before .before .first-tree in
+    let first-tree2 = c .before .before .first-tree2 in
+    let pre = c .before .before .before .before .before .before .pre in
+    simp (larger .ensures, first-tree .ensures, first-tree2 .ensures, ← pre .1, lt-leb _ _ (c .if1 .left))
 
 pub sent-low-spec : {M : Type 1} → statement M
 sent-low-spec =

@@ -30,7 +30,12 @@ has-trees-requires c κs = omega (arith, c .before .before .ranks .ensures .1 .2
 
 -- src/range.rt:66:13
 returns : tie.Need-returns Inv-loop μ-loop
-returns c = (look-found _ _ _ _ (c .before .before .before .before .ranks .ensures .0) (c .before .before .before .loop .inv) (c .before .before .loop-test .taken) (sym (c .before .has-trees .ensures) ∙ c .if1 .taken), omega arith)
+returns c =
+    let ranks = c .before .before .before .before .ranks in
+    let loop = c .before .before .before .loop in
+    let loop-test = c .before .before .loop-test in
+    let has-trees = c .before .has-trees in
+    (look-found _ _ _ _ (ranks .ensures .0) (loop .inv) (loop-test .taken) (sym (has-trees .ensures) ∙ c .if1 .taken), omega arith)
 
 -- src/range.rt:68:9
 add-n-2 : tie.Need-add-n-2 Inv-loop μ-loop
@@ -42,7 +47,12 @@ loop-less c = search needs
 
 -- src/range.rt:64:5
 loop-again : tie.Need-loop-again Inv-loop μ-loop
-loop-again c = look-more _ _ _ _ (c .before .before .before .before .ranks .ensures .0) (c .before .before .before .loop .inv) (c .before .before .loop-test .taken) (sym (c .before .has-trees .ensures) ∙ c .if1 .left)
+loop-again c =
+    let ranks = c .before .before .before .before .ranks in
+    let loop = c .before .before .before .loop in
+    let loop-test = c .before .before .loop-test in
+    let has-trees = c .before .has-trees in
+    look-more _ _ _ _ (ranks .ensures .0) (loop .inv) (loop-test .taken) (sym (has-trees .ensures) ∙ c .if1 .left)
 
 -- src/range.rt:58:1
 returns-2 : tie.Need-returns-2 Inv-loop μ-loop

@@ -21,7 +21,10 @@ sends-some-requires c κs = search needs
 -- src/set.rt:18:1
 returns-2 : tie.Need-returns-2
 unfolding exchangesTree
-returns-2 c = rw (c .before .if1 .left) (c .sends-some .ensures ∙ sym (gets-sends _ _ (c .before .before .before .before .pre .pair .tables) _ _ (c .before .before .before .before .pre .pair .receiverBelow) (c .before .before .before .before .pre .pair .senderBelow)))
+returns-2 c =
+    let if1 = c .before .if1 in
+    let pre = c .before .before .before .before .pre in
+    rw (if1 .left) (c .sends-some .ensures ∙ sym (gets-sends _ _ (pre .pair .tables) _ _ (pre .pair .receiverBelow) (pre .pair .senderBelow)))
 
 pub exchanges-spec : {M : Type 1} → statement M
 exchanges-spec = tie.close (tie.spec sends-near-requires returns sends-some-requires returns-2)

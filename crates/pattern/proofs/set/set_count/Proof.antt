@@ -34,7 +34,12 @@ loop-holds c = search needs
 
 -- src/set.rt:39:13
 exchanges-requires : tie.Need-exchanges-requires Inv-loop μ-loop
-exchanges-requires c κs = pair-near _ _ (c .before .before .before .before .before .before .before .pre) (c .before .before .before .before .ranks .ensures .0) (c .loop-test .taken) (c .before .before .before .lower-rank .ensures .0) (c .before .before .upper-rank .ensures .0)
+exchanges-requires c κs =
+    let pre = c .before .before .before .before .before .before .before .pre in
+    let ranks = c .before .before .before .before .ranks in
+    let lower-rank = c .before .before .before .lower-rank in
+    let upper-rank = c .before .before .upper-rank in
+    pair-near _ _ pre (ranks .ensures .0) (c .loop-test .taken) (lower-rank .ensures .0) (upper-rank .ensures .0)
 
 -- src/set.rt:40:9
 add-other : tie.Need-add-other Inv-loop μ-loop
@@ -42,7 +47,10 @@ add-other c = search needs
 
 -- src/set.rt:42:13
 add-count : tie.Need-add-count Inv-loop μ-loop
-add-count c = omega (arith, count-le (c .before .before .before .loop .other) (exchangesTree (c .before .before .before .before .before .before .before .before .before .args .old .now) (c .before .before .before .before .before .before .before .before .before .args .new .now) (c .before .before .before .before .before .before .before .before .before .args .rank) (c .before .before .before .before .before .before .before .before .before .args .sending)))
+add-count c =
+    let loop = c .before .before .before .loop in
+    let args = c .before .before .before .before .before .before .before .before .before .args in
+    omega (arith, count-le (loop .other) (exchangesTree (args .old .now) (args .new .now) (args .rank) (args .sending)))
 
 -- src/set.rt:38:5
 loop-less : tie.Need-loop-less Inv-loop μ-loop
@@ -62,7 +70,10 @@ loop-again-2 c = (omega arith, count-skip _ _ _ (c .before .before .before .loop
 
 -- src/set.rt:29:1
 returns : tie.Need-returns Inv-loop μ-loop
-returns c = set-length _ _ _ _ _ _ (c .before .before .before .before .ranks .ensures .0) (c .before .before .before .before .ranks .ensures .1 .1) (c .before .loop .inv .0) (c .loop-test .left) (c .before .loop .inv .1)
+returns c =
+    let ranks = c .before .before .before .before .ranks in
+    let loop = c .before .loop in
+    set-length _ _ _ _ _ _ (ranks .ensures .0) (ranks .ensures .1 .1) (loop .inv .0) (c .loop-test .left) (loop .inv .1)
 
 pub set-count-spec : {M : Type 1} → statement M
 set-count-spec =

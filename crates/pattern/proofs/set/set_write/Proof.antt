@@ -31,7 +31,12 @@ loop-holds c = write-start _ _ _ (set-room (c .before .before .before .before .b
 
 -- src/set.rt:59:13
 exchanges-requires : tie.Need-exchanges-requires Inv-loop μ-loop
-exchanges-requires c κs = pair-near _ _ (c .before .before .before .before .before .before .before .before .pre .rank) (c .before .before .before .before .ranks .ensures .0) (c .loop-test .taken) (c .before .before .before .lower-rank .ensures .0) (c .before .before .upper-rank .ensures .0)
+exchanges-requires c κs =
+    let pre = c .before .before .before .before .before .before .before .before .pre in
+    let ranks = c .before .before .before .before .ranks in
+    let lower-rank = c .before .before .before .lower-rank in
+    let upper-rank = c .before .before .upper-rank in
+    pair-near _ _ (pre .rank) (ranks .ensures .0) (c .loop-test .taken) (lower-rank .ensures .0) (upper-rank .ensures .0)
 
 -- src/set.rt:60:22
 cast-number : tie.Need-cast-number Inv-loop μ-loop
@@ -43,15 +48,29 @@ add-other c = search needs
 
 -- src/set.rt:63:13
 mul-out : tie.Need-mul-out Inv-loop μ-loop
-mul-out c = omega (arith, write-count _ _ _ (set-room (c .before .before .before .before .before .before .before .before .before .before .pre) (c .before .before .before .before .before .before .ranks .ensures .0)) _ _ _ (c .before .before .before .loop .inv))
+mul-out c =
+    let pre = c .before .before .before .before .before .before .before .before .before .before .pre in
+    let ranks = c .before .before .before .before .before .before .ranks in
+    let loop = c .before .before .before .loop in
+    omega (arith, write-count _ _ _ (set-room pre (ranks .ensures .0)) _ _ _ (loop .inv))
 
 -- src/set.rt:63:13
 slice-write-out : tie.Need-slice-write-out Inv-loop μ-loop
-slice-write-out c = write-index _ _ _ (set-room (c .before .before .before .before .before .before .before .before .before .before .pre) (c .before .before .before .before .before .before .ranks .ensures .0)) _ _ _ (c .before .before .before .loop .inv) (c .before .before .loop-test .taken) (sym (c .before .exchanges .ensures) ∙ c .if1 .taken)
+slice-write-out c =
+    let pre = c .before .before .before .before .before .before .before .before .before .before .pre in
+    let ranks = c .before .before .before .before .before .before .ranks in
+    let loop = c .before .before .before .loop in
+    let loop-test = c .before .before .loop-test in
+    let exchanges = c .before .exchanges in
+    write-index _ _ _ (set-room pre (ranks .ensures .0)) _ _ _ (loop .inv) (loop-test .taken) (sym (exchanges .ensures) ∙ c .if1 .taken)
 
 -- src/set.rt:64:13
 add-count : tie.Need-add-count Inv-loop μ-loop
-add-count c = omega (arith, write-count _ _ _ (set-room (c .before .before .before .before .before .before .before .before .before .before .pre) (c .before .before .before .before .before .before .ranks .ensures .0)) _ _ _ (c .before .before .before .loop .inv))
+add-count c =
+    let pre = c .before .before .before .before .before .before .before .before .before .before .pre in
+    let ranks = c .before .before .before .before .before .before .ranks in
+    let loop = c .before .before .before .loop in
+    omega (arith, write-count _ _ _ (set-room pre (ranks .ensures .0)) _ _ _ (loop .inv))
 
 -- src/set.rt:58:5
 loop-less : tie.Need-loop-less Inv-loop μ-loop
@@ -59,7 +78,13 @@ loop-less c = search needs
 
 -- src/set.rt:58:5
 loop-again : tie.Need-loop-again Inv-loop μ-loop
-loop-again c = write-more _ _ _ (set-room (c .before .before .before .before .before .before .before .before .before .before .pre) (c .before .before .before .before .before .before .ranks .ensures .0)) _ _ _ (c .before .before .before .loop .inv) (c .before .before .loop-test .taken) (sym (c .before .exchanges .ensures) ∙ c .if1 .taken)
+loop-again c =
+    let pre = c .before .before .before .before .before .before .before .before .before .before .pre in
+    let ranks = c .before .before .before .before .before .before .ranks in
+    let loop = c .before .before .before .loop in
+    let loop-test = c .before .before .loop-test in
+    let exchanges = c .before .exchanges in
+    write-more _ _ _ (set-room pre (ranks .ensures .0)) _ _ _ (loop .inv) (loop-test .taken) (sym (exchanges .ensures) ∙ c .if1 .taken)
 
 -- src/set.rt:58:5
 loop-less-2 : tie.Need-loop-less-2 Inv-loop μ-loop
@@ -67,15 +92,29 @@ loop-less-2 c = search needs
 
 -- src/set.rt:58:5
 loop-again-2 : tie.Need-loop-again-2 Inv-loop μ-loop
-loop-again-2 c = write-skip _ _ _ (set-room (c .before .before .before .before .before .before .before .before .before .before .pre) (c .before .before .before .before .before .before .ranks .ensures .0)) _ _ _ (c .before .before .before .loop .inv) (c .before .before .loop-test .taken) (sym (c .before .exchanges .ensures) ∙ c .if1 .left)
+loop-again-2 c =
+    let pre = c .before .before .before .before .before .before .before .before .before .before .pre in
+    let ranks = c .before .before .before .before .before .before .ranks in
+    let loop = c .before .before .before .loop in
+    let loop-test = c .before .before .loop-test in
+    let exchanges = c .before .exchanges in
+    write-skip _ _ _ (set-room pre (ranks .ensures .0)) _ _ _ (loop .inv) (loop-test .taken) (sym (exchanges .ensures) ∙ c .if1 .left)
 
 -- src/set.rt:49:1
 same-length : tie.Need-same-length Inv-loop μ-loop
-same-length c = write-length _ _ _ (set-room (c .before .before .before .before .before .before .before .before .pre) (c .before .before .before .before .ranks .ensures .0)) _ _ _ (c .before .loop .inv)
+same-length c =
+    let pre = c .before .before .before .before .before .before .before .before .pre in
+    let ranks = c .before .before .before .before .ranks in
+    let loop = c .before .loop in
+    write-length _ _ _ (set-room pre (ranks .ensures .0)) _ _ _ (loop .inv)
 
 -- src/set.rt:49:1
 returns : tie.Need-returns Inv-loop μ-loop
-returns c = set-written _ _ _ _ _ _ _ (c .before .before .before .before .ranks .ensures .0) (write-done _ _ _ (set-room (c .before .before .before .before .before .before .before .before .pre) (c .before .before .before .before .ranks .ensures .0)) _ _ _ (c .before .loop .inv) (c .loop-test .left))
+returns c =
+    let ranks = c .before .before .before .before .ranks in
+    let pre = c .before .before .before .before .before .before .before .before .pre in
+    let loop = c .before .loop in
+    set-written _ _ _ _ _ _ _ (ranks .ensures .0) (write-done _ _ _ (set-room pre (ranks .ensures .0)) _ _ _ (loop .inv) (c .loop-test .left))
 
 pub set-write-spec : {M : Type 1} → statement M
 set-write-spec =

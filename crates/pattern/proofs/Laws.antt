@@ -1,24 +1,24 @@
 -- Laws that the proofs of the inner functions cite.
-use Prim.Native.Nat.{ℕ, suc, _+_, _-_, _≤_, _<_}
+use Prim.Native.Nat.{ℕ, zero, suc, _+_, _-_, _≤_, _<_}
 use native.Mathlib.Omega.{arith}
 use mathlib.Core.Path.{_≡_, refl, sym, _∙_}
-use mathlib.Core.Bool.{Bool, true, false, _&&_}
+use mathlib.Core.Bool.{Bool, true, false, and-false}
 use mathlib.Core.List.{List, [], _∷_, append-nil}
-use lib.Dec.{ltb}
+use lib.Dec.{leb, ltb, eqb}
 use lib.ListN.{length, set}
-use borrow.Author.Tests.{ltb-true, lt-ltb, le-ltb, eq-eqb, ne-eqb}
+use borrow.Author.Tests.{ltb-true, ltb-false, leb-true, leb-false, eqb-true, eqb-false, lt-ltb, le-ltb, lt-leb, eq-eqb, ne-eqb}
 use Rattle.encoding.specs.Below.{countBelow, keptBelow}
 use Rattle.encoding.specs.Pieces.{Bytes, splice}
-use Rattle.encoding.proofs.Below.{and-snd, count-le, count-more, count-mono, count-lt, kept-more, kept-length, least-is}
+use Rattle.encoding.proofs.Below.{tests, either, clash, any-none, least-none, count-le, count-more, count-mono, count-lt, kept-more, kept-length, least-is}
 use Rattle.encoding.proofs.Pieces.{splice-none, splice-cons, splice-next, length-splice}
 use Rattle.offsets.specs.Limits.{maxRanks, maxTrees}
-use Rattle.offsets.specs.Table.{tableLength, ranks, ranksOk, firstTree, endTree}
+use Rattle.offsets.specs.Table.{tableLength, ranks, ranksOk, firstTree, endTree, holds}
 use Rattle.offsets.proofs.OnePass.{ranks-known}
-use Rattle.offsets.proofs.Tables.{end-next, rises, last-end, ranks-low, trees-high}
-use Rattle.pattern.proofs.Senders.{least-end, sent-high, sent-count, sent-first}
+use Rattle.offsets.proofs.Tables.{trees-high}
+use Rattle.pattern.proofs.Senders.{some-holder, sender-is, sent-high, sent-count, sent-first, sent-old, upper-le}
 use Rattle.pattern.proofs.Sets.{sends-to}
-use Rattle.pattern.specs.Sender.{Tables, leastHolder, sentFirst, sentCount}
-use Rattle.pattern.specs.Means.{TreeOf, RankOf, PairOf, RoomFor, sharesLast, sentLow, sentHigh, exchangesTree, rankSet}
+use Rattle.pattern.specs.Sender.{Tables, distance, sender, sentFirst, sentCount}
+use Rattle.pattern.specs.Means.{TreeOf, RankOf, PairOf, PairNear, RoomFor, heldBelow, heldAbove, hasTrees, lowerRank, aboveWithTrees, upperRank, sentLow, sentHigh, exchangesTree, rankSet}
 use Rattle.pattern.specs.Sets.{sendsTo}
 
 -- ---- what is read stands in the tables
@@ -41,6 +41,18 @@ module _ {old new : List ℕ} {p q : ℕ} (f : PairOf old new p q) where
 
   pub receiver-new-row : tableLength (q + 1) ≤ length new
   receiver-new-row = receiver-in-new old new (f .tables) q (f .receiverBelow)
+
+  -- their numbers are small
+  pub pair-small : (p < maxRanks) × (q < maxRanks)
+  pair-small =
+      let h = ranks-known old (f .tables .oldRanks) .high in
+      let l = f .senderBelow in
+      let r = f .receiverBelow in
+      (omega arith, omega arith)
+
+  -- the next rank with trees, or P, has an entry
+  pub upper-row : {upper : ℕ} → upper ≡ upperRank old p → tableLength upper ≤ length old
+  upper-row e = omega (arith, upper-le old p, ranks-known old (f .tables .oldRanks) .size)
 
 -- ---- the trees from p to q
 
@@ -70,66 +82,148 @@ module _ (old new : List ℕ) (p q : ℕ) (f : PairOf old new p q) (low high : �
       let n : sentCount old new p q ≡ 0 → ⊥ = λ z. omega (arith, counted) in
       (sym (sent-first old new (f .tables) p q (f .senderBelow) (f .receiverBelow) ∙ rw (ne-eqb (sentCount old new p q) 0 n) (sym a)), sym counted)
 
--- a rank whose last tree is shared has one
-pub shares-low : (old : List ℕ) (p q : ℕ) (b : Bool) (end : ℕ) → b ≡ sharesLast old p q → b ≡ true → end ≡ endTree old p → 1 ≤ end
-shares-low old p q b end e t d =
-    let m = ltb (firstTree old q) (endTree old q) in
-    let h = ltb-true (firstTree old q) (endTree old p) (and-snd m _ (and-snd (ltb p q) (m && ltb (firstTree old q) (endTree old p)) (sym e ∙ t))) in
-    omega arith
+-- a rank without trees sends none
+module _ (old new : List ℕ) (p q : ℕ) (f : PairOf old new p q) (h : hasTrees old p ≡ false) where
+  nothing : sentHigh old new p q ≤ sentLow old new p q
+  unfolding hasTrees
+  nothing = omega (arith, ltb-false (firstTree old p) (endTree old p) h, sent-old old new (f .tables) p q)
 
--- ---- the search by halves for the least holder of tree k
+  pub empty-sends : false ≡ sendsTo old new p q
+  empty-sends = sym (sends-to old new (f .tables) p q (f .senderBelow) (f .receiverBelow) ∙ le-ltb (sentLow old new p q) (sentHigh old new p q) nothing)
 
--- the ranks below low end at or before k, and high ends behind it
-pub record Search (t : List ℕ) (k low high : ℕ) : Type 0 where
-  pub order : low ≤ high
-  pub inside : high < ranks t
-  pub reached : k < endTree t high
-  pub passed : (p : ℕ) → p < low → endTree t p ≤ k
+  pub empty-sent : (0 ≡ sentFirst old new p q) × (0 ≡ sentCount old new p q)
+  empty-sent = sent-none old new p q f (sentLow old new p q) (sentHigh old new p q) refl refl nothing
 
-module _ (t : List ℕ) (k : ℕ) (b : Bytes t) (f : TreeOf t k) where
-  -- a rank's end is no less than the ends before it
-  ends-rise : (p q : ℕ) → p ≤ q → q < ranks t → endTree t p ≤ endTree t q
-  ends-rise p q h l = rw (end-next t p, end-next t q) (rises t b (f .ranksFit) (f .isValid) (suc p) (suc q) (omega arith) (omega arith))
+-- ---- the ranks with trees on either side of p
 
-  -- the last rank ends behind every tree
-  pub search-start : (P : ℕ) → P ≡ ranks t → Search t k 0 (P - 1)
-  search-start P e =
-      let low = ranks-low t b (f .ranksFit) (f .isValid) in
-      let next : suc (P - 1) ≡ ranks t = omega arith in
+pub lower-le : (t : List ℕ) (p : ℕ) → lowerRank t p ≤ p
+unfolding lowerRank
+lower-le t zero = omega arith
+lower-le t (suc p) = either (hasTrees t p) (λ e. rw e (omega arith)) (λ e. rw e (omega (arith, lower-le t p)))
+
+-- one more that has none
+pub lower-skip : (t : List ℕ) (m p next : ℕ) → lowerRank t m ≡ lowerRank t p → next + 1 ≡ m → hasTrees t next ≡ false → lowerRank t next ≡ lowerRank t p
+unfolding lowerRank
+lower-skip t m p next e s h = let i : m ≡ suc next = omega arith in (rw (i, h) at e)
+
+pub lower-found : (t : List ℕ) (m p next : ℕ) → lowerRank t m ≡ lowerRank t p → next + 1 ≡ m → hasTrees t next ≡ true → next ≡ lowerRank t p
+unfolding lowerRank
+lower-found t m p next e s h = let i : m ≡ suc next = omega arith in (rw (i, h) at e)
+
+pub lower-none : (t : List ℕ) (m p : ℕ) → lowerRank t m ≡ lowerRank t p → m ≤ 0 → 0 ≡ lowerRank t p
+unfolding lowerRank
+lower-none t m p e h = let i : m ≡ 0 = omega arith in (rw i at e)
+
+-- no rank above p and below n has trees
+pub record Looking (t : List ℕ) (p n : ℕ) : Type 0 where
+  pub above : p < n
+  pub inside : n ≤ ranks t
+  pub none : (i : ℕ) → i < n → aboveWithTrees t p i ≡ false
+
+module _ (t : List ℕ) (p : ℕ) where
+  pub look-start : p < ranks t → Looking t p (p + 1)
+  unfolding aboveWithTrees
+  look-start h = record { above = omega arith; inside = omega arith; none = λ i l. rw (le-ltb p i (omega arith)) }
+
+  pub look-more : (P n : ℕ) → P ≡ ranks t → Looking t p n → n < P → hasTrees t n ≡ false → Looking t p (n + 1)
+  unfolding aboveWithTrees
+  look-more P n e s l h =
       record {
-        order = omega arith;
+        above = omega (arith, s .above);
         inside = omega arith;
-        reached = rw (end-next t (P - 1), next, last-end t b (f .ranksFit) (f .isValid)) (f .treeBelow);
-        passed = λ p h. absurd (omega arith);
+        none = λ i m. either (ltb i n) (λ c. s .none i (ltb-true i n c)) (λ c. let d : i ≡ n = omega tests in rw (d, h, and-false));
       }
 
-  -- mid ends behind k
-  pub search-down : (low high mid end : ℕ) → Search t k low high → low ≤ mid → mid < high → end ≡ endTree t mid → k < end → Search t k low mid
-  search-down low high mid end s h l e m = record { order = h; inside = omega arith; reached = omega arith; passed = s .passed }
+  pub look-found : (P n : ℕ) → P ≡ ranks t → Looking t p n → n < P → hasTrees t n ≡ true → n ≡ upperRank t p
+  unfolding upperRank aboveWithTrees
+  look-found P n e s l h = sym (least-is (ranks t) (aboveWithTrees t p) n (omega arith) (rw (lt-ltb p n (s .above), h)) (s .none))
 
-  -- mid ends at or before k
-  pub search-up : (low high mid end : ℕ) → Search t k low high → mid < high → end ≡ endTree t mid → end ≤ k → Search t k (mid + 1) high
-  search-up low high mid end s l e m =
-      record {
-        order = omega arith;
-        inside = s .inside;
-        reached = s .reached;
-        passed = λ p h. omega (arith, ends-rise p mid (omega arith) (omega arith));
-      }
+  pub look-none : (P n : ℕ) → P ≡ ranks t → Looking t p n → P ≤ n → P ≡ upperRank t p
+  unfolding upperRank
+  look-none P n e s l =
+      let f = aboveWithTrees t p in
+      e ∙ sym (least-none (ranks t) f (any-none (ranks t) f (λ i h. s .none i (omega arith))))
 
-  -- one rank is left
-  pub search-done : (low high : ℕ) → Search t k low high → high ≤ low → low ≡ leastHolder t k
-  search-done low high s h =
-      let e : low ≡ high = omega arith in
-      rw (e, least-end t b (f .ranksFit) (f .isValid) k (f .treeBelow))
-      (sym
-      (least-is (ranks t) (λ p. ltb k (endTree t p)) high (s .inside) (lt-ltb k (endTree t high) (s .reached)) (λ p l. le-ltb k (endTree t p) (s .passed p (omega arith)))))
+-- ---- the walk away from q for a rank that has tree k
+
+-- no rank nearer to q than d has it
+pub record Walking (t : List ℕ) (k q d : ℕ) : Type 0 where
+  pub inside : d ≤ ranks t
+  pub none : (r : ℕ) → r < ranks t → holds t r k ≡ true → d ≤ distance r q
+
+module _ (t : List ℕ) (k q : ℕ) (b : Bytes t) (f : TreeOf t k × (q < ranks t)) where
+  pub walk-start : Walking t k q 0
+  walk-start = record { inside = omega arith; none = λ r l h. omega arith }
+
+  module _ (P d : ℕ) (e : P ≡ ranks t) (w : Walking t k q d) (l : d < P) where
+    -- the one below has it
+    pub walk-below : heldBelow t k q d ≡ true → (d ≤ q) × (q - d ≡ sender t k q)
+    unfolding heldBelow distance
+    walk-below h =
+        let c : ltb q d ≡ false = either (ltb q d) (λ x. let z : false ≡ true = rw x at h in clash z refl) (λ x. x) in
+        let g : holds t (q - d) k ≡ true = rw c at h in
+        let le = ltb-false q d c in (
+          le,
+          sym (sender-is t k q (q - d) (omega (arith, f .1)) g
+              (λ r m x. omega (arith, f .1, w .none r (omega (arith, f .1)) x)) (λ r m u x. omega (arith, w .none r u x))),
+        )
+
+    module _ (h : heldBelow t k q d ≡ false) where
+      below-none : d ≤ q → holds t (q - d) k ≡ false
+      unfolding heldBelow
+      below-none c = rw (le-ltb q d c) at h
+
+      -- else the one above
+      pub walk-above : heldAbove t k q d ≡ true → (q + d < P) × (q + d ≡ sender t k q)
+      unfolding heldAbove distance
+      walk-above g =
+          let c : leb (ranks t - q) d ≡ false = either (leb (ranks t - q) d) (λ x. let z : false ≡ true = rw x at g in clash z refl) (λ x. x) in
+          let m : holds t (q + d) k ≡ true = rw c at g in
+          let u = leb-false (ranks t - q) d c in (
+            omega (arith, f .1),
+            sym (sender-is t k q (q + d) (omega (arith, f .1)) m
+                (λ r s x. let n = w .none r (omega (arith, f .1)) x in
+                either (eqb r (q - d))
+                (λ y. let i = eqb-true r (q - d) y in
+                let z : holds t (q - d) k ≡ true = rw i at x in
+                clash z (below-none (omega arith)))
+                (λ y. omega (tests, eqb-false r (q - d) y)))
+                (λ r s v x. omega arith)),
+          )
+
+      -- else neither
+      pub walk-more : heldAbove t k q d ≡ false → Walking t k q (d + 1)
+      unfolding heldAbove distance
+      walk-more g =
+          record {
+            inside = omega arith;
+            none = λ r s x. either (leb (d + 1) (distance r q)) (leb-true (d + 1) (distance r q))
+                (λ c. let n = w .none r s x in
+                either (ltb q r)
+                (λ y. let i : r ≡ q + d = omega tests in
+                let z : holds t (q + d) k ≡ true = rw i at x in
+                clash z (rw (lt-leb (ranks t - q) d (omega tests)) at g))
+                (λ y. let i : r ≡ q - d = omega tests in
+                let z : holds t (q - d) k ≡ true = rw i at x in
+                clash z (below-none (omega tests))));
+          }
+
+  -- the walk ends at a holder
+  pub walk-ends : (P d : ℕ) → P ≡ ranks t → Walking t k q d → P ≤ d → ⊥
+  unfolding distance
+  walk-ends P d e w l =
+      let s = some-holder t b (f .0 .ranksFit) (f .0 .isValid) k (f .0 .treeBelow) in
+      omega (arith, w .none (s .0) (s .1) (s .3), s .1, f .1)
 
 -- ---- the loops over the ranks
 
 -- each other rank makes a pair with the rank
 pub pair-of : {old new : List ℕ} {p : ℕ} (P q : ℕ) → RankOf old new p → P ≡ ranks old → q < P → PairOf old new p q
 pair-of P q f e h = record { tables = f .tables; senderBelow = f .rankBelow; receiverBelow = omega arith }
+
+-- with the ranks that have trees on either side of it
+pub pair-near : {old new : List ℕ} {p lower upper : ℕ} (P q : ℕ) → RankOf old new p → P ≡ ranks old → q < P → lower ≡ lowerRank old p → upper ≡ upperRank old p → PairNear old new p q lower upper
+pair-near P q f e h l u = record { pair = pair-of P q f e h; isLower = l; isUpper = u }
 
 -- one turn of the count
 pub count-one : (i n : ℕ) (f : ℕ → Bool) → n ≡ countBelow i f → f i ≡ true → n + 1 ≡ countBelow (i + 1) f

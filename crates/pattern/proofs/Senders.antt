@@ -1,21 +1,23 @@
 -- Laws of the sender of a tree, and of the trees from one rank to another.
-use Prim.Native.Nat.{ℕ, zero, suc, _+_, _-_, _≤_, _<_}
+use Prim.Native.Nat.{ℕ, zero, suc, _+_, _-_, _*_, _≤_, _<_, min, max}
 use native.Mathlib.Nat.{le-refl, le-of-eq}
 use native.Mathlib.Omega.{arith}
-use mathlib.Core.Path.{_≡_, refl, sym, ap}
-use mathlib.Core.Bool.{Bool, true, false, cond, _&&_}
+use mathlib.Core.Path.{_≡_, refl, ap, _∙_}
+use mathlib.Core.Bool.{Bool, true, false, cond, not, _&&_, _||_}
 use mathlib.Core.List.{List}
 use lib.Dec.{leb, ltb, eqb}
-use borrow.Author.Tests.{ltb-true, ltb-false, eqb-true, eqb-false, lt-ltb, le-ltb, eq-eqb, ne-eqb}
-use Rattle.encoding.specs.Below.{anyBelow, leastBelow}
+use borrow.Author.Tests.{ltb-true, ltb-false, leb-true, eqb-true, eqb-false, lt-ltb, le-leb, eq-eqb}
+use Rattle.encoding.specs.Below.{allBelow, anyBelow, leastBelow}
+use Rattle.encoding.specs.Numbers.{leValue, leAt}
 use Rattle.encoding.specs.Pieces.{Bytes}
-use Rattle.encoding.proofs.Below.{tests, either, clash, and-fst, and-snd, and-intro, iff-eq, any-intro, least-lt, least-at, least-below, least-is}
+use Rattle.encoding.proofs.Below.{tests, either, clash, and-fst, and-snd, and-intro, iff-eq, below-suc, all-at, all-intro, any-intro, any-at, least-none, least-lt, least-at, least-le, least-min, least-below, least-is}
+use Rattle.encoding.proofs.Pieces.{piece-past}
 use Rattle.offsets.specs.Table.{ranks, ranksOk, valid, trees, entry, negative, magnitude, firstTree, endTree, holds}
-use Rattle.offsets.proofs.Tables.{ranks-low, zero-first, plain-magnitude, small-plain, plain-first, shared-first, end-next, end-trees, rises, last-end}
+use Rattle.offsets.proofs.Tables.{size, ranks-low, trees-high, zero-first, plain-magnitude, small-plain, plain-first, shared-first, end-next, end-trees, rises, last-end}
 use Rattle.pattern.specs.declared.Sender.the-variants.{Rank, Nobody}
-use Rattle.pattern.specs.Sender.{Tables, leastHolder, sender, senderTo, sends, sentCount, sentFirst}
-use Rattle.pattern.specs.Means.{sentLow, sentHigh}
-use Rattle.pattern.proofs.Counting.{range-true, range-in, range-out, range-meet, count-span, least-span}
+use Rattle.pattern.specs.Sender.{Tables, distance, nearest, sender, senderTo, sends, sentCount, sentFirst}
+use Rattle.pattern.specs.Means.{hasTrees, lowerRank, aboveWithTrees, upperRank, sentLow, sentHigh}
+use Rattle.pattern.proofs.Counting.{range-true, range-in, range-out, count-span, least-span}
 
 -- ---- the trees of a rank
 
@@ -35,7 +37,7 @@ holds-out t p k h = range-out (firstTree t p) (endTree t p) k h
 pub holds-false : (t : List ℕ) (p k : ℕ) → holds t p k ≡ false → firstTree t p ≤ k → endTree t p ≤ k
 holds-false t p k e l = either (ltb k (endTree t p)) (λ h. clash (holds-in t p k l (ltb-true k (endTree t p) h)) e) (ltb-false k (endTree t p))
 
--- ---- the least holder, in one valid table
+-- ---- the holders of a tree, in one valid table
 
 module _ (t : List ℕ) (b : Bytes t) (ok : ranksOk t ≡ true) (v : valid t ≡ true) where
   -- the first tree of p is |O[p]| or |O[p]| - 1
@@ -49,73 +51,167 @@ module _ (t : List ℕ) (b : Bytes t) (ok : ranksOk t ≡ true) (v : valid t ≡
   pub end-before : (p q : ℕ) → p < q → q ≤ ranks t → endTree t p ≤ magnitude (entry t q)
   end-before p q h l = rw (end-next t p) (rises t b ok v (suc p) q h l)
 
-  -- the least holder of the trees from |O[p]| up to |O[p+1]| is p
-  pub holder-is : (p k : ℕ) → p < ranks t → magnitude (entry t p) ≤ k → k < endTree t p → leastHolder t k ≡ p
-  unfolding leastHolder
-  holder-is p k h l u =
-      least-is (ranks t) (λ q. holds t q k) p h (holds-in t p k (omega (arith, first-near p .0)) u)
-      (λ q s. holds-out t q k (λ _. omega (arith, end-before q p s (omega arith))))
+  -- a rank beyond P has no tree
+  pub holds-rank : (p k : ℕ) → holds t p k ≡ true → p < ranks t
+  unfolding entry leAt leValue
+  holds-rank p k e =
+      either (ltb p (ranks t)) (ltb-true p (ranks t))
+      (λ n. let s = size t b ok v in
+      let z : entry t (suc p) ≡ 0 = rw (piece-past t (8 * suc p) 8 (omega tests)) in
+      let m : endTree t p ≡ 0 = end-next t p ∙ rw (z, plain-magnitude 0 (small-plain 0 (omega arith))) in
+      absurd (omega (arith, holds-true t p k e .1)))
 
   -- |O[p]| is at most a number from the ends of all lower ranks on
   low-le : (p k : ℕ) → ((q : ℕ) → q < p → endTree t q ≤ k) → magnitude (entry t p) ≤ k
   low-le zero k h = rw (zero-first t b ok v, plain-magnitude 0 (small-plain 0 (omega arith))) (omega arith)
   low-le (suc p) k h = rw (← end-next t p) (h p (le-refl (suc p)))
 
-  module _ (k : ℕ) (h : k < trees t) where
-    abbrev after : ℕ → Bool
-    after p = ltb k (endTree t p)
+  -- each tree has a holder: the least rank whose trees end after it, and there |O[p]| is at most the tree
+  pub some-holder : (k : ℕ) → k < trees t → (p : ℕ) × (p < ranks t) × (magnitude (entry t p) ≤ k) × (holds t p k ≡ true)
+  some-holder k h =
+      let P = ranks t in
+      let after : ℕ → Bool = λ p. ltb k (endTree t p) in
+      let l = ranks-low t b ok v in
+      let e : suc (P - 1) ≡ P = omega arith in
+      let f : anyBelow P after ≡ true = any-intro P after (P - 1) (omega arith) (lt-ltb k (endTree t (P - 1)) (rw (end-next t (P - 1), e, last-end t b ok v) h)) in
+      let p = leastBelow P after in
+      let m : magnitude (entry t p) ≤ k = low-le p k (λ q s. ltb-false k (endTree t q) (least-below P after q s)) in
+      (p, least-lt P after f, m, holds-in t p k (omega (arith, first-near p .0)) (ltb-true k (endTree t p) (least-at P after f)))
 
-    found : anyBelow (ranks t) after ≡ true
-    found =
-        let P = ranks t in
-        let l = ranks-low t b ok v in
-        let e : suc (P - 1) ≡ P = omega arith in
-        any-intro P after (P - 1) (omega arith) (lt-ltb k (endTree t (P - 1)) (rw (end-next t (P - 1), e, last-end t b ok v) h))
+  -- between two holders of a tree, each rank that has trees holds it
+  pub between-holds : (p m r k : ℕ) → p < m → m < r → holds t p k ≡ true → holds t r k ≡ true → firstTree t m < endTree t m → holds t m k ≡ true
+  between-holds p m r k x y e f s =
+      let R = holds-rank r k f in
+      let g = holds-true t p k e in
+      let h = holds-true t r k f in
+      let c = end-before p m x (omega arith) in
+      let d = end-before m r y (omega arith) in
+      holds-in t m k (omega (arith, first-near r)) (omega (arith, first-near m))
 
-    found-low : magnitude (entry t (leastBelow (ranks t) after)) ≤ k
-    found-low = low-le (leastBelow (ranks t) after) k (λ q s. ltb-false k (endTree t q) (least-below (ranks t) after q s))
+-- ---- the ranks with trees on either side
 
-    found-high : k < endTree t (leastBelow (ranks t) after)
-    found-high = ltb-true k _ (least-at (ranks t) after found)
+-- a rank that holds a tree has trees
+pub trees-of : (t : List ℕ) (p k : ℕ) → holds t p k ≡ true → hasTrees t p ≡ true
+unfolding hasTrees
+trees-of t p k e = let h = holds-true t p k e in lt-ltb (firstTree t p) (endTree t p) (omega arith)
 
-    -- the least rank whose trees end after k, which a binary search finds
-    pub least-end : leastHolder t k ≡ leastBelow (ranks t) (λ p. ltb k (endTree t p))
-    least-end = holder-is (leastBelow (ranks t) after) k (least-lt (ranks t) after found) found-low found-high
+trees-some : (t : List ℕ) (p : ℕ) → hasTrees t p ≡ true → firstTree t p < endTree t p
+unfolding hasTrees
+trees-some t p e = ltb-true (firstTree t p) (endTree t p) e
 
-    -- it is a rank
-    pub holder-lt : leastHolder t k < ranks t
-    holder-lt = rw least-end (least-lt (ranks t) after found)
+-- the nearest below p is below p and has trees where some rank below p has, and none between has
+lower-near : (t : List ℕ) (p r : ℕ) → r < p → hasTrees t r ≡ true → (r ≤ lowerRank t p) × (lowerRank t p < p) × (hasTrees t (lowerRank t p) ≡ true)
+unfolding lowerRank
+lower-near t zero r l e = absurd (omega arith)
+lower-near t (suc p) r l e =
+    either (hasTrees t p)
+    (λ h. rw h (omega arith, omega arith, h))
+    (λ h. below-suc r p l
+    (λ i. let n = lower-near t p r i e in rw h (n .0, omega (arith, n .1), n .2))
+    (λ i. clash (rw i at e) h))
 
-    -- k is from |O[p]| up to |O[p+1]|
-    pub holder-low : magnitude (entry t (leastHolder t k)) ≤ k
-    holder-low = rw least-end found-low
+-- the nearest above p, likewise
+upper-near : (t : List ℕ) (p r : ℕ) → p < r → r < ranks t → hasTrees t r ≡ true → upperRank t p ≤ r
+unfolding upperRank aboveWithTrees
+upper-near t p r l u e = least-min (ranks t) (aboveWithTrees t p) r u (and-intro (ltb p r) (hasTrees t r) (lt-ltb p r l) e)
 
-    pub holder-high : k < endTree t (leastHolder t k)
-    holder-high = rw least-end found-high
+upper-has : (t : List ℕ) (p : ℕ) → upperRank t p < ranks t → (p < upperRank t p) × (hasTrees t (upperRank t p) ≡ true)
+unfolding upperRank aboveWithTrees
+upper-has t p l =
+    let f = aboveWithTrees t p in
+    either (anyBelow (ranks t) f)
+    (λ e. let a = least-at (ranks t) f e in (ltb-true p _ (and-fst _ _ a), and-snd (ltb p (leastBelow (ranks t) f)) _ a))
+    (λ e. absurd (omega (arith, least-none (ranks t) f e)))
 
-    -- it holds k
-    pub holder-holds : holds t (leastHolder t k) k ≡ true
-    holder-holds = holds-in t (leastHolder t k) k (omega (arith, holder-low, first-near (leastHolder t k) .0)) holder-high
-
-  -- the trees whose least holder is p are one range
-  pub holder-range : (p k : ℕ) → p < ranks t → k < trees t → eqb (leastHolder t k) p ≡ (leb (magnitude (entry t p)) k && ltb k (endTree t p))
-  holder-range p k l h =
-      iff-eq (eqb (leastHolder t k) p) (leb (magnitude (entry t p)) k && ltb k (endTree t p))
-      (λ e. rw (← eqb-true (leastHolder t k) p e) (range-in _ _ k (holder-low k h) (holder-high k h)))
-      (λ e. let r = range-true _ _ k e in eq-eqb (leastHolder t k) p (holder-is p k l (r .0) (r .1)))
+pub upper-le : (t : List ℕ) (p : ℕ) → upperRank t p ≤ ranks t
+unfolding upperRank
+upper-le t p = least-le (ranks t) (aboveWithTrees t p)
 
 -- ---- the sender
 
--- q, above p, shares the last tree for which p is the least holder
-abbrev shares : List ℕ → ℕ → ℕ → Bool
-shares old p q = ltb p q && (ltb (firstTree old q) (endTree old q) && ltb (firstTree old q) (endTree old p))
+module _ (old : List ℕ) (k q : ℕ) where
+  -- a nearest holder: it holds the tree, and every holder is as far from q or farther
+  nearest-true : (p : ℕ) → nearest old k q p ≡ true → (holds old p k ≡ true) × ((r : ℕ) → r < ranks old → holds old r k ≡ true → distance p q ≤ distance r q)
+  unfolding nearest
+  nearest-true p e =
+      let f : ℕ → Bool = λ r. not (holds old r k) || leb (distance p q) (distance r q) in (
+        and-fst (holds old p k) (allBelow (ranks old) f) e,
+        (λ r l h. leb-true (distance p q) (distance r q) (rw h at (all-at (ranks old) f (and-snd (holds old p k) (allBelow (ranks old) f) e) r l))),
+      )
 
--- the trees that p sends to q, of those that q is to have
-abbrev senderLow : List ℕ → ℕ → ℕ → ℕ
-senderLow old p q = cond (eqb p q) (firstTree old p) (magnitude (entry old p))
+  nearest-in : (p : ℕ) → holds old p k ≡ true → ((r : ℕ) → r < ranks old → holds old r k ≡ true → distance p q ≤ distance r q) → nearest old k q p ≡ true
+  unfolding nearest
+  nearest-in p h f =
+      and-intro (holds old p k) (allBelow (ranks old) (λ r. not (holds old r k) || leb (distance p q) (distance r q))) h
+      (all-intro (ranks old) (λ r. not (holds old r k) || leb (distance p q) (distance r q))
+      (λ r l. either (holds old r k) (λ e. rw (e, le-leb (distance p q) (distance r q) (f r l e))) (λ e. rw e)))
 
-abbrev senderHigh : List ℕ → ℕ → ℕ → ℕ
-senderHigh old p q = cond (shares old p q) (endTree old p - 1) (endTree old p)
+  -- a holder that is strictly nearer than all lower holders, and as near as all higher ones, is the sender
+  pub sender-is : (p : ℕ) → p < ranks old → holds old p k ≡ true
+      → ((r : ℕ) → r < p → holds old r k ≡ true → p + r < q + q) → ((r : ℕ) → p < r → r < ranks old → holds old r k ≡ true → q + q ≤ p + r)
+      → sender old k q ≡ p
+  unfolding sender distance
+  sender-is p l h low high =
+      least-is (ranks old) (nearest old k q) p l
+      (nearest-in p h (λ r u e. either (ltb r p) (λ c. omega (tests, low r (omega tests) e)) (λ c. either (eqb r p) (λ d. omega tests) (λ d. omega (tests, high r (omega (tests, eqb-false r p d)) u e)))))
+      (λ j s. either (nearest old k q j)
+      (λ e. let n = nearest-true j e in absurd (omega (arith, n .1 p l h, low j s (n .0))))
+      (λ e. e))
+
+  -- where the tree has a holder
+  module _ (some : ℕ) (someLess : some < ranks old) (someHolds : holds old some k ≡ true) where
+    abbrev heldAt : ℕ → ℕ → Bool
+    heldAt d p = holds old p k && eqb (distance p q) d
+
+    abbrev heldSome : ℕ → Bool
+    heldSome d = anyBelow (ranks old) (heldAt d)
+
+    held-some : (p : ℕ) → p < ranks old → holds old p k ≡ true → heldSome (distance p q) ≡ true
+    held-some p l e = any-intro (ranks old) (heldAt (distance p q)) p l (and-intro (holds old p k) (eqb (distance p q) (distance p q)) e (eq-eqb (distance p q) (distance p q) refl))
+
+    -- one of them is nearest
+    nearest-some : anyBelow (ranks old) (nearest old k q) ≡ true
+    nearest-some =
+        let n = suc (distance some q) in
+        let s : anyBelow n heldSome ≡ true = any-intro n heldSome (distance some q) (le-refl n) (held-some some someLess someHolds) in
+        let d = leastBelow n heldSome in
+        let a = any-at (ranks old) (heldAt d) (least-at n heldSome s) in
+        let p = a .0 in
+        let e : distance p q ≡ d = eqb-true (distance p q) d (and-snd (holds old p k) (eqb (distance p q) d) (a .2)) in
+        any-intro (ranks old) (nearest old k q) p (a .1)
+        (nearest-in p (and-fst (holds old p k) (eqb (distance p q) d) (a .2))
+        (λ r l h. either (leb d (distance r q)) (λ c. rw e (leb-true d (distance r q) c))
+        (λ c. clash (held-some r l h) (least-below n heldSome (distance r q) (omega tests)))))
+
+    pub sender-rank : sender old k q < ranks old
+    unfolding sender
+    sender-rank = least-lt (ranks old) (nearest old k q) nearest-some
+
+    sender-nearest : nearest old k q (sender old k q) ≡ true
+    unfolding sender
+    sender-nearest = least-at (ranks old) (nearest old k q) nearest-some
+
+    pub sender-has : holds old (sender old k q) k ≡ true
+    sender-has = nearest-true (sender old k q) sender-nearest .0
+
+    sender-least : (r : ℕ) → r < sender old k q → nearest old k q r ≡ false
+    unfolding sender
+    sender-least r l = least-below (ranks old) (nearest old k q) r l
+
+    -- it is strictly nearer than all lower holders
+    pub sender-low : (r : ℕ) → r < sender old k q → holds old r k ≡ true → sender old k q + r < q + q
+    unfolding distance
+    sender-low r l h =
+        let s = sender old k q in
+        let n = nearest-true s sender-nearest .1 in
+        let R : r < ranks old = omega (arith, sender-rank) in
+        either (ltb (s + r) (q + q)) (ltb-true (s + r) (q + q))
+        (λ c. clash (nearest-in r h (λ u m e. omega (tests, n u m e, n r R h))) (sender-least r l))
+
+    -- and as near as all higher ones
+    pub sender-high : (r : ℕ) → sender old k q < r → r < ranks old → holds old r k ≡ true → q + q ≤ sender old k q + r
+    unfolding distance
+    sender-high r l u h = omega (arith, nearest-true (sender old k q) sender-nearest .1 r u h)
 
 module _ (old new : List ℕ) (T : Tables old new) where
   near : (p : ℕ) → (firstTree old p ≤ magnitude (entry old p)) × (magnitude (entry old p) ≤ firstTree old p + 1)
@@ -124,23 +220,23 @@ module _ (old new : List ℕ) (T : Tables old new) where
   before : (p q : ℕ) → p < q → q ≤ ranks old → endTree old p ≤ magnitude (entry old q)
   before = end-before old (T .oldBytes) (T .oldRanks) (T .oldValid)
 
-  least-holds : (k : ℕ) → k < trees old → holds old (leastHolder old k) k ≡ true
-  least-holds = holder-holds old (T .oldBytes) (T .oldRanks) (T .oldValid)
+  between : (p m r k : ℕ) → p < m → m < r → holds old p k ≡ true → holds old r k ≡ true → hasTrees old m ≡ true → holds old m k ≡ true
+  between p m r k x y e f s = between-holds old (T .oldBytes) (T .oldRanks) (T .oldValid) p m r k x y e f (trees-some old m s)
+
+  holder : (k : ℕ) → k < trees old → (p : ℕ) × (p < ranks old) × (magnitude (entry old p) ≤ k) × (holds old p k ≡ true)
+  holder = some-holder old (T .oldBytes) (T .oldRanks) (T .oldValid)
 
   -- the sender is a rank
   pub sender-lt : (k q : ℕ) → k < trees old → q < ranks old → sender old k q < ranks old
-  unfolding sender
-  sender-lt k q h l = either (holds old q k) (λ e. rw e l) (λ e. rw e (holder-lt old (T .oldBytes) (T .oldRanks) (T .oldValid) k h))
+  sender-lt k q h l = let s = holder k h in sender-rank old k q (s .0) (s .1) (s .3)
 
   -- it holds the tree under the old table
   pub sender-holds : (k q : ℕ) → k < trees old → q < ranks old → holds old (sender old k q) k ≡ true
-  unfolding sender
-  sender-holds k q h l = either (holds old q k) (λ e. rw e e) (λ e. rw e (least-holds k h))
+  sender-holds k q h l = let s = holder k h in sender-has old k q (s .0) (s .1) (s .3)
 
   -- a rank that holds the tree has it from itself
   pub sender-self : (k q : ℕ) → holds old q k ≡ true → sender old k q ≡ q
-  unfolding sender
-  sender-self k q e = rw e
+  sender-self k q e = sender-is old k q q (holds-rank old (T .oldBytes) (T .oldRanks) (T .oldValid) q k e) e (λ r l h. omega arith) (λ r l u h. omega arith)
 
   -- there is a sender exactly for the trees of the new range
   pub sender-defined : (k q : ℕ) → holds new q k ≡ true → senderTo old new k q ≡ Rank (sender old k q)
@@ -174,75 +270,146 @@ module _ (old new : List ℕ) (T : Tables old new) where
   unfolding sends
   sends-in q k e = and-intro (holds new q k) (eqb (sender old k q) (sender old k q)) e (eq-eqb (sender old k q) (sender old k q) refl)
 
-  sender-own : (q k : ℕ) → k < trees old → eqb (sender old k q) q ≡ holds old q k
-  unfolding sender
-  sender-own q k h =
-      either (holds old q k) (λ e. rw e (eq-eqb q q refl))
-      (λ e. rw e (ne-eqb (leastHolder old k) q (λ i. clash (rw i at (least-holds k h)) e)))
+  -- they are trees of p, from its first or the one behind it, and of q
+  pub sent-old : (p q : ℕ) → (firstTree old p ≤ sentLow old new p q) × (sentHigh old new p q ≤ endTree old p)
+  unfolding sentLow sentHigh
+  sent-old p q = (
+    either (leb (q + q) (lowerRank old p + p)) (λ e. rw e (omega arith)) (λ e. rw e (omega arith)),
+    either (ltb (upperRank old p + p) (q + q)) (λ e. rw e (omega arith)) (λ e. rw e (omega arith)),
+  )
 
-  shares-parts : (p q : ℕ) → shares old p q ≡ true → (p < q) × (firstTree old q < endTree old q) × (firstTree old q < endTree old p)
-  shares-parts p q e =
-      let r = and-snd (ltb p q) (ltb (firstTree old q) (endTree old q) && ltb (firstTree old q) (endTree old p)) e in
-      (ltb-true p q (and-fst _ _ e), ltb-true _ _ (and-fst _ _ r), ltb-true (firstTree old q) (endTree old p) (and-snd (ltb (firstTree old q) (endTree old q)) _ r))
+  pub sent-new : (p q : ℕ) → (firstTree new q ≤ sentLow old new p q) × (sentHigh old new p q ≤ endTree new q)
+  unfolding sentLow sentHigh
+  sent-new p q = (
+    either (leb (q + q) (lowerRank old p + p)) (λ e. rw e (omega arith)) (λ e. rw e (omega arith)),
+    either (ltb (upperRank old p + p) (q + q)) (λ e. rw e (omega arith)) (λ e. rw e (omega arith)),
+  )
+
+  -- the first is the first new tree of q, the first tree of p, or the one behind that
+  pub sent-start : (p q : ℕ) → sentLow old new p q ≤ max (firstTree old p + 1) (firstTree new q)
+  unfolding sentLow
+  sent-start p q = either (leb (q + q) (lowerRank old p + p)) (λ e. rw e (omega (arith, near p))) (λ e. rw e (omega arith))
+
+  -- a tree from sentLow on, and one before sentHigh
+  low-parts : (p q k : ℕ) → sentLow old new p q ≤ k → (firstTree old p ≤ k) × (firstTree new q ≤ k) × (q + q ≤ lowerRank old p + p → magnitude (entry old p) ≤ k)
+  unfolding sentLow
+  low-parts p q k i =
+      either (leb (q + q) (lowerRank old p + p))
+      (λ f. let j : max (magnitude (entry old p)) (max (firstTree old p) (firstTree new q)) ≤ k = rw f at i in (omega arith, omega arith, (λ _. omega arith)))
+      (λ f. let j : max (firstTree old p) (firstTree new q) ≤ k = rw f at i in (omega arith, omega arith, (λ c. absurd (omega tests))))
+
+  high-parts : (p q k : ℕ) → k < sentHigh old new p q → (k < endTree old p) × (k < endTree new q) × (upperRank old p + p < q + q → k < firstTree old (upperRank old p))
+  unfolding sentHigh
+  high-parts p q k i =
+      either (ltb (upperRank old p + p) (q + q))
+      (λ f. let j : k < min (firstTree old (upperRank old p)) (min (endTree old p) (endTree new q)) = rw f at i in (omega arith, omega arith, (λ _. omega arith)))
+      (λ f. let j : k < min (endTree old p) (endTree new q) = rw f at i in (omega arith, omega arith, (λ c. absurd (omega tests))))
+
+  -- no tree is from O[P] on
+  last-first : firstTree old (ranks old) ≡ trees old
+  unfolding trees
+  last-first = plain-first old (T .oldBytes) (T .oldRanks) (T .oldValid) (ranks old) (small-plain (trees old) (trees-high old (T .oldBytes) (T .oldRanks) (T .oldValid))) ∙ last-end old (T .oldBytes) (T .oldRanks) (T .oldValid)
 
   module _ (p q k : ℕ) (l : p < ranks old) (r : q < ranks old) (h : k < trees old) where
-    -- what q holds itself, no other rank sends
-    held-above : p < q → holds old q k ≡ true → senderHigh old p q ≤ k
-    held-above c e =
-        let u = holds-true old q k e in
-        let d = before p q c (omega arith) in
-        let f : ltb (firstTree old q) (endTree old q) ≡ true = lt-ltb (firstTree old q) (endTree old q) (omega arith) in
-        either (ltb (firstTree old q) (endTree old p))
-        (λ g. rw (lt-ltb p q c, f, g) (omega (arith, near q)))
-        (λ g. rw (lt-ltb p q c, f, g) (omega tests))
+    -- a tree before |O[p]| that p holds has a lower holder
+    lower-holder : holds old p k ≡ true → k < magnitude (entry old p) → (r : ℕ) × (r < p) × (holds old r k ≡ true)
+    lower-holder e c =
+        let s = holder k h in
+        let r = s .0 in
+        let u = holds-true old p k e in (
+          r,
+          either (ltb r p) (ltb-true r p)
+              (λ y. either (eqb r p)
+              (λ z. let m : magnitude (entry old p) ≤ k = rw (eqb-true r p z) at (s .2) in absurd (omega arith))
+              (λ z. absurd (omega (tests, s .2, eqb-false r p z, before p r (omega (tests, eqb-false r p z)) (omega (arith, s .1)))))),
+          s .3,
+        )
 
-    held : (p ≡ q → ⊥) → holds old q k ≡ true → magnitude (entry old p) ≤ k → senderHigh old p q ≤ k
-    held n e m =
-        let u = holds-true old q k e in
-        either (ltb p q) (λ c. held-above (ltb-true p q c) e) (λ c. absurd (omega (tests, before q p (omega tests) (omega arith))))
+    -- the nearest lower rank with trees holds what a lower rank and p hold
+    lower-holds : (r : ℕ) → r < p → holds old r k ≡ true → holds old p k ≡ true → (r ≤ lowerRank old p) × (lowerRank old p < p) × (holds old (lowerRank old p) k ≡ true)
+    lower-holds r x e f =
+        let m = lowerRank old p in
+        let n = lower-near old p r x (trees-of old r k e) in
+        (n .0, n .1, either (eqb r m) (λ y. rw (eqb-true r m y) at e) (λ y. between r m p k (omega (arith, n .0, eqb-false r m y)) (n .1) e f (n .2)))
 
-    -- the tree that q shares with p is one that q holds
-    not-last : shares old p q ≡ true → holds old q k ≡ false → k < endTree old p → k < endTree old p - 1
-    not-last c e x =
-        let s = shares-parts p q c in
-        let d = before p q (s .0) (omega arith) in
-        either (ltb k (firstTree old q)) (λ y. omega tests) (λ y. absurd (omega (tests, near q, holds-false old q k e (omega tests))))
+    -- the nearest higher one likewise
+    upper-holds : (r : ℕ) → p < r → holds old r k ≡ true → holds old p k ≡ true → (upperRank old p ≤ r) × (holds old (upperRank old p) k ≡ true)
+    upper-holds r x e f =
+        let n = upperRank old p in
+        let R = holds-rank old (T .oldBytes) (T .oldRanks) (T .oldValid) r k e in
+        let u = upper-near old p r x R (trees-of old r k e) in
+        let a = upper-has old p (omega arith) in
+        (u, either (eqb r n) (λ y. rw (eqb-true r n y) at e) (λ y. between p n r k (a .0) (omega (arith, eqb-false r n y)) f e (a .1)))
 
-    less-shared : holds old q k ≡ false → ltb k (endTree old p) ≡ ltb k (senderHigh old p q)
-    less-shared e =
-        either (shares old p q)
-        (λ c. rw c (iff-eq (ltb k (endTree old p)) (ltb k (endTree old p - 1))
-        (λ x. lt-ltb k (endTree old p - 1) (not-last c e (ltb-true k (endTree old p) x))) (λ x. lt-ltb k (endTree old p) (omega tests))))
-        (λ c. rw c)
+    -- what p sends q it holds; its first tree only where the nearest lower holder is farther, its last only where the nearest higher is no nearer
+    module _ (e : sender old k q ≡ p) where
+      sent-held : holds old p k ≡ true
+      sent-held = let s = holder k h in rw e at (sender-has old k q (s .0) (s .1) (s .3))
 
-    other : (p ≡ q → ⊥) → eqb (sender old k q) p ≡ (leb (magnitude (entry old p)) k && ltb k (senderHigh old p q))
-    unfolding sender
-    other n =
-        either (holds old q k)
-        (λ e. rw (e, ne-eqb q p (λ i. n (sym i))) (sym (range-out (magnitude (entry old p)) (senderHigh old p q) k (held n e))))
-        (λ e. rw (e, holder-range old (T .oldBytes) (T .oldRanks) (T .oldValid) p k l h, less-shared e))
+      sent-first-free : q + q ≤ lowerRank old p + p → magnitude (entry old p) ≤ k
+      sent-first-free c =
+          either (leb (magnitude (entry old p)) k) (leb-true (magnitude (entry old p)) k)
+          (λ d. let r = lower-holder sent-held (omega tests) in
+          let m = lower-holds (r .0) (r .1) (r .2) sent-held in
+          let z = sender-low old k q p l sent-held (lowerRank old p) (rw e (m .1)) (m .2) in
+          absurd (omega arith))
 
-    -- the trees whose sender to q is p are one range
-    sender-range : eqb (sender old k q) p ≡ (leb (senderLow old p q) k && ltb k (senderHigh old p q))
-    unfolding holds
-    sender-range =
-        either (eqb p q)
-        (λ e. let i = eqb-true p q e in rw (i, eq-eqb q q refl, le-ltb q q (le-refl q)) (sender-own q k h))
-        (λ e. rw e (other (eqb-false p q e)))
+      sent-last-free : upperRank old p + p < q + q → k < firstTree old (upperRank old p)
+      sent-last-free c =
+          let n = upperRank old p in
+          let u = holds-true old p k sent-held in
+          either (ltb k (firstTree old n)) (ltb-true k (firstTree old n))
+          (λ d. either (ltb n (ranks old))
+          (λ f. let a = upper-has old p (omega tests) in
+          let b = before p n (a .0) (omega tests) in
+          let g = trees-some old n (a .1) in
+          let z = sender-high old k q p l sent-held n (rw e (a .0)) (omega tests) (holds-in old n k (omega tests) (omega (arith, near n))) in
+          absurd (omega arith))
+          (λ f. let i : n ≡ ranks old = omega (tests, upper-le old p) in
+          let j : firstTree old n ≡ trees old = rw i last-first in
+          absurd (omega tests)))
+
+    -- and so much suffices
+    sender-from : holds old p k ≡ true → (q + q ≤ lowerRank old p + p → magnitude (entry old p) ≤ k) → (upperRank old p + p < q + q → k < firstTree old (upperRank old p)) → sender old k q ≡ p
+    sender-from e low high =
+        let u = holds-true old p k e in
+        sender-is old k q p l e
+        (λ r x f. either (ltb (p + r) (q + q)) (ltb-true (p + r) (q + q))
+        (λ d. absurd (omega (tests, lower-holds r x f e .0, low (omega (tests, lower-holds r x f e .0)), before r p x (omega arith), holds-true old r k f .1))))
+        (λ r x _ f. either (leb (q + q) (p + r)) (leb-true (q + q) (p + r))
+        (λ d. let m = upper-holds r x f e in
+        absurd (omega (tests, holds-true old (upperRank old p) k (m .1) .0, high (omega (tests, m .0))))))
 
     -- p sends q the trees from sentLow up to sentHigh
     pub sends-range : sends old new p q k ≡ (leb (sentLow old new p q) k && ltb k (sentHigh old new p q))
-    unfolding sends sentLow sentHigh holds
-    sends-range = rw sender-range (range-meet (firstTree new q) (endTree new q) (senderLow old p q) (senderHigh old p q) k)
+    unfolding sentLow sentHigh
+    sends-range =
+        let a = firstTree old p in
+        let b = endTree old p in
+        let c = firstTree new q in
+        let d = endTree new q in
+        let m = lowerRank old p in
+        let n = upperRank old p in
+        iff-eq (sends old new p q k) (leb (sentLow old new p q) k && ltb k (sentHigh old new p q))
+        (λ e. let s = sends-true p q k e in
+        let x = holds-true new q k (s .0) in
+        let y = holds-true old p k (sent-held (s .1)) in
+        range-in (sentLow old new p q) (sentHigh old new p q) k
+        (either (leb (q + q) (m + p)) (λ f. rw f (omega (arith, sent-first-free (s .1) (leb-true (q + q) (m + p) f)))) (λ f. rw f (omega arith)))
+        (either (ltb (n + p) (q + q)) (λ f. rw f (omega (arith, sent-last-free (s .1) (ltb-true (n + p) (q + q) f)))) (λ f. rw f (omega arith))))
+        (λ e. let i = range-true (sentLow old new p q) (sentHigh old new p q) k e in
+        let lo = low-parts p q k (i .0) in
+        let hi = high-parts p q k (i .1) in
+        let y : holds old p k ≡ true = holds-in old p k (lo .0) (hi .0) in
+        rw (sender-from y (lo .2) (hi .2)) at (sends-in q k (holds-in new q k (lo .1) (hi .1))))
 
   module _ (p q : ℕ) (l : p < ranks old) (r : q < ranks old) where
     -- none of them is above K
     pub sent-high : sentHigh old new p q ≤ trees old
-    unfolding sentHigh
     sent-high =
         let n = T .sameRanks in
         let k = T .sameTrees in
-        omega (arith, end-trees new (T .newBytes) (T .newRanks) (T .newValid) q (omega arith))
+        omega (arith, sent-new p q .1, end-trees new (T .newBytes) (T .newRanks) (T .newValid) q (omega arith))
 
     range : (k : ℕ) → k < trees old → sends old new p q k ≡ (leb (sentLow old new p q) k && ltb k (sentHigh old new p q))
     range k h = sends-range p q k l r h
@@ -260,13 +427,3 @@ module _ (old new : List ℕ) (T : Tables old new) where
         (λ e. let n = eqb-false (sentCount old new p q) 0 e in
         let c = sent-count in
         rw e (least-span (trees old) (sends old new p q) (sentLow old new p q) (sentHigh old new p q) sent-high range (omega arith)))
-
-    -- for p ≠ q they are trees whose least holder is p
-    pub sent-other : (p ≡ q → ⊥) → (magnitude (entry old p) ≤ sentLow old new p q) × (sentHigh old new p q ≤ endTree old p)
-    unfolding sentLow sentHigh
-    sent-other n = (rw (ne-eqb p q n) (omega arith), either (shares old p q) (λ e. rw e (omega arith)) (λ e. rw e (omega arith)))
-
-    -- they are trees of q
-    pub sent-new : (firstTree new q ≤ sentLow old new p q) × (sentHigh old new p q ≤ endTree new q)
-    unfolding sentLow sentHigh
-    sent-new = (omega arith, omega arith)

@@ -1,21 +1,22 @@
 -- Laws of the send set and the receive set.
 use Prim.Native.Nat.{ℕ, _+_, _-_, _*_, _≤_, _<_}
+use native.Mathlib.Nat.{le-refl}
 use native.Mathlib.Omega.{arith}
 use mathlib.Core.Path.{_≡_, sym, _∙_}
-use mathlib.Core.Bool.{Bool, true, _&&_, _||_}
+use mathlib.Core.Bool.{Bool, true, false, _&&_, _||_, or-true}
 use mathlib.Core.List.{List}
 use lib.Dec.{leb, ltb, eqb}
 use lib.ListN.{length, getD}
-use borrow.Author.Tests.{ltb-true, eqb-true, eqb-false, lt-ltb}
-use Rattle.encoding.specs.Below.{anyBelow, countBelow, sumBelow, member}
-use Rattle.encoding.proofs.Below.{tests, either, and-fst, and-snd, and-intro, iff-eq, any-intro, any-at, kept-member, kept-length, kept-ascends}
-use Rattle.offsets.specs.Table.{ranks, trees, entry, magnitude, firstTree, endTree, treeCount, holds}
+use borrow.Author.Tests.{ltb-true, eqb-true, eqb-false, lt-ltb, eq-eqb, ne-eqb}
+use Rattle.encoding.specs.Below.{anyBelow, countBelow, sumBelow, keptBelow, member}
+use Rattle.encoding.proofs.Below.{tests, either, and-fst, and-snd, and-intro, iff-eq, any-intro, any-at, count-lt, kept-member, kept-length, kept-at, kept-found, kept-ascends}
+use Rattle.offsets.specs.Table.{ranks, trees, firstTree, endTree, treeCount, holds}
 use Rattle.offsets.proofs.Tables.{count-add, end-trees}
 use Rattle.pattern.specs.Sender.{Tables, sender, sends, sentFirst, sentCount}
-use Rattle.pattern.specs.Sets.{sendsTo, sendSet, getsFrom, receiveSet}
+use Rattle.pattern.specs.Sets.{sendsTo, sendSet, getsFrom, receiveSet, smallest, largest, Ends}
 use Rattle.pattern.specs.Means.{sentLow, sentHigh}
 use Rattle.pattern.proofs.Counting.{range-true, range-in, range-out, any-span, count-one, pairs-three}
-use Rattle.pattern.proofs.Senders.{holds-true, holds-in, first-near, end-before, sender-lt, sender-holds, sends-true, sends-in, sends-range, sent-high, sent-count, sent-first, sent-other, sent-new}
+use Rattle.pattern.proofs.Senders.{holds-true, holds-in, first-near, end-before, sender-lt, sender-holds, sends-true, sends-in, sends-range, sent-high, sent-count, sent-first, sent-old, sent-new, sent-start}
 
 -- ---- the two lists
 
@@ -47,6 +48,55 @@ module _ (old new : List ℕ) where
   pub receive-ascends : (q i j d : ℕ) → i < j → j < length (receiveSet old new q) → getD (receiveSet old new q) i d < getD (receiveSet old new q) j d
   unfolding receiveSet
   receive-ascends q i j d h l = kept-ascends (ranks old) (getsFrom old new q) i j d h (rw (receive-length q) at l)
+
+-- ---- their ends
+
+module _ (n : ℕ) (f : ℕ → Bool) where
+  abbrev kept : List ℕ
+  kept = keptBelow n f
+
+  -- what stands at a place is in the list
+  at-member : (i : ℕ) → i < length kept → member (getD kept i 0) kept ≡ true
+  at-member i h =
+      let a = kept-found n f i 0 (rw (kept-length n f) at h) in
+      rw (kept-member n f (getD kept i 0), lt-ltb (getD kept i 0) n (a .0), a .1)
+
+  -- what is in the list stands at a place
+  member-at : (k : ℕ) → member k kept ≡ true → (i : ℕ) × (i < length kept) × (getD kept i 0 ≡ k)
+  member-at k e =
+      let m : (ltb k n && f k) ≡ true = rw (kept-member n f k) at e in
+      let l = ltb-true k n (and-fst (ltb k n) (f k) m) in
+      let t = and-snd (ltb k n) (f k) m in
+      (countBelow k f, rw (kept-length n f) (count-lt k n f l t), kept-at n f k l t 0)
+
+  in-order : (i j : ℕ) → i ≤ j → j < length kept → getD kept i 0 ≤ getD kept j 0
+  in-order i j h l =
+      either (ltb i j)
+      (λ e. omega (arith, kept-ascends n f i j 0 (ltb-true i j e) (rw (kept-length n f) at l)))
+      (λ e. let d : i ≡ j = omega tests in rw d (le-refl (getD kept j 0)))
+
+  kept-ends : Ends kept
+  unfolding smallest largest
+  kept-ends =
+      record {
+        ofNone = λ e. (rw e, rw e);
+        least = λ k e. let a = member-at k e in
+            let z : eqb (length kept) 0 ≡ false = ne-eqb (length kept) 0 (λ i. omega (arith, a .1)) in
+            (getD kept 0 0, rw z, at-member 0 (omega (arith, a .1)), rw (← a .2) (in-order 0 (a .0) (omega arith) (a .1)));
+        greatest = λ k e. let a = member-at k e in
+            let z : eqb (length kept) 0 ≡ false = ne-eqb (length kept) 0 (λ i. omega (arith, a .1)) in
+            (getD kept (length kept - 1) 0, rw z, at-member (length kept - 1) (omega (arith, a .1)), rw (← a .2) (in-order (a .0) (length kept - 1) (omega (arith, a .1)) (omega (arith, a .1))));
+      }
+
+module _ (old new : List ℕ) where
+  -- smallest and largest are the least and the greatest of either set
+  pub send-ends : (p : ℕ) → Ends (sendSet old new p)
+  unfolding sendSet
+  send-ends p = kept-ends (ranks old) (sendsTo old new p)
+
+  pub receive-ends : (q : ℕ) → Ends (receiveSet old new q)
+  unfolding receiveSet
+  receive-ends q = kept-ends (ranks old) (getsFrom old new q)
 
 -- ---- who is in them
 
@@ -83,6 +133,9 @@ module _ (old new : List ℕ) (T : Tables old new) where
         let h = holds-true new q k (and-fst (holds new q k) (eqb (sender old k q) p) (a .2)) in
         let i : firstTree new q + (k - firstTree new q) ≡ k = omega arith in
         any-intro (treeCount new q) g (k - firstTree new q) (omega arith) (rw i (and-snd (holds new q k) (eqb (sender old k q) p) (a .2))))
+
+    pub gets-from : getsFrom old new q p ≡ ltb (sentLow old new p q) (sentHigh old new p q)
+    gets-from = gets-sends ∙ sends-to
 
     -- q is in the send set of p exactly where p is in the receive set of q
     pub symmetric : member q (sendSet old new p) ≡ member p (receiveSet old new q)
@@ -149,49 +202,51 @@ module _ (old new : List ℕ) (T : Tables old new) where
 
   -- ---- the number of messages
 
-  -- the first new tree of q is one whose least holder is p
-  startsIn : ℕ → ℕ → Bool
-  startsIn p q = leb (magnitude (entry old p)) (firstTree new q) && ltb (firstTree new q) (endTree old p)
+  -- p sends q its first new tree
+  startsWith : ℕ → ℕ → Bool
+  startsWith p q = eqb (sender old (firstTree new q) q) p
 
-  -- the new trees of q go on over the first tree whose least holder is p
+  -- the new trees of q go on over tree k
   goesOver : ℕ → ℕ → Bool
-  goesOver p q = ltb (firstTree new q) (magnitude (entry old p)) && ltb (magnitude (entry old p)) (endTree new q)
+  goesOver k q = ltb (firstTree new q) k && ltb k (endTree new q)
 
-  why : (p q : ℕ) → p < ranks old → q < ranks old → sendsTo old new p q ≡ true → (eqb p q || (startsIn p q || goesOver p q)) ≡ true
-  unfolding startsIn goesOver
+  why : (p q : ℕ) → p < ranks old → q < ranks old → sendsTo old new p q ≡ true → (goesOver (firstTree old p) q || (startsWith p q || goesOver (firstTree old p + 1) q)) ≡ true
+  unfolding startsWith goesOver
   why p q l r e =
-      let m = ltb-true (sentLow old new p q) (sentHigh old new p q) (sym (sends-to p q l r) ∙ e) in
-      let n = sent-new old new T p q l r in
-      either (eqb p q) (λ d. rw d)
-      (λ d. let o = sent-other old new T p q l r (eqb-false p q d) in
-      either (leb (magnitude (entry old p)) (firstTree new q))
-      (λ c. rw (d, c, lt-ltb (firstTree new q) (endTree old p) (omega arith)))
-      (λ c. rw (d, c, lt-ltb (firstTree new q) (magnitude (entry old p)) (omega tests), lt-ltb (magnitude (entry old p)) (endTree new q) (omega arith))))
+      let low = sentLow old new p q in
+      let high = sentHigh old new p q in
+      let m = ltb-true low high (sym (sends-to p q l r) ∙ e) in
+      let n = sent-new old new T p q in
+      let o = sent-old old new T p q in
+      let f = firstTree new q in
+      either (ltb f low)
+      (λ c. either (eqb low (firstTree old p))
+      (λ d. let i = eqb-true low (firstTree old p) d in rw (lt-ltb f (firstTree old p) (omega tests), lt-ltb (firstTree old p) (endTree new q) (omega arith)))
+      (λ d. let i : low ≡ firstTree old p + 1 = omega (tests, eqb-false low (firstTree old p) d, sent-start old new T p q) in
+      rw (lt-ltb f (firstTree old p + 1) (omega tests), lt-ltb (firstTree old p + 1) (endTree new q) (omega arith), or-true, or-true)))
+      (λ c. let h : f < trees old = omega (tests, sent-high old new T p q l r) in
+      let s : sends old new p q f ≡ true = sends-range old new T p q f l r h ∙ range-in low high f (omega tests) (omega tests) in
+      rw (eq-eqb (sender old f q) p (sends-true old new T p q f s .1), or-true))
 
-  once-same : (p : ℕ) → countBelow (ranks old) (λ q. eqb p q) ≤ 1
-  once-same p = count-one (ranks old) (λ q. eqb p q) (λ i j l m x y. omega tests)
+  once-starts : (q : ℕ) → countBelow (ranks old) (λ p. startsWith p q) ≤ 1
+  unfolding startsWith
+  once-starts q = count-one (ranks old) (λ p. startsWith p q) (λ i j l m x y. omega tests)
 
-  once-starts : (q : ℕ) → countBelow (ranks old) (λ p. startsIn p q) ≤ 1
-  unfolding startsIn
-  once-starts q =
-      count-one (ranks old) (λ p. startsIn p q)
-      (λ i j l m x y. let a = range-true (magnitude (entry old i)) (endTree old i) (firstTree new q) x in
-      let b = range-true (magnitude (entry old j)) (endTree old j) (firstTree new q) y in
-      omega (arith, end-before old (T .oldBytes) (T .oldRanks) (T .oldValid) i j l (omega arith)))
-
-  once-over : (p : ℕ) → countBelow (ranks old) (goesOver p) ≤ 1
+  once-over : (k : ℕ) → countBelow (ranks old) (goesOver k) ≤ 1
   unfolding goesOver
-  once-over p =
-      count-one (ranks old) (goesOver p)
+  once-over k =
+      count-one (ranks old) (goesOver k)
       (λ i j l m x y. let n = T .sameRanks in
       omega (
         tests,
-        and-snd (ltb (firstTree new i) (magnitude (entry old p))) (ltb (magnitude (entry old p)) (endTree new i)) x,
-        and-fst (ltb (firstTree new j) (magnitude (entry old p))) (ltb (magnitude (entry old p)) (endTree new j)) y,
+        and-snd (ltb (firstTree new i) k) (ltb k (endTree new i)) x,
+        and-fst (ltb (firstTree new j) k) (ltb k (endTree new j)) y,
         end-before new (T .newBytes) (T .newRanks) (T .newValid) i j l (omega arith),
         first-near new (T .newBytes) (T .newRanks) (T .newValid) j,
       ))
 
   -- there are at most 3 P messages, those of a rank to itself included
   pub move-bound : sumBelow (ranks old) (λ p. countBelow (ranks old) (λ q. sendsTo old new p q)) ≤ 3 * ranks old
-  move-bound = pairs-three (ranks old) (sendsTo old new) eqb startsIn goesOver (λ p q l r e. why p q l r e) (λ p l. once-same p) (λ q l. once-starts q) (λ p l. once-over p)
+  move-bound =
+      pairs-three (ranks old) (sendsTo old new) (λ p. goesOver (firstTree old p)) startsWith (λ p. goesOver (firstTree old p + 1))
+      (λ p q l r e. why p q l r e) (λ p l. once-over (firstTree old p)) (λ q l. once-starts q) (λ p l. once-over (firstTree old p + 1))

@@ -1,13 +1,13 @@
 -- Means, no part of what is promised: what inner functions require, and values that follow the code. Each is proved equal to what the public definitions say.
-use Prim.Native.Nat.{ℕ, _-_, _^_, _≤_, _<_, min, max}
+use Prim.Native.Nat.{ℕ, zero, suc, _+_, _-_, _^_, _≤_, _<_, min, max}
 use mathlib.Core.Path.{_≡_}
-use mathlib.Core.Bool.{Bool, true, cond, _&&_}
+use mathlib.Core.Bool.{Bool, true, false, cond, _&&_}
 use mathlib.Core.List.{List}
-use lib.Dec.{ltb, eqb}
+use lib.Dec.{leb, ltb}
 use lib.IntN.{pos}
 use lib.ListN.{length, getD}
-use Rattle.encoding.specs.Below.{keptBelow}
-use Rattle.offsets.specs.Table.{ranks, ranksOk, valid, trees, entry, magnitude, firstTree, endTree}
+use Rattle.encoding.specs.Below.{keptBelow, leastBelow}
+use Rattle.offsets.specs.Table.{ranks, ranksOk, valid, trees, entry, magnitude, firstTree, endTree, holds}
 use Rattle.pattern.specs.declared.Ranks.{Ranks}
 use Rattle.pattern.specs.declared.Sender.{Sender}
 use Rattle.pattern.specs.declared.Sender.the-variants.{Rank, Nobody}
@@ -41,20 +41,53 @@ pub record TreeTo (old new : List ℕ) (k q : ℕ) : Type 0 where
   pub treeBelow : k < trees old
   pub receiverBelow : q < ranks old
 
+-- ---- the walk away from q for a rank that has tree k: d ranks below q, then d above
+
+unfoldable pub heldBelow : List ℕ → ℕ → ℕ → ℕ → Bool
+heldBelow old k q d = cond (ltb q d) false (holds old (q - d) k)
+
+unfoldable pub heldAbove : List ℕ → ℕ → ℕ → ℕ → Bool
+heldAbove old k q d = cond (leb (ranks old - q) d) false (holds old (q + d) k)
+
 -- ---- the trees from p to q
 
+-- p has trees
+unfoldable pub hasTrees : List ℕ → ℕ → Bool
+hasTrees t p = ltb (firstTree t p) (endTree t p)
+
+-- the nearest rank below p that has trees; 0 where none has
+unfoldable pub lowerRank : List ℕ → ℕ → ℕ
+lowerRank t zero = 0
+lowerRank t (suc p) = cond (hasTrees t p) p (lowerRank t p)
+
+-- n is above p and has trees
+unfoldable pub aboveWithTrees : List ℕ → ℕ → ℕ → Bool
+aboveWithTrees t p n = ltb p n && hasTrees t n
+
+-- the nearest rank above p that has trees; P where none has
+unfoldable pub upperRank : List ℕ → ℕ → ℕ
+upperRank t p = leastBelow (ranks t) (aboveWithTrees t p)
+
 -- the trees from p to q are those from sentLow up to, but without, sentHigh.
--- p is the smallest holder of the trees from |O[p]| up to |O[p+1]|; for q above p, its first tree may be the last of these
+-- Of two ranks a < b that have a tree, b is nearer to q exactly where a + b < 2 q. So p doesn't send its first tree
+-- if that is shared with a lower rank m and 2 q ≤ m + p, nor its last if that is shared with a higher rank n and n + p < 2 q
 unfoldable pub sentLow : List ℕ → List ℕ → ℕ → ℕ → ℕ
-sentLow old new p q = max (cond (eqb p q) (firstTree old p) (magnitude (entry old p))) (firstTree new q)
+sentLow old new p q =
+    cond (leb (q + q) (lowerRank old p + p))
+    (max (magnitude (entry old p)) (max (firstTree old p) (firstTree new q)))
+    (max (firstTree old p) (firstTree new q))
 
 unfoldable pub sentHigh : List ℕ → List ℕ → ℕ → ℕ → ℕ
 sentHigh old new p q =
-    min (cond (ltb p q && (ltb (firstTree old q) (endTree old q) && ltb (firstTree old q) (endTree old p))) (endTree old p - 1) (endTree old p)) (endTree new q)
+    cond (ltb (upperRank old p + p) (q + q))
+    (min (firstTree old (upperRank old p)) (min (endTree old p) (endTree new q)))
+    (min (endTree old p) (endTree new q))
 
--- the test in sentHigh: q, above p, shares the last tree of p
-abbrev pub sharesLast : List ℕ → ℕ → ℕ → Bool
-sharesLast old p q = ltb p q && (ltb (firstTree old q) (endTree old q) && ltb (firstTree old q) (endTree old p))
+-- the ranks with trees on either side of p, beside a pair
+pub record PairNear (old new : List ℕ) (p q lower upper : ℕ) : Type 0 where
+  pub pair : PairOf old new p q
+  pub isLower : lower ≡ lowerRank old p
+  pub isUpper : upper ≡ upperRank old p
 
 -- ---- the two sets of a rank by one test: to the other where the rank is sending, else from the other
 

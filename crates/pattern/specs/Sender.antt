@@ -1,11 +1,11 @@
 -- f is the partition of the old table, f' that of the new one: who sends tree k to rank q.
-use Prim.Native.Nat.{ℕ}
+use Prim.Native.Nat.{ℕ, _+_, _-_}
 use mathlib.Core.Path.{_≡_}
-use mathlib.Core.Bool.{Bool, true, cond, _&&_}
+use mathlib.Core.Bool.{Bool, true, cond, not, _&&_, _||_}
 use mathlib.Core.List.{List}
-use lib.Dec.{eqb}
+use lib.Dec.{leb, eqb}
 use lib.IntN.{ℤ, pos, negsuc}
-use Rattle.encoding.specs.Below.{leastBelow, countBelow}
+use Rattle.encoding.specs.Below.{allBelow, leastBelow, countBelow}
 use Rattle.encoding.specs.Pieces.{Bytes}
 use Rattle.offsets.specs.Table.{ranks, ranksOk, valid, trees, holds}
 use Rattle.pattern.specs.declared.Sender.{Sender}
@@ -22,13 +22,17 @@ pub record Tables (old new : List ℕ) : Type 0 where
   pub sameRanks : ranks new ≡ ranks old
   pub sameTrees : trees new ≡ trees old
 
--- the smallest rank p with k in f(p)
-unfoldable pub leastHolder : List ℕ → ℕ → ℕ
-leastHolder old k = leastBelow (ranks old) (λ p. holds old p k)
+-- how far apart two ranks are
+unfoldable pub distance : ℕ → ℕ → ℕ
+distance p q = (p - q) + (q - p)
 
--- for k in f'(q), the sender of k to q: q if k is in f(q), else the smallest rank p with k in f(p)
+-- k is in f(p), and no rank with k in its range is nearer to q
+unfoldable pub nearest : List ℕ → ℕ → ℕ → ℕ → Bool
+nearest old k q p = holds old p k && allBelow (ranks old) (λ r. not (holds old r k) || leb (distance p q) (distance r q))
+
+-- for k in f'(q), the sender of k to q: the rank with k in f whose number differs least from q, the lower of two; so q if k is in f(q)
 unfoldable pub sender : List ℕ → ℕ → ℕ → ℕ
-sender old k q = cond (holds old q k) q (leastHolder old k)
+sender old k q = leastBelow (ranks old) (nearest old k q)
 
 -- the same where k may not be in f'(q)
 unfoldable pub senderTo : List ℕ → List ℕ → ℕ → ℕ → Sender

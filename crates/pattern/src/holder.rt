@@ -4,41 +4,53 @@ ghost use mathlib.Core.Bool.{true};
 ghost use Prim.Native.Nat.{_<_};
 ghost use Rattle.offsets.specs.Limits.{maxRanks};
 ghost use Rattle.offsets.specs.Table.{ranks as ranksOf};
-ghost use Rattle.pattern.specs.Means.{TreeOf, TreeTo, senderFits, senderRefused};
-ghost use Rattle.pattern.specs.Sender.{leastHolder, sender as senderIs, senderTo, senderNumber};
+ghost use Rattle.pattern.specs.Means.{TreeOf, TreeTo, heldBelow, heldAbove, senderFits, senderRefused};
+ghost use Rattle.pattern.specs.Sender.{sender as senderIs, senderTo, senderNumber};
 use crate::Sender;
 use crate::SenderAnswer;
-use offsets::table::end_tree;
 use offsets::table::holds;
 use offsets::table::ranks;
 
-// The smallest rank p with k in f(p): the first whose end is above k.
-pub fn least_holder(t: &[u8], k: u64) -> usize
-    requires { ⌜ TreeOf (now t) k ⌝ }
-    ensures { λ r. ⌜ (r ≡ leastHolder (now (t .entry)) k) × (r < maxRanks) ⌝ }
+// Whether the rank d below q, if there is one, has tree k.
+fn holds_below(old: &[u8], k: u64, q: usize, d: usize) -> bool
+    requires { ⌜ TreeOf (now old) k × (q < ranksOf (now old)) ⌝ }
+    ensures { λ r. ⌜ r ≡ heldBelow (now (old .entry)) k q d ⌝ }
 {
-    let mut low = 0;
-    let mut high = ranks(t) - 1;
-    while low < high {
-        let mid = low + (high - low) / 2;
-        if k < end_tree(t, mid) {
-            high = mid;
-        } else {
-            low = mid + 1;
-        }
+    if q < d {
+        return false;
     }
-    low
+    holds(old, q - d, k)
 }
 
-// The sender of tree k to q, which gets it.
+// Whether the rank d above q, if there is one, has tree k.
+fn holds_above(old: &[u8], k: u64, q: usize, d: usize) -> bool
+    requires { ⌜ TreeOf (now old) k × (q < ranksOf (now old)) ⌝ }
+    ensures { λ r. ⌜ r ≡ heldAbove (now (old .entry)) k q d ⌝ }
+{
+    let ranks = ranks(old);
+    if ranks - q <= d {
+        return false;
+    }
+    holds(old, q + d, k)
+}
+
+// The sender of tree k to q, which gets it: the first that has the tree on a walk away from q, at each step to the lower side first.
 pub fn sender(old: &[u8], k: u64, q: usize) -> usize
     requires { ⌜ TreeOf (now old) k × (q < ranksOf (now old)) ⌝ }
     ensures { λ r. ⌜ (r ≡ senderIs (now (old .entry)) k q) × (r < maxRanks) ⌝ }
 {
-    if holds(old, q, k) {
-        return q;
+    let end = ranks(old);
+    let mut d = 0;
+    while d < end {
+        if holds_below(old, k, q, d) {
+            return q - d;
+        }
+        if holds_above(old, k, q, d) {
+            return q + d;
+        }
+        d += 1;
     }
-    least_holder(old, k)
+    0
 }
 
 // The same where q may not get k.

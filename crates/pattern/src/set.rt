@@ -5,19 +5,30 @@ ghost use lib.ListN.{length};
 ghost use Rattle.encoding.specs.Pieces.{splice};
 ghost use Rattle.offsets.specs.Limits.{maxRanks};
 ghost use Rattle.pattern.specs.Calls.{ranksAnswer};
-ghost use Rattle.pattern.specs.Means.{RankOf, PairOf, RoomFor, SmallNumbers, exchangesTree, rankSet, ranksRefused, rankSetOf};
+ghost use Rattle.pattern.specs.Means.{RankOf, PairNear, RoomFor, SmallNumbers, exchangesTree, rankSet, ranksRefused, rankSetOf};
 use crate::Ranks;
+use crate::range::lower_rank;
+use crate::range::sends_near;
 use crate::range::sends_some;
+use crate::range::upper_rank;
 use crate::tables::tables_refusal;
 use offsets::table::ranks;
 
-// Whether the rank sends the other a tree; where it isn't sending, whether it gets one from the other.
-fn exchanges(old: &[u8], new: &[u8], rank: usize, other: usize, sending: bool) -> bool
-    requires { ⌜ PairOf (now old) (now new) rank other ⌝ }
+// Whether the rank, with the ranks that have trees on either side of it, sends the other a tree; where it isn't sending, whether it gets one from the other.
+fn exchanges(
+    old: &[u8],
+    new: &[u8],
+    rank: usize,
+    other: usize,
+    sending: bool,
+    lower: usize,
+    upper: usize,
+) -> bool
+    requires { ⌜ PairNear (now old) (now new) rank other lower upper ⌝ }
     ensures { λ r. ⌜ r ≡ exchangesTree (now (old .entry)) (now (new .entry)) rank sending other ⌝ }
 {
     if sending {
-        return sends_some(old, new, rank, other);
+        return sends_near(old, new, rank, other, lower, upper);
     }
     sends_some(old, new, other, rank)
 }
@@ -28,10 +39,12 @@ pub fn set_count(old: &[u8], new: &[u8], rank: usize, sending: bool) -> usize
     ensures { λ r. ⌜ (r ≡ length (rankSet (now (old .entry)) (now (new .entry)) rank sending)) × (r ≤ maxRanks) ⌝ }
 {
     let end = ranks(old);
+    let lower = lower_rank(old, rank);
+    let upper = upper_rank(old, rank);
     let mut count = 0;
     let mut other = 0;
     while other < end {
-        let here = exchanges(old, new, rank, other, sending);
+        let here = exchanges(old, new, rank, other, sending, lower, upper);
         other += 1;
         if here {
             count += 1;
@@ -46,10 +59,12 @@ fn set_write(old: &[u8], new: &[u8], rank: usize, sending: bool, out: &mut [u32]
     ensures { λ r. ⌜ now (out .exit) ≡ splice (now (out .entry)) 0 (rankSet (now (old .entry)) (now (new .entry)) rank sending) ⌝ }
 {
     let end = ranks(old);
+    let lower = lower_rank(old, rank);
+    let upper = upper_rank(old, rank);
     let mut count = 0;
     let mut other = 0;
     while other < end {
-        let here = exchanges(old, new, rank, other, sending);
+        let here = exchanges(old, new, rank, other, sending, lower, upper);
         let number = other as u32;
         other += 1;
         if here {

@@ -8,7 +8,7 @@ use Rattle.encoding.specs.Numbers.{leValue, leBytes, leAt}
 use Rattle.encoding.specs.Refusal.{firstFailed}
 use Rattle.offsets.specs.Limits.{rankCountOk, treeCountOk}
 use Rattle.offsets.specs.Table.{ranks, ranksOk, entry, negative, magnitude, firstOf, trees, firstTree, endTree, holds, entriesWithin, countsOk, valid, tableBytes}
-use Rattle.pattern.specs.Sender.{leastHolder, sender, sends, sentCount, sentFirst}
+use Rattle.pattern.specs.Sender.{distance, nearest, sender, sends, sentCount, sentFirst}
 use Rattle.pattern.specs.Sets.{sendsTo}
 use Rattle.pattern.specs.Calls.{tableChecks}
 use Rattle.plan_read.specs.Text.{digitsOf, decimal, entryText, listText, render}
@@ -52,5 +52,5 @@ unfolding render listText entryText decimal digitsOf negative magnitude
 example-rendered = refl
 
 pub plan-example : planOutput input ≡ output
-unfolding planOutput planMoves planRefusal planRanksOk movesOutput moveCount movesText movesFrom moveText lineText parse formOk readNew readOld readRanks wordAt readList before readEntry negated readNumber digitsOk valueOf digitCount isDigit decimal digitsOf tableChecks sendsTo sentFirst sentCount sends sender leastHolder tableBytes valid countsOk entriesWithin holds endTree firstTree trees firstOf magnitude negative entry ranksOk ranks treeCountOk rankCountOk firstFailed leAt leBytes leValue piece allBelow anyBelow countBelow leastBelow sumBelow
+unfolding planOutput planMoves planRefusal planRanksOk movesOutput moveCount movesText movesFrom moveText lineText parse formOk readNew readOld readRanks wordAt readList before readEntry negated readNumber digitsOk valueOf digitCount isDigit decimal digitsOf tableChecks sendsTo sentFirst sentCount sends sender nearest distance tableBytes valid countsOk entriesWithin holds endTree firstTree trees firstOf magnitude negative entry ranksOk ranks treeCountOk rankCountOk firstFailed leAt leBytes leValue piece allBelow anyBelow countBelow leastBelow sumBelow
 plan-example = refl

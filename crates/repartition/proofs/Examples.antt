@@ -21,7 +21,7 @@ use Rattle.leaves.specs.Leaves.{leavesOk, leafStart, leafTotal, cut, leafHolds,
 use Rattle.offsets.specs.Calls.{tableRefusal, rangeRefusal, rangeAnswer, tableRange}
 use Rattle.offsets_write.specs.Calls.{partitionOk, writeRefusal, writeTable}
 use Rattle.leaves.specs.Calls.{leavesRefusal, tableFromLeaves}
-use Rattle.pattern.specs.Sender.{leastHolder, sender, sends, sentFirst, sentCount, Tables}
+use Rattle.pattern.specs.Sender.{distance, nearest, sender, sends, sentFirst, sentCount, Tables}
 use Rattle.pattern.specs.Sets.{sendsTo, getsFrom}
 use Rattle.records.specs.Shape.{shapeOk, dimensionOf, faceCount, facesIn, cornersOf, corners}
 use Rattle.records.specs.Record.{numberOf, shapeOf, neighbourOf, codeOf, facesOf, faceOf, orientationOf, regionOf, regionOk, zerosOk, unusedOk, toItself, boundaryOk, inForm}
@@ -161,7 +161,7 @@ the-messages : (builds 0 0 ≡ accepted (header 0 0 1 2 ++ (treeBytes (three 0) 
     × (builds 0 1 ≡ accepted (header 0 1 1 0 ++ treeBytes (three 0) 10) (replicate 154 9))
     × (builds 1 1 ≡ accepted (header 1 1 1 1 ++ (treeBytes (three 1) 11 ++ three 2)) (replicate 114 9))
     × (builds 1 2 ≡ accepted (header 1 2 1 2 ++ (treeBytes (three 2) 12 ++ (three 0 ++ three 1))) (replicate 74 9))
-unfolding meshMessage ruleMessage messageHeaderBytes treesFrom ghostGoes ghostsGoing sendsGhost considers sendsBeside isGhost sentFirst sentCount sendsTo sends sender leastHolder writeAnswer lengthAnswer written splice meshDimension meshTrees meshCore meshRecord faceCount shapeOf neighbourOf holds firstTree endTree firstOf magnitude negative trees ranks entry anyBelow countBelow leastBelow leAt piece leValue tableBytes leBytes words coreBytes treeBytes triangle three triangles oldThree newThree
+unfolding meshMessage ruleMessage messageHeaderBytes treesFrom ghostGoes ghostsGoing sendsGhost considers sendsBeside isGhost sentFirst sentCount sendsTo sends sender nearest distance allBelow writeAnswer lengthAnswer written splice meshDimension meshTrees meshCore meshRecord faceCount shapeOf neighbourOf holds firstTree endTree firstOf magnitude negative trees ranks entry anyBelow countBelow leastBelow leAt piece leValue tableBytes leBytes words coreBytes treeBytes triangle three triangles oldThree newThree
 the-messages = (unfolded 0 0 refl refl _ refl, unfolded 0 1 refl refl _ refl, unfolded 1 1 refl refl _ refl, unfolded 1 2 refl refl _ refl)
 
 -- and no other
@@ -170,7 +170,7 @@ unfolding writeAnswer lengthAnswer written
 no-message p q l h e = unfolded p q l h _ (rw e)
 
 no-trees : (sendsTo oldThree newThree 0 2 ≡ false) × (sendsTo oldThree newThree 1 0 ≡ false) × (sendsTo oldThree newThree 2 0 ≡ false) × (sendsTo oldThree newThree 2 1 ≡ false) × (sendsTo oldThree newThree 2 2 ≡ false)
-unfolding sendsTo oldThree newThree anyBelow leastBelow sender leastHolder holds firstTree endTree firstOf magnitude negative trees ranks entry leAt piece leValue tableBytes leBytes
+unfolding sendsTo oldThree newThree anyBelow leastBelow sender nearest distance allBelow holds firstTree endTree firstOf magnitude negative trees ranks entry leAt piece leValue tableBytes leBytes
 no-trees = (refl, refl, refl, refl, refl)
 
 -- document 01's examples
@@ -202,15 +202,15 @@ examples =
 -- ---- demand 3 on the triangles
 
 built-00 : Built runOne 0 0
-unfolding runOne sendsTo oldThree newThree anyBelow leastBelow sender leastHolder holds firstTree endTree firstOf magnitude negative trees ranks entry leAt piece leValue tableBytes leBytes
+unfolding runOne sendsTo oldThree newThree anyBelow leastBelow sender nearest distance allBelow holds firstTree endTree firstOf magnitude negative trees ranks entry leAt piece leValue tableBytes leBytes
 built-00 = record { sender-below = leb-true 1 3 refl; receiver-below = leb-true 1 3 refl; sends-tree = refl }
 
 built-01 : Built runOne 0 1
-unfolding runOne sendsTo oldThree newThree anyBelow leastBelow sender leastHolder holds firstTree endTree firstOf magnitude negative trees ranks entry leAt piece leValue tableBytes leBytes
+unfolding runOne sendsTo oldThree newThree anyBelow leastBelow sender nearest distance allBelow holds firstTree endTree firstOf magnitude negative trees ranks entry leAt piece leValue tableBytes leBytes
 built-01 = record { sender-below = leb-true 1 3 refl; receiver-below = leb-true 2 3 refl; sends-tree = refl }
 
 built-11 : Built runOne 1 1
-unfolding runOne sendsTo oldThree newThree anyBelow leastBelow sender leastHolder holds firstTree endTree firstOf magnitude negative trees ranks entry leAt piece leValue tableBytes leBytes
+unfolding runOne sendsTo oldThree newThree anyBelow leastBelow sender nearest distance allBelow holds firstTree endTree firstOf magnitude negative trees ranks entry leAt piece leValue tableBytes leBytes
 built-11 = record { sender-below = leb-true 2 3 refl; receiver-below = leb-true 2 3 refl; sends-tree = refl }
 
 seven-built : AllBuilt runOne sevenCalls
@@ -236,7 +236,7 @@ same-heard s =
 
 -- what the calls alone say
 seven-due : dueAll runOne nobody sevenCalls ≡ sevenAnswers
-unfolding runOne sevenCalls sevenAnswers dueAll due hears nobody allDue getsFrom sender leastHolder writeAnswer lengthAnswer written allBelow leastBelow oldThree cutPart headerBytes partTrees partTree partGhosts ghostCount ghostPosition localIndex renamed renameRow rowOf rowsOf neighbourBytes codeBytes withRows isGhost meshDimension meshTrees meshCore meshRecord faceCount facesIn numberOf shapeOf neighbourOf codeOf treeCount holds firstTree endTree firstOf magnitude negative trees ranks entry anyBelow countBelow splice leAt piece leValue tableBytes leBytes words coreBytes treeBytes triangle three triangles newThree partOne
+unfolding runOne sevenCalls sevenAnswers dueAll due hears nobody allDue getsFrom sender nearest distance writeAnswer lengthAnswer written allBelow leastBelow oldThree cutPart headerBytes partTrees partTree partGhosts ghostCount ghostPosition localIndex renamed renameRow rowOf rowsOf neighbourBytes codeBytes withRows isGhost meshDimension meshTrees meshCore meshRecord faceCount facesIn numberOf shapeOf neighbourOf codeOf treeCount holds firstTree endTree firstOf magnitude negative trees ranks entry anyBelow countBelow splice leAt piece leValue tableBytes leBytes words coreBytes treeBytes triangle three triangles newThree partOne
 seven-due = refl
 
 -- the seven answers, and the same area in the other order

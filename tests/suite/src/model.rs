@@ -271,17 +271,16 @@ impl Pair {
         self.old.len() as u32
     }
 
-    /// The sender of k to q, by search over all ranks; none where k isn't in f'(q).
+    /// The sender of k to q, the old holder whose rank differs least from q, by search over all ranks; none where k isn't in f'(q).
     pub fn sender(&self, k: u32, q: u32) -> Option<u32> {
         let k = i128::from(k);
         if !self.new[q as usize].holds(k) {
             return None;
         }
-        if self.old[q as usize].holds(k) {
-            return Some(q);
-        }
-        let holder = (0..self.old.len()).find(|&p| self.old[p].holds(k));
-        Some(holder.expect("every tree is on some rank") as u32)
+        // of two at equal distance, the first is the lower
+        let holders = (0..self.old.len() as u32).filter(|&p| self.old[p as usize].holds(k));
+        let nearest = holders.min_by_key(|&p| p.abs_diff(q));
+        Some(nearest.expect("every tree is on some rank"))
     }
 
     /// What each rank sends to each: from the sender of every tree of every rank.

@@ -1,16 +1,41 @@
-use Rattle.pattern.proofs.Laws.{sends-tested}
+use Rattle.pattern.proofs.Laws.{sender-row, empty-sends}
+use borrow.Author.Tests.{not-true}
+use mathlib.Core.Path.{sym, _∙_}
 use borrow.Author.Needs.{needs}
 use Rattle.pattern.proofs.range.sends_some.Statement.{statement}
 use Rattle.pattern.proofs.range.sends_some.Tie as tie
 
-sent-low-requires : tie.Need-sent-low-requires
-sent-low-requires c κs = search needs
+-- src/range.rt:134:9
+has-trees-requires : tie.Need-has-trees-requires
+has-trees-requires c κs = sender-row (c .before .before .pre)
 
-sent-high-requires : tie.Need-sent-high-requires
-sent-high-requires c κs = search needs
-
+-- src/range.rt:135:9
 returns : tie.Need-returns
-returns c = sends-tested _ _ _ _ (c .before .before .before .before .pre) _ _ (c .before .sent-low .ensures) (c .sent-high .ensures)
+returns c = empty-sends _ _ _ _ (c .before .before .before .before .pre) (sym (c .before .has-trees .ensures) ∙ not-true _ (c .if1 .taken))
+
+-- src/range.rt:137:32
+lower-rank-requires : tie.Need-lower-rank-requires
+lower-rank-requires c κs = search needs
+
+-- src/range.rt:137:52
+upper-rank-requires : tie.Need-upper-rank-requires
+upper-rank-requires c κs = search needs
+
+-- src/range.rt:137:5
+sends-near-requires : tie.Need-sends-near-requires
+sends-near-requires c κs = search needs
+
+-- src/range.rt:130:1
+returns-2 : tie.Need-returns-2
+returns-2 c = search needs
 
 pub sends-some-spec : {M : Type 1} → statement M
-sends-some-spec = tie.close (tie.spec sent-low-requires sent-high-requires returns)
+sends-some-spec =
+    tie.close
+    (tie.spec
+    has-trees-requires
+    returns
+    lower-rank-requires
+    upper-rank-requires
+    sends-near-requires
+    returns-2)

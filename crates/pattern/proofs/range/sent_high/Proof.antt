@@ -1,45 +1,63 @@
-use native.Mathlib.Omega.{arith}
+use Rattle.pattern.proofs.Laws.{sender-row, receiver-new-row, pair-small, upper-row}
 use Rattle.pattern.specs.Means.{sentHigh}
-use Rattle.pattern.proofs.Laws.{sender-row, receiver-row, receiver-new-row, shares-low}
+use Rattle.offsets.proofs.OnePass.{ranks-known}
+use borrow.Author.Tests.{lt-ltb, le-ltb}
+use native.Mathlib.Omega.{arith}
 use borrow.Author.Needs.{needs}
 use Rattle.pattern.proofs.range.sent_high.Statement.{statement}
 use Rattle.pattern.proofs.range.sent_high.Tie as tie
 
+-- src/range.rt:90:23
 end-tree-requires : tie.Need-end-tree-requires
-end-tree-requires c κs = omega (arith, receiver-new-row (c .before .before .pre))
+end-tree-requires c κs = omega (arith, sender-row (c .before .before .pre .0))
 
+-- src/range.rt:90:41
 end-tree-requires-2 : tie.Need-end-tree-requires-2
-end-tree-requires-2 c κs = omega (arith, sender-row (c .before .before .before .pre))
+end-tree-requires-2 c κs = omega (arith, receiver-new-row (c .before .before .before .pre .0))
 
-shares-requires : tie.Need-shares-requires
-shares-requires c κs = (sender-row (c .before .before .before .before .pre), receiver-row (c .before .before .before .before .pre))
-
-sub-smaller : tie.Need-sub-smaller
-sub-smaller c = shares-low _ _ _ _ _ (c .before .shares .ensures) (c .if1 .taken) (c .before .before .end-tree2 .ensures)
-
+-- src/range.rt:90:9
 smaller-requires : tie.Need-smaller-requires
 smaller-requires c κs = search needs
 
-returns : tie.Need-returns
-unfolding sentHigh
-returns c =
-    let shares = c .before .before .shares in
-    let if1 = c .before .if1 in
-    let end-tree = c .before .before .before .before .end-tree in
-    let end-tree2 = c .before .before .before .end-tree2 in
-    simp (c .smaller .ensures, ← shares .ensures, if1 .taken, end-tree .ensures, end-tree2 .ensures)
+-- src/range.rt:91:8
+add-if1 : tie.Need-add-if1
+add-if1 c =
+    let pre = c .before .before .before .before .before .pre in
+    omega (arith, pair-small (pre .0), upper-row (pre .0) (pre .1), ranks-known _ (pre .0 .tables .oldRanks))
 
+-- src/range.rt:91:20
+add-if1-2 : tie.Need-add-if1-2
+add-if1-2 c = omega (arith, pair-small (c .before .before .before .before .before .pre .0))
+
+-- src/range.rt:92:24
+first-tree-requires : tie.Need-first-tree-requires
+first-tree-requires c κs = upper-row (c .before .before .before .before .before .before .pre .0) (c .before .before .before .before .before .before .pre .1)
+
+-- src/range.rt:92:9
 smaller-requires-2 : tie.Need-smaller-requires-2
 smaller-requires-2 c κs = search needs
 
+-- src/range.rt:92:9
+returns : tie.Need-returns
+unfolding sentHigh
+returns c =
+    let first-tree = c .before .first-tree in
+    let smaller = c .before .before .before .smaller in
+    let end-tree = c .before .before .before .before .before .end-tree in
+    let end-tree2 = c .before .before .before .before .end-tree2 in
+    let pre = c .before .before .before .before .before .before .before .before .pre in
+    let if1 = c .before .before .if1 in
+    simp (c .smaller2 .ensures, first-tree .ensures, smaller .ensures, end-tree .ensures, end-tree2 .ensures, ← pre .1, lt-ltb _ _ (if1 .taken))
+
+-- src/range.rt:86:1
 returns-2 : tie.Need-returns-2
 unfolding sentHigh
 returns-2 c =
-    let shares = c .before .before .shares in
-    let if1 = c .before .if1 in
-    let end-tree = c .before .before .before .before .end-tree in
-    let end-tree2 = c .before .before .before .end-tree2 in
-    simp (c .smaller2 .ensures, ← shares .ensures, if1 .left, end-tree .ensures, end-tree2 .ensures)
+    let smaller = c .before .smaller in
+    let end-tree = c .before .before .before .end-tree in
+    let end-tree2 = c .before .before .end-tree2 in
+    let pre = c .before .before .before .before .before .before .pre in
+    simp (smaller .ensures, end-tree .ensures, end-tree2 .ensures, ← pre .1, le-ltb _ _ (c .if1 .left))
 
 pub sent-high-spec : {M : Type 1} → statement M
 sent-high-spec =
@@ -47,9 +65,10 @@ sent-high-spec =
     (tie.spec
     end-tree-requires
     end-tree-requires-2
-    shares-requires
-    sub-smaller
     smaller-requires
-    returns
+    add-if1
+    add-if1-2
+    first-tree-requires
     smaller-requires-2
+    returns
     returns-2)

@@ -1,41 +1,68 @@
-use borrow.Author.Tests.{eq-eqb, ne-eqb}
-use native.Mathlib.Omega.{arith}
+use Rattle.pattern.proofs.Laws.{sender-row, receiver-new-row, pair-small, lower-le}
 use Rattle.pattern.specs.Means.{sentLow}
-use Rattle.pattern.proofs.Laws.{sender-row, receiver-new-row}
+use borrow.Author.Tests.{le-leb, lt-leb}
+use native.Mathlib.Omega.{arith}
 use borrow.Author.Needs.{needs}
 use Rattle.pattern.proofs.range.sent_low.Statement.{statement}
 use Rattle.pattern.proofs.range.sent_low.Tie as tie
 
+-- src/range.rt:78:24
 first-tree-requires : tie.Need-first-tree-requires
-first-tree-requires c κs = omega (arith, receiver-new-row (c .before .before .pre))
+first-tree-requires c κs = omega (arith, sender-row (c .before .before .pre .0))
 
+-- src/range.rt:78:44
 first-tree-requires-2 : tie.Need-first-tree-requires-2
-first-tree-requires-2 c κs = omega (arith, sender-row (c .before .before .before .before .pre))
+first-tree-requires-2 c κs = omega (arith, receiver-new-row (c .before .before .before .pre .0))
 
+-- src/range.rt:78:9
 larger-requires : tie.Need-larger-requires
 larger-requires c κs = search needs
 
-returns : tie.Need-returns
-unfolding sentLow
-returns c = simp (c .larger .ensures, c .before .first-tree2 .ensures, c .before .before .before .first-tree .ensures, eq-eqb _ _ (c .before .before .if1 .taken))
+-- src/range.rt:79:8
+add-if1 : tie.Need-add-if1
+add-if1 c = omega (arith, pair-small (c .before .before .before .before .before .pre .0))
 
+-- src/range.rt:79:17
+add-if1-2 : tie.Need-add-if1-2
+add-if1-2 c =
+    let pre = c .before .before .before .before .before .pre in
+    let args = c .before .before .before .before .before .args in
+    omega (arith, pair-small (pre .0), pre .1, lower-le (args .old .now) (args .p))
+
+-- src/range.rt:80:33
 entry-requires : tie.Need-entry-requires
-entry-requires c κs = omega (arith, sender-row (c .before .before .before .before .pre))
+entry-requires c κs = omega (arith, sender-row (c .before .before .before .before .before .before .pre .0))
 
+-- src/range.rt:80:23
 magnitude-requires : tie.Need-magnitude-requires
 magnitude-requires c κs = search needs
 
+-- src/range.rt:80:9
 larger-requires-2 : tie.Need-larger-requires-2
 larger-requires-2 c κs = search needs
 
+-- src/range.rt:80:9
+returns : tie.Need-returns
+unfolding sentLow
+returns c =
+    let magnitude = c .before .magnitude in
+    let entry = c .before .before .entry in
+    let larger = c .before .before .before .before .larger in
+    let first-tree = c .before .before .before .before .before .before .first-tree in
+    let first-tree2 = c .before .before .before .before .before .first-tree2 in
+    let pre = c .before .before .before .before .before .before .before .before .before .pre in
+    let if1 = c .before .before .before .if1 in
+    simp (c .larger2 .ensures, magnitude .ensures, entry .ensures, larger .ensures, first-tree .ensures, first-tree2 .ensures, ← pre .1, le-leb _ _ (if1 .taken))
+
+-- src/range.rt:74:1
 returns-2 : tie.Need-returns-2
 unfolding sentLow
 returns-2 c =
-    let magnitude = c .before .magnitude in
-    let entry = c .before .before .entry in
-    let first-tree = c .before .before .before .before .first-tree in
-    let if1 = c .before .before .before .if1 in
-    simp (c .larger2 .ensures, magnitude .ensures, entry .ensures, first-tree .ensures, ne-eqb _ _ (if1 .left))
+    let larger = c .before .larger in
+    let first-tree = c .before .before .before .first-tree in
+    let first-tree2 = c .before .before .first-tree2 in
+    let pre = c .before .before .before .before .before .before .pre in
+    simp (larger .ensures, first-tree .ensures, first-tree2 .ensures, ← pre .1, lt-leb _ _ (c .if1 .left))
 
 pub sent-low-spec : {M : Type 1} → statement M
 sent-low-spec =
@@ -44,8 +71,10 @@ sent-low-spec =
     first-tree-requires
     first-tree-requires-2
     larger-requires
-    returns
+    add-if1
+    add-if1-2
     entry-requires
     magnitude-requires
     larger-requires-2
+    returns
     returns-2)

@@ -1,26 +1,30 @@
-use mathlib.Core.Path.{_∙_, sym}
-use Rattle.pattern.proofs.Sets.{gets-sends}
 use Rattle.pattern.specs.Means.{exchangesTree}
+use Rattle.pattern.proofs.Sets.{gets-sends}
+use mathlib.Core.Path.{_∙_, sym}
 use borrow.Author.Needs.{needs}
 use Rattle.pattern.proofs.set.exchanges.Statement.{statement}
 use Rattle.pattern.proofs.set.exchanges.Tie as tie
 
+-- src/set.rt:23:9
+sends-near-requires : tie.Need-sends-near-requires
+sends-near-requires c κs = search needs
+
+-- src/set.rt:23:9
+returns : tie.Need-returns
+unfolding exchangesTree
+returns c = rw (c .before .if1 .taken) (c .sends-near .ensures)
+
+-- src/set.rt:25:5
 sends-some-requires : tie.Need-sends-some-requires
 sends-some-requires c κs = search needs
 
-returns : tie.Need-returns
-unfolding exchangesTree
-returns c = rw (c .before .if1 .taken) (c .sends-some .ensures)
-
-sends-some-requires-2 : tie.Need-sends-some-requires-2
-sends-some-requires-2 c κs = search needs
-
+-- src/set.rt:18:1
 returns-2 : tie.Need-returns-2
 unfolding exchangesTree
 returns-2 c =
     let if1 = c .before .if1 in
     let pre = c .before .before .before .before .pre in
-    rw (if1 .left) (c .sends-some2 .ensures ∙ sym (gets-sends _ _ (pre .tables) _ _ (pre .receiverBelow) (pre .senderBelow)))
+    rw (if1 .left) (c .sends-some .ensures ∙ sym (gets-sends _ _ (pre .pair .tables) _ _ (pre .pair .receiverBelow) (pre .pair .senderBelow)))
 
 pub exchanges-spec : {M : Type 1} → statement M
-exchanges-spec = tie.close (tie.spec sends-some-requires returns sends-some-requires-2 returns-2)
+exchanges-spec = tie.close (tie.spec sends-near-requires returns sends-some-requires returns-2)

@@ -15,7 +15,8 @@ use Rattle.encoding.proofs.Below.{either, tests, clash, and-fst, and-snd, iff-e
 use Rattle.encoding.proofs.Numbers.{at-bound}
 use Rattle.encoding.proofs.Pieces.{piece-length, piece-same, bytes-piece, length-splice}
 use Rattle.offsets.specs.Limits.{maxTrees}
-use Rattle.offsets.specs.Table.{firstTree, holds}
+use Rattle.offsets.specs.Table.{ranks, ranksOk, valid, firstTree, holds}
+use Rattle.pattern.specs.Sender.{Tables}
 use Rattle.records.specs.Shape.{faceCount, facesIn}
 use Rattle.records.specs.Record.{coreSize, treeSize, unused, numberOf, shapeOf, neighbourOf}
 use Rattle.records.specs.Links.{rowsOf, neighbourBytes, codeBytes, withRows}
@@ -32,7 +33,7 @@ use Rattle.part_theorems.proofs.Renamed.{renamed-length, renamed-number, rename
 use Rattle.part_theorems.proofs.SoundParts.{part-view}
 use Rattle.part_theorems.proofs.Views.{view-trees, view-ghosts, view-same, core-tree, held-cases, tree-link-held}
 use Rattle.area.specs.Layout.{slotsPlace, slotsOf}
-use Rattle.area.specs.Area.{areaDimension, areaK, areaP, areaRank, areaCount, areaGhosts, areaNew, areaFirst, heard, treeSlot, treeSlotCore, ghostSlot, areaSound}
+use Rattle.area.specs.Area.{areaDimension, areaK, areaP, areaRank, areaCount, areaGhosts, areaOld, areaNew, areaFirst, treeSlot, treeSlotCore, ghostSlot, areaSound}
 use Rattle.area.specs.Close.{allHeard, joinIndex, joinedPart}
 use Rattle.area.specs.Means.{HeaderHolds}
 use Rattle.area.proofs.Soundness.{sound-holds}
@@ -89,13 +90,13 @@ range-bounds : (low end k : ℕ) → inRange low end k ≡ true → (low ≤ k) 
 unfolding inRange
 range-bounds low end k e = (leb-true low k (and-fst (leb low k) (ltb k end) e), ltb-true k end (and-snd (leb low k) (ltb k end) e))
 
--- a part is sound where its header, its length and its records are
-pub part-sound-view : (part table : List ℕ) (rank : ℕ)
+-- for a valid table and a rank of it, a part is sound where its header, its length and its records are
+pub part-sound-view : (part table : List ℕ) (rank : ℕ) → Bytes table → ranksOk table ≡ true → valid table ≡ true → rank < ranks table
     → partSound part table rank
     ≡ (partHeaderSound part table rank && eqb (length part) (partSize (partCount part) (partGhostCount part))
     && viewSound (partFirst part) (partCount part) (partGhostCount part) (globalTree part) (storedGhost part) (partDimension part) (partK part))
 unfolding partSound
-part-sound-view part table rank = refl
+part-sound-view part table rank bytes counted checked below = refl
 
 module _ (a : List ℕ) (b : Bytes a) (sound : areaSound a ≡ true) where
   abbrev part : List ℕ
@@ -328,7 +329,10 @@ module _ (a : List ℕ) (b : Bytes a) (sound : areaSound a ≡ true) where
           (view-same first n g (globalTree part) (treeSlotCore a) (storedGhost part) (ghostSlot a) tree-back stored-ghost (areaDimension a) (areaK a))
 
       sound-is : partSound part (areaNew a) (areaRank a) ≡ joinSound a
-      sound-is = rw (part-sound-view part (areaNew a) (areaRank a), header-sound, length-ok) view-is
+      sound-is =
+          let T : Tables (areaOld a) (areaNew a) = header .tables in
+          let below : areaRank a < ranks (areaNew a) = omega (arith, header .rankBelow, header .ranksAre, T .sameRanks) in
+          rw (part-sound-view part (areaNew a) (areaRank a) (T .newBytes) (T .newRanks) (T .newValid) below, header-sound, length-ok) view-is
 
     -- ---- a sound part
 

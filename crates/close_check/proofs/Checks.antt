@@ -10,8 +10,9 @@ use Rattle.encoding.specs.Refusal.{firstFailed}
 use Rattle.encoding.proofs.Below.{either, all-fails, all-to}
 use Rattle.pattern.specs.Sets.{sendsTo, getsFrom}
 use Rattle.pattern.proofs.Sets.{gets-sends}
+use Rattle.part.specs.Part.{partSound}
 use Rattle.area.specs.Area.{areaP, areaRank, areaOld, areaNew, heard, areaSound}
-use Rattle.area.specs.Close.{allHeard, closeChecks}
+use Rattle.area.specs.Close.{allHeard, joinedPart, closeChecks}
 use Rattle.area.specs.Means.{Tabled}
 use Rattle.close_check.specs.Means.{senderHeard, joinSound}
 use Rattle.close_check.proofs.Reading.{join-sound-part}
@@ -57,10 +58,14 @@ module _ (a : List ℕ) where
     refused-heard e = rw (sound, e)
 
     module _ (all : allHeard a ≡ true) (bytes : Bytes a) where
+      -- check 21 finds what the slots say
+      part-is : {b : Bool} → joinSound a ≡ b → partSound (joinedPart a) (areaNew a) (areaRank a) ≡ b
+      part-is e = sym (join-sound-part a bytes sound all) ∙ e
+
       pub refused-join : joinSound a ≡ false → 21 ≡ firstFailed (closeChecks a)
       unfolding closeChecks firstFailed
-      refused-join e = rw (sound, all, ← join-sound-part a bytes sound all, e)
+      refused-join e = rw (sound, all, part-is e)
 
       pub not-refused : joinSound a ≡ true → 0 ≡ firstFailed (closeChecks a)
       unfolding closeChecks firstFailed
-      not-refused e = rw (sound, all, ← join-sound-part a bytes sound all, e)
+      not-refused e = rw (sound, all, part-is e)

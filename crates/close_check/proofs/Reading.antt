@@ -15,7 +15,7 @@ use Rattle.encoding.proofs.Below.{either, tests, clash, and-fst, and-snd, iff-e
 use Rattle.encoding.proofs.Numbers.{at-bound}
 use Rattle.encoding.proofs.Pieces.{piece-length, piece-same, bytes-piece, length-splice}
 use Rattle.offsets.specs.Limits.{maxTrees}
-use Rattle.offsets.specs.Table.{ranks, firstTree, holds}
+use Rattle.offsets.specs.Table.{ranks, firstTree, holds, ranksOk, valid}
 use Rattle.pattern.specs.Sender.{Tables}
 use Rattle.records.specs.Shape.{faceCount, facesIn}
 use Rattle.records.specs.Record.{coreSize, treeSize, unused, numberOf, shapeOf, neighbourOf}
@@ -89,6 +89,14 @@ or-snd false y e = e
 range-bounds : (low end k : ℕ) → inRange low end k ≡ true → (low ≤ k) × (k < end)
 unfolding inRange
 range-bounds low end k e = (leb-true low k (and-fst (leb low k) (ltb k end) e), ltb-true k end (and-snd (leb low k) (ltb k end) e))
+
+-- for a valid table and a rank of it, a part is sound where its header, its length and its records are
+pub part-sound-view : (part table : List ℕ) (rank : ℕ) → Bytes table → ranksOk table ≡ true → valid table ≡ true → rank < ranks table
+    → partSound part table rank
+    ≡ (partHeaderSound part table rank && eqb (length part) (partSize (partCount part) (partGhostCount part))
+    && viewSound (partFirst part) (partCount part) (partGhostCount part) (globalTree part) (storedGhost part) (partDimension part) (partK part))
+unfolding partLinked
+part-sound-view part table rank bytes counted checked below = part-sound-is part table rank bytes (record { counted = counted; checked = checked; below = below })
 
 module _ (a : List ℕ) (b : Bytes a) (sound : areaSound a ≡ true) where
   abbrev part : List ℕ
@@ -321,12 +329,10 @@ module _ (a : List ℕ) (b : Bytes a) (sound : areaSound a ≡ true) where
           (view-same first n g (globalTree part) (treeSlotCore a) (storedGhost part) (ghostSlot a) tree-back stored-ghost (areaDimension a) (areaK a))
 
       sound-is : partSound part (areaNew a) (areaRank a) ≡ joinSound a
-      unfolding partLinked
       sound-is =
-          let T : Tables (areaOld a) (areaNew a) = sound-tables a b sound in
-          let below : areaRank a < ranks (areaNew a) = rw (T .sameRanks) (sound-rank a b sound) in
-          part-sound-is part (areaNew a) (areaRank a) (T .newBytes) (record { counted = T .newRanks; checked = T .newValid; below = below })
-          ∙ rw (header-sound, length-ok) view-is
+          let T : Tables (areaOld a) (areaNew a) = header .tables in
+          let below : areaRank a < ranks (areaNew a) = omega (arith, header .rankBelow, header .ranksAre, T .sameRanks) in
+          rw (part-sound-view part (areaNew a) (areaRank a) (T .newBytes) (T .newRanks) (T .newValid) below, header-sound, length-ok) view-is
 
     -- ---- a sound part
 

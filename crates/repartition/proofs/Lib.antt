@@ -15,3 +15,4 @@ pub mod AfterList
 pub mod Examples
 pub mod Promises
 pub mod Refusals
+pub mod Regions

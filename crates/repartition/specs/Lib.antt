@@ -6,3 +6,4 @@ pub mod AfterList
 pub mod Promises
 pub mod Refusals
 pub mod Examples
+pub mod Regions

@@ -26,6 +26,7 @@ use Rattle.records.proofs.Forms.{at-piece}
 use Rattle.mesh.specs.Mesh.{meshHeader, meshDimension, meshTrees, meshCore, meshRecord}
 use Rattle.part.specs.Ghosts.{isGhost, ghostsOf, ghostPosition}
 use Rattle.part.specs.Cut.{renameRow, renamed, localIndex, partTree, partTrees, partGhosts, ghostCount, cutPart}
+use Rattle.part.proofs.Ghosts.{ghosts-none, ghosts-next}
 use Rattle.part.specs.Part.{partDimension, partK, partFirst, partCount, partGhostCount, globalTree, storedGhost}
 use Rattle.part.specs.Means.{viewSound}
 use Rattle.part_cut.proofs.Cutting.{Cuttable, cores-length}
@@ -138,9 +139,10 @@ module _ (run : Run) (S : Setting run) where
       core-there i h = reads .at-core i h ∙ rw (tree-heard i h) (record-core run (first + i))
 
       ghosts-there : (k : ℕ) → ghostsHeard run H k ≡ partGhosts (run .mesh) (run .new) (run .rank) k
-      unfolding ghostsHeard partGhosts
-      ghosts-there zero = refl
-      ghosts-there (suc k) = ap₂ (λ (x : List ℕ) (b : Bool). x ++ cond b (meshCore (run .mesh) k) []) (ghosts-there k) (ghost-there k)
+      unfolding ghostsHeard
+      ghosts-there zero = sym (ghosts-none (run .mesh) (run .new) (run .rank))
+      ghosts-there (suc k) =
+          ap₂ (λ (x : List ℕ) (b : Bool). x ++ cond b (meshCore (run .mesh) k) []) (ghosts-there k) (ghost-there k) ∙ sym (ghosts-next (run .mesh) (run .new) (run .rank) k)
 
       many : g ≡ ghostCount (run .mesh) (run .new) (run .rank)
       unfolding ghostCount ghostPosition

@@ -1,12 +1,12 @@
 -- Laws of the ghosts of a rank.
-use Prim.Native.Nat.{ℕ, _<_}
+use Prim.Native.Nat.{ℕ, suc, _<_}
 use mathlib.Core.Path.{_≡_, refl, sym, ap, _∙_}
-use mathlib.Core.Bool.{Bool, true, not, _&&_}
-use mathlib.Core.List.{List}
+use mathlib.Core.Bool.{Bool, true, false, cond, not, _&&_}
+use mathlib.Core.List.{List, [], _∷_, _++_, append-nil, append-assoc}
 use lib.Dec.{ltb, eqb}
 use lib.ListN.{getD}
 use borrow.Author.Tests.{ltb-true, eqb-true, eq-eqb}
-use Rattle.encoding.specs.Below.{anyBelow, member}
+use Rattle.encoding.specs.Below.{anyBelow, keptBelow, member}
 use Rattle.encoding.proofs.Below.{either, and-fst, and-snd, and-intro, iff-eq, any-at, any-intro, kept-member, kept-at, kept-found, kept-ascends}
 use Rattle.offsets.specs.Table.{holds}
 use Rattle.records.specs.Shape.{faceCount}
@@ -14,6 +14,35 @@ use Rattle.records.specs.Record.{shapeOf, neighbourOf}
 use Rattle.mesh.specs.Mesh.{meshTrees, meshCore, meshSound, faceNeighbour}
 use Rattle.mesh.proofs.Soundness.{neighbour-below, neighbours-both}
 use Rattle.part.specs.Ghosts.{isGhost, ghostsOf, ghostPosition, besideRank}
+use Rattle.part.specs.Cut.{coresOf, partGhosts}
+
+-- ---- the cores of the ghosts, made from their list
+
+module _ (core : ℕ → List ℕ) where
+  cores-append : (xs ys : List ℕ) → coresOf core (xs ++ ys) ≡ coresOf core xs ++ coresOf core ys
+  unfolding coresOf
+  cores-append [] ys = refl
+  cores-append (k ∷ ks) ys = ap (λ (r : List ℕ). core k ++ r) (cores-append ks ys) ∙ sym (append-assoc (core k) (coresOf core ks) (coresOf core ys))
+
+  cores-one : (b : Bool) (k : ℕ) → coresOf core (cond b (k ∷ []) []) ≡ cond b (core k) []
+  unfolding coresOf
+  cores-one true k = append-nil (core k)
+  cores-one false k = refl
+
+module _ (mesh table : List ℕ) (rank : ℕ) where
+  -- none below 0
+  pub ghosts-none : partGhosts mesh table rank 0 ≡ []
+  unfolding partGhosts ghostsOf keptBelow coresOf
+  ghosts-none = refl
+
+  -- below k + 1 there is k too, if it is one
+  pub ghosts-next : (k : ℕ) → partGhosts mesh table rank (suc k) ≡ partGhosts mesh table rank k ++ cond (isGhost (meshCore mesh) table rank k) (meshCore mesh k) []
+  unfolding partGhosts ghostsOf keptBelow
+  ghosts-next k =
+      cores-append (meshCore mesh) (keptBelow k (isGhost (meshCore mesh) table rank)) (cond (isGhost (meshCore mesh) table rank k) (k ∷ []) [])
+      ∙ ap (λ (r : List ℕ). coresOf (meshCore mesh) (keptBelow k (isGhost (meshCore mesh) table rank)) ++ r) (cores-one (meshCore mesh) (isGhost (meshCore mesh) table rank k) k)
+
+-- ---- the list
 
 module _ (core : ℕ → List ℕ) (table : List ℕ) (rank : ℕ) where
   -- the list has the ghosts below K and nothing else

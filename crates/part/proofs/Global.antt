@@ -10,7 +10,7 @@ use Rattle.encoding.specs.Pieces.{Bytes}
 use Rattle.encoding.proofs.Below.{either}
 use Rattle.encoding.proofs.Pieces.{piece-length, bytes-piece}
 use Rattle.records.specs.Shape.{facesIn}
-use Rattle.records.specs.Record.{coreSize, unused, numberOf, shapeOf, neighbourOf, codeOf, facesOf, faceOf, orientationOf, zerosOk, regionOf}
+use Rattle.records.specs.Record.{coreSize, unused, numberOf, shapeOf, neighbourOf, codeOf, facesOf, faceOf, orientationOf, zerosOk, regionOf, regionOk}
 use Rattle.records.specs.Links.{cell, rowOf, rowsOf}
 use Rattle.records.proofs.Forms.{number-word}
 use Rattle.records.proofs.Rows.{with-number, with-shape, with-zeros, with-region, with-neighbour, with-code}
@@ -34,6 +34,10 @@ module _ {r s : List ℕ} (same : Alike r s) where
   alike-faces : facesOf r ≡ facesOf s
   unfolding facesOf
   alike-faces = rw (same .shape)
+
+  pub alike-region : regionOk r ≡ regionOk s
+  unfolding regionOk
+  alike-region = rw (same .region)
 
   pub alike-face : (f : ℕ) → f < 6 → faceOf r f ≡ faceOf s f
   unfolding faceOf

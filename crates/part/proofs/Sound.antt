@@ -17,7 +17,7 @@ use Rattle.offsets.specs.Table.{ranks, trees, firstTree, treeCount}
 use Rattle.offsets.proofs.Tables.{count-add, end-trees, trees-high}
 use Rattle.records.specs.Shape.{shapeOk, dimensionOf, faceCount, facesIn}
 use Rattle.records.specs.Record.{coreSize, unused, numberOf, shapeOf, neighbourOf, codeOf, faceOf, orientationOf, zerosOk, unusedOk, toItself, boundaryOk, inForm}
-use Rattle.records.proofs.Forms.{form-shape, form-zeros, form-used, form-unused, form-intro, boundary-zero, unused-neighbour, unused-code}
+use Rattle.records.proofs.Forms.{form-shape, form-zeros, form-region, form-used, form-unused, form-intro, boundary-zero, unused-neighbour, unused-code}
 use Rattle.records.proofs.Shapes.{count-six}
 use Rattle.mesh.specs.Link.{orientationOk, linkOk}
 use Rattle.mesh.specs.Mesh.{dimensionOk, faceNeighbour}
@@ -26,7 +26,7 @@ use Rattle.part.specs.Layout.{treePlace, partSize}
 use Rattle.part.specs.View.{View, localIn, ghostlyIn, heldIn, coreIn, treeInForm, ghostAscends, ghostInForm, besideTree, ghostNear, neighboursGhostly, ghostsExact, linkRule, linksObey, linksFar, linksHold, recordsHold}
 use Rattle.part.specs.Part.{noTree, partDimension, partK, partFirst, partCount, partGhostCount, storedTree, storedGhost, globalIndex, globalTree, viewOf, partHeaderSound, partSound}
 use Rattle.part.specs.Means.{RankKnown, isLocal, ghostIs, held, heldCore, ghostLink, ghostAfter, ghostBeside, viewSound, partLinked}
-use Rattle.part.proofs.Global.{Alike, alike-face, alike-orientation, renamed-alike, renamed-neighbour}
+use Rattle.part.proofs.Global.{Alike, alike-face, alike-region, alike-orientation, renamed-alike, renamed-neighbour}
 use Rattle.part.proofs.Views.{TreeView, GhostView, tree-link-held, tree-link-make, view-make, view-trees, view-ghosts, local-at, local-held, ghost-at-held, core-tree, core-ghost, view-form, view-link, view-far, view-beside}
 
 -- ---- tests
@@ -278,7 +278,7 @@ module _ (v : View) where
           let t = s .tree i h in
           let c = core-local i h in
           record {
-            form = form-intro (v .first + i) (v .tree i) (rw (a .shape) (form-shape i (v .stored i) (t .form))) (rw (a .zeros) (form-zeros i (v .stored i) (t .form)))
+            form = form-intro (v .first + i) (v .tree i) (rw (a .shape) (form-shape i (v .stored i) (t .form))) (rw (a .zeros) (form-zeros i (v .stored i) (t .form))) (alike-region a ∙ form-region i (v .stored i) (t .form))
                 (λ f l. rw c at (rule-local i h f l .1))
                 (λ f l m.
                 let u : unusedOk (v .stored i) f ≡ true = form-unused i (v .stored i) (t .form) f (rw (a .shape) at l) m in
@@ -355,7 +355,7 @@ module _ (v : View) where
           let a = alike i h in
           let t = tree-at i h in
           record {
-            form = form-intro i (v .stored i) (rw (a .shape) at (form-shape (v .first + i) (v .tree i) (t .form))) (rw (a .zeros) at (form-zeros (v .first + i) (v .tree i) (t .form)))
+            form = form-intro i (v .stored i) (rw (a .shape) at (form-shape (v .first + i) (v .tree i) (t .form))) (rw (a .zeros) at (form-zeros (v .first + i) (v .tree i) (t .form))) (sym (alike-region a) ∙ form-region (v .first + i) (v .tree i) (t .form))
                 (λ f l.
                 let six : f < 6 = omega (arith, count-six (shapeOf (v .stored i))) in
                 boundary-make i (v .stored i) f (λ p q.

@@ -9,7 +9,7 @@ use Rattle.records.specs.Links.{rowsOf, withRows}
 use Rattle.records.specs.Shape.{facesIn}
 use Rattle.mesh.specs.Mesh.{meshDimension, meshTrees, meshCore, meshRecord}
 use Rattle.part.specs.Layout.{headerBytes}
-use Rattle.part.specs.Ghosts.{isGhost, ghostPosition}
+use Rattle.part.specs.Ghosts.{ghostsOf, ghostPosition}
 
 -- a row of a record with another neighbour
 unfoldable pub renameRow : (ℕ → ℕ) → List ℕ → List ℕ
@@ -19,6 +19,11 @@ renameRow rename (n ∷ rest) = rename n ∷ rest
 -- a record with its neighbours renamed; every other byte stays
 unfoldable pub renamed : (ℕ → ℕ) → ℕ → List ℕ → List ℕ
 renamed rename F r = withRows (map (renameRow rename) (rowsOf r F)) F r
+
+-- the cores of the trees of a list, one behind the other
+unfoldable pub coresOf : (ℕ → List ℕ) → List ℕ → List ℕ
+coresOf core [] = []
+coresOf core (k ∷ ks) = core k ++ coresOf core ks
 
 module _ (mesh table : List ℕ) (rank : ℕ) where
   -- the local index of a neighbour: below n the local tree, else n plus the ghost's position; unused stays
@@ -37,8 +42,7 @@ module _ (mesh table : List ℕ) (rank : ℕ) where
 
   -- the cores of the ghosts below K, ascending
   unfoldable pub partGhosts : ℕ → List ℕ
-  partGhosts zero = []
-  partGhosts (suc k) = partGhosts k ++ cond (isGhost (meshCore mesh) table rank k) (meshCore mesh k) []
+  partGhosts K = coresOf (meshCore mesh) (ghostsOf (meshCore mesh) table rank K)
 
   -- how many ghosts there are
   unfoldable pub ghostCount : ℕ

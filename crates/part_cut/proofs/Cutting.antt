@@ -23,6 +23,7 @@ use Rattle.mesh.proofs.Soundness.{sound-length, sound-fits, sound-core}
 use Rattle.part.specs.Layout.{partSize}
 use Rattle.part.specs.Ghosts.{isGhost, ghostPosition}
 use Rattle.part.specs.Cut.{renamed, partTree, partTrees, partGhosts, ghostCount, cutPart}
+use Rattle.part.proofs.Ghosts.{ghosts-none, ghosts-next}
 use Rattle.part.specs.Checks.{rankChecks}
 use Rattle.part_cut.specs.Calls.{cutChecks, partLengthOf}
 use Rattle.part.specs.Means.{ghostIn}
@@ -89,9 +90,9 @@ module _ (mesh table : List ℕ) (rank : ℕ) (sound : meshSound mesh ≡ true) 
   core-length false k h = refl
 
   pub cores-length : (k : ℕ) → k ≤ meshTrees mesh → length (partGhosts mesh table rank k) ≡ coreSize * ghostPosition (meshCore mesh) table rank k
-  unfolding partGhosts ghostPosition countBelow
-  cores-length zero h = refl
-  cores-length (suc k) h = rw (length-append, cores-length k (omega arith), core-length (isGhost (meshCore mesh) table rank k) k (omega arith)) (omega arith)
+  unfolding ghostPosition countBelow
+  cores-length zero h = rw (ghosts-none mesh table rank)
+  cores-length (suc k) h = rw (ghosts-next mesh table rank k, length-append, cores-length k (omega arith), core-length (isGhost (meshCore mesh) table rank k) k (omega arith)) (omega arith)
 
   -- the length of the part
   pub cut-length : firstTree table rank ≤ endTree table rank → endTree table rank ≤ meshTrees mesh

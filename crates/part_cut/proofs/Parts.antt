@@ -25,6 +25,7 @@ use Rattle.mesh.proofs.Soundness.{sound-number, sound-form, neighbour-below}
 use Rattle.part.specs.Layout.{partHeader, headerBytes}
 use Rattle.part.specs.Ghosts.{isGhost, ghostPosition}
 use Rattle.part.specs.Cut.{renamed, renameRow, localIndex, partTree, partTrees, partGhosts, ghostCount, cutPart}
+use Rattle.part.proofs.Ghosts.{ghosts-none, ghosts-next}
 use Rattle.part.specs.Means.{inRange, ghostIn, numberAt, smaller}
 use Rattle.part_cut.specs.Means.{ghostCores, Held, localRead, treesWith, TreesRoom, PartRoom, partWith}
 use Rattle.part.specs.Checks.{rankChecks}
@@ -193,9 +194,9 @@ module _ (mesh : List ℕ) (sound : meshSound mesh ≡ true) where
     count-is n = count-same n (ghostIn (meshCore mesh) first end) (isGhost (meshCore mesh) table rank) (λ k h. sym (ghost-read (meshCore mesh) table rank k))
 
     ghosts-are : (k : ℕ) → ghostCores (meshCore mesh) first end k ≡ partGhosts mesh table rank k
-    unfolding ghostCores partGhosts
-    ghosts-are zero = refl
-    ghosts-are (suc k) = rw (ghosts-are k, ghost-read (meshCore mesh) table rank k)
+    unfolding ghostCores
+    ghosts-are zero = sym (ghosts-none mesh table rank)
+    ghosts-are (suc k) = rw (ghosts-next mesh table rank k, ghosts-are k, ghost-read (meshCore mesh) table rank k)
 
     module _ (out : List ℕ) (at count : ℕ) (part : PartRoom mesh (meshTrees mesh) first end out at count) where
       abbrev ghostly : List ℕ

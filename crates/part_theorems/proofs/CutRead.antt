@@ -29,7 +29,7 @@ use Rattle.part.specs.Cut.{renamed, renameRow, localIndex, partTree, partTrees,
 use Rattle.part.specs.Part.{partDimension, partK, partFirst, partCount, partGhostCount, storedTree, storedGhost}
 use Rattle.part_cut.proofs.Cutting.{Cuttable, CutFits, tree-length, trees-length, cores-length}
 use Rattle.part.proofs.Records.{links-length, header-length, rows-core}
-use Rattle.part.proofs.Ghosts.{ghost-at}
+use Rattle.part.proofs.Ghosts.{ghosts-next, ghost-at}
 
 -- ---- pieces of two lists
 
@@ -171,7 +171,7 @@ module _ (mesh table : List ℕ) (rank : ℕ) (sound : meshSound mesh ≡ true) 
 
   -- ghost j of those below k
   cores-at : (k : ℕ) → k ≤ meshTrees mesh → (j : ℕ) → j < countBelow k ghost → piece (partGhosts mesh table rank k) (coreSize * j) coreSize ≡ meshCore mesh (getD (keptBelow k ghost) j 0)
-  unfolding partGhosts countBelow keptBelow
+  unfolding countBelow keptBelow
   cores-at zero h j l = absurd (omega arith)
   cores-at (suc k) h j l =
       let G : List ℕ = partGhosts mesh table rank k in
@@ -180,12 +180,12 @@ module _ (mesh table : List ℕ) (rank : ℕ) (sound : meshSound mesh ≡ true) 
       let lK : length (keptBelow k ghost) ≡ n = kept-length k ghost in
       either (ghost k)
       (λ t. let l' : j < n + 1 = rw t at l in
-      rw t
+      rw (ghosts-next mesh table rank k, t)
       (below-suc j n (omega arith)
       (λ p. piece-before G (meshCore mesh k) (coreSize * j) coreSize (omega arith) ∙ cores-at k (omega arith) j p ∙ ap (meshCore mesh) (sym (List·getD-append (keptBelow k ghost) (k ∷ []) 0 j (omega arith))))
       (λ q. piece-last G (meshCore mesh k) (coreSize * j) coreSize (rw q lG) (sound-core mesh sound k (omega arith)) ∙ ap (meshCore mesh) (sym (getD-at (keptBelow k ghost) k [] 0 j (omega arith))))))
       (λ t. let l' : j < n = omega (arith, rw t at l) in
-      rw (t, append-nil (partGhosts mesh table rank k), append-nil (keptBelow k ghost)) (cores-at k (omega arith) j l'))
+      rw (ghosts-next mesh table rank k, t, append-nil (partGhosts mesh table rank k), append-nil (keptBelow k ghost)) (cores-at k (omega arith) j l'))
 
 -- ---- the theorems
 

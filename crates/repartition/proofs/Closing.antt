@@ -27,6 +27,7 @@ use Rattle.mesh.specs.Mesh.{meshHeader, meshDimension, meshTrees, meshCore, mes
 use Rattle.part.specs.Ghosts.{isGhost, ghostPosition}
 use Rattle.part.specs.Cut.{renameRow, renamed, localIndex, partTree, partTrees, partGhosts, ghostCount, cutPart}
 use Rattle.part.specs.Part.{partSound}
+use Rattle.part.proofs.Ghosts.{ghosts-none, ghosts-next}
 use Rattle.part_cut.proofs.Cutting.{Cuttable, cores-length}
 use Rattle.part_theorems.proofs.CutSound.{neighbour-cases, range-local, cut-sound}
 use Rattle.message.specs.Rule.{ghostSender}
@@ -130,9 +131,10 @@ module _ (run : Run) (S : Setting run) where
       slot-there i h = reads .at-slot i h ∙ rw (tree-heard i h)
 
       ghosts-there : (k : ℕ) → ghostsHeard run H k ≡ partGhosts (run .mesh) (run .new) (run .rank) k
-      unfolding ghostsHeard partGhosts
-      ghosts-there zero = refl
-      ghosts-there (suc k) = ap₂ (λ (x : List ℕ) (b : Bool). x ++ cond b (meshCore (run .mesh) k) []) (ghosts-there k) (ghost-there k)
+      unfolding ghostsHeard
+      ghosts-there zero = sym (ghosts-none (run .mesh) (run .new) (run .rank))
+      ghosts-there (suc k) =
+          ap₂ (λ (x : List ℕ) (b : Bool). x ++ cond b (meshCore (run .mesh) k) []) (ghosts-there k) (ghost-there k) ∙ sym (ghosts-next (run .mesh) (run .new) (run .rank) k)
 
       many : g ≡ ghostCount (run .mesh) (run .new) (run .rank)
       unfolding ghostCount ghostPosition

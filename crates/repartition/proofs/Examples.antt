@@ -8,7 +8,7 @@ use lib.Dec.{leb, ltb, eqb}
 use lib.ListN.{length, getD, replicate, List·getD-eq-default}
 use borrow.Author.Tests.{ltb-true, leb-true}
 use Rattle.encoding.specs.Answer.{lengthAnswer, written, writeAnswer}
-use Rattle.encoding.specs.Below.{allBelow, anyBelow, countBelow, leastBelow, sumBelow}
+use Rattle.encoding.specs.Below.{allBelow, anyBelow, countBelow, keptBelow, leastBelow, sumBelow}
 use Rattle.encoding.specs.Numbers.{leValue, leBytes, leAt}
 use Rattle.encoding.specs.Pieces.{piece, splice, Bytes}
 use Rattle.encoding.specs.Refusal.{check, firstFailed}
@@ -29,8 +29,8 @@ use Rattle.records.specs.Links.{rowOf, rowsOf, neighbourBytes, codeBytes, withR
 use Rattle.mesh.specs.Link.{orientationOk, sameCorners, answered, linkOk}
 use Rattle.mesh.specs.Mesh.{meshDimension, meshTrees, dimensionOk, meshCore, meshRecord, faceSound, treeSound, headerSound, meshSound, meshRefusal}
 use Rattle.part.specs.Layout.{headerBytes}
-use Rattle.part.specs.Ghosts.{isGhost, ghostPosition}
-use Rattle.part.specs.Cut.{renameRow, renamed, localIndex, partTree, partTrees, partGhosts, ghostCount, cutPart}
+use Rattle.part.specs.Ghosts.{isGhost, ghostsOf, ghostPosition}
+use Rattle.part.specs.Cut.{renameRow, renamed, localIndex, partTree, partTrees, coresOf, partGhosts, ghostCount, cutPart}
 use Rattle.part.specs.Checks.{rankChecks}
 use Rattle.part_cut.specs.Calls.{cutChecks, cutPartOf}
 use Rattle.message.specs.Layout.{messageHeaderBytes}
@@ -73,7 +73,7 @@ unfolding meshRefusal firstFailed
 the-refusals = (rw (the-meshes .0), rw (the-meshes .1), rw (the-meshes .2))
 
 the-parts : (cutPart triangles newThree 2 ≡ partTwo) × (cutPart triangles newThree 1 ≡ partOne)
-unfolding cutPart headerBytes partTrees partTree partGhosts ghostCount ghostPosition localIndex renamed renameRow rowOf rowsOf neighbourBytes codeBytes withRows isGhost meshDimension meshTrees meshCore meshRecord faceCount facesIn numberOf shapeOf neighbourOf codeOf treeCount holds firstTree endTree firstOf magnitude negative trees ranks entry anyBelow countBelow splice leAt piece leValue tableBytes leBytes words coreBytes treeBytes triangle three triangles newThree partTwo partOne
+unfolding cutPart headerBytes partTrees partTree partGhosts coresOf ghostsOf keptBelow ghostCount ghostPosition localIndex renamed renameRow rowOf rowsOf neighbourBytes codeBytes withRows isGhost meshDimension meshTrees meshCore meshRecord faceCount facesIn numberOf shapeOf neighbourOf codeOf treeCount holds firstTree endTree firstOf magnitude negative trees ranks entry anyBelow countBelow splice leAt piece leValue tableBytes leBytes words coreBytes treeBytes triangle three triangles newThree partTwo partOne
 the-parts = (refl, refl)
 
 part-answer : writeAnswer (firstFailed (check (ranksOk newThree) 2 ∷ check (valid newThree) 3 ∷ check (ltb 2 (ranks newThree)) 5 ∷ check (true && eqb (meshTrees triangles) (trees newThree)) 7
@@ -236,7 +236,7 @@ same-heard s =
 
 -- what the calls alone say
 seven-due : dueAll runOne nobody sevenCalls ≡ sevenAnswers
-unfolding runOne sevenCalls sevenAnswers dueAll due hears nobody allDue getsFrom sender nearest distance writeAnswer lengthAnswer written allBelow leastBelow oldThree cutPart headerBytes partTrees partTree partGhosts ghostCount ghostPosition localIndex renamed renameRow rowOf rowsOf neighbourBytes codeBytes withRows isGhost meshDimension meshTrees meshCore meshRecord faceCount facesIn numberOf shapeOf neighbourOf codeOf treeCount holds firstTree endTree firstOf magnitude negative trees ranks entry anyBelow countBelow splice leAt piece leValue tableBytes leBytes words coreBytes treeBytes triangle three triangles newThree partOne
+unfolding runOne sevenCalls sevenAnswers dueAll due hears nobody allDue getsFrom sender nearest distance writeAnswer lengthAnswer written allBelow leastBelow oldThree cutPart headerBytes partTrees partTree partGhosts coresOf ghostsOf keptBelow ghostCount ghostPosition localIndex renamed renameRow rowOf rowsOf neighbourBytes codeBytes withRows isGhost meshDimension meshTrees meshCore meshRecord faceCount facesIn numberOf shapeOf neighbourOf codeOf treeCount holds firstTree endTree firstOf magnitude negative trees ranks entry anyBelow countBelow splice leAt piece leValue tableBytes leBytes words coreBytes treeBytes triangle three triangles newThree partOne
 seven-due = refl
 
 -- the seven answers, and the same area in the other order

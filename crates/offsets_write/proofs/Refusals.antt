@@ -1,18 +1,18 @@
 -- Ranges are refused exactly where they have no table.
 use Prim.Native.Nat.{ℕ}
 use native.Mathlib.Omega.{arith}
-use mathlib.Core.Path.{_≡_, refl, sym, ap, _∙_}
-use mathlib.Core.Bool.{Bool, true, false, cond, _&&_}
+use mathlib.Core.Path.{_≡_, refl}
+use mathlib.Core.Bool.{Bool, true, false, cond}
 use mathlib.Core.List.{List, []}
 use lib.Dec.{leb, eqb}
 use lib.ListN.{length}
-use borrow.Author.Tests.{eqb-true, eq-eqb}
+use borrow.Author.Tests.{eq-eqb}
 use Rattle.encoding.specs.Answer.{lengthAnswer, written, writeAnswer}
 use Rattle.encoding.specs.Refusal.{firstFailed}
-use Rattle.encoding.proofs.Below.{either, clash, and-fst, and-snd, and-intro}
+use Rattle.encoding.proofs.Below.{either, and-fst, and-snd, and-intro}
 use Rattle.offsets.specs.Limits.{rankCountOk, treeCountOk}
-use Rattle.offsets.specs.Table.{tableLength, ranks, trees, entry, valid, entriesWithin, countsOk}
-use Rattle.offsets_write.specs.Partition.{validPartition, endBelow, rangesFit, tableOf, IsTable}
+use Rattle.offsets.specs.Table.{tableLength, trees, entry, valid, entriesWithin, countsOk}
+use Rattle.offsets_write.specs.Partition.{validPartition, endBelow, rangesFit, tableOf}
 use Rattle.offsets_write.specs.Calls.{each, partitionOk, writeRefusal, writeTable}
 use Rattle.offsets_write.specs.Promises.{TableOfLists, NoTable, SixMeans, TableWritten}
 use Rattle.offsets_write.proofs.Partitions.{trees-are, table-of, table-unique, table-fits, lists-sized}

@@ -1,8 +1,7 @@
 -- What the two calls answer for every text.
-use Prim.Native.Nat.{ℕ, _≤_}
-use native.Mathlib.Omega.{arith}
+use Prim.Native.Nat.{ℕ}
 use mathlib.Core.Path.{_≡_, refl, sym, ap, _∙_}
-use mathlib.Core.Bool.{Bool, true, false, cond}
+use mathlib.Core.Bool.{true, false, cond}
 use mathlib.Core.List.{List, [], _∷_, _++_}
 use lib.Dec.{leb}
 use lib.ListN.{length}
@@ -14,7 +13,7 @@ use Rattle.plan_read.specs.Means.{Parsed, formOk, parse}
 use Rattle.plan_read.proofs.Grammar.{form-exact, parse-render}
 use Rattle.plan_write.specs.Moves.{refusedWord, lineText}
 use Rattle.plan_text.specs.Plan.{inputChecks, inputRefusal, inputMoves, inputOutput, planRefusal, planMoves, planAnswer, planOutput, planOutputAnswer}
-use Rattle.plan_text.specs.Promises.{outputRoom, TextOf, PlanTexts}
+use Rattle.plan_text.specs.Promises.{TextOf, PlanTexts}
 use Rattle.plan_text.proofs.Answers.{plan-unformed, plan-written}
 
 module _ (P : ℕ) (old new : List ℕ) (i : TextOf P old new) where

@@ -18,7 +18,7 @@ use Rattle.pattern.proofs.Sets.{send-member, send-length, send-ascends, one-ran
 use Rattle.plan_read.specs.Text.{ranksWord}
 use Rattle.plan_write.specs.Moves.{treesWord, messagesWord, lineText, moveText, movesFrom, movesText, moveCount, movesOutput}
 use Rattle.plan_write.specs.Pairs.{listed, earlier, pairsOf, movePairs, moveLines}
-use Rattle.plan_write.specs.Promises.{MovesPrinted, PlanMoves}
+use Rattle.plan_write.specs.Promises.{PlanMoves}
 
 -- ---- the moves: exactly the pairs of a sender and a receiver with a tree to move, each once, by sender and then receiver
 

@@ -14,6 +14,7 @@ ghost use Rattle.part_neighbour.specs.Calls.{neighbourAnswer};
 ghost use Rattle.lookup.specs.Lookup.{foundRecord};
 ghost use Rattle.part_neighbour.specs.Neighbour.{flatAnswer};
 ghost use Rattle.pattern.specs.Calls.{senderOf, treesSent, sendSetOf, receiveSetOf};
+ghost use Rattle.regions.specs.Calls.{regionCountsOf};
 use area_open::Progress;
 use encoding::answer::Length;
 use lookup::Found;
@@ -241,4 +242,11 @@ pub extern "C" fn vejgodat_close_area(area: &[u8], out: &mut [u8]) -> Length
     ensures { λ r. ⌜ (r, now (out .exit)) ≡ closeOf (now (area .entry)) (now (out .entry)) ⌝ }
 {
     close::close_area(area, out)
+}
+
+#[no_mangle]
+pub extern "C" fn vejgodat_region_counts(part: &[u8], table: &[u8], rank: u32, out: &mut [u32]) -> u32
+    ensures { λ r. ⌜ (r, now (out .exit)) ≡ regionCountsOf (now (part .entry)) (now (table .entry)) rank (now (out .entry)) ⌝ }
+{
+    regions::region_counts(part, table, rank, out)
 }

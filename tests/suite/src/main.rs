@@ -44,6 +44,7 @@ groups! {
     part
     message
     area
+    regions
     refusals
 }
 

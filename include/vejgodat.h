@@ -49,7 +49,7 @@
  *     at 5   3 bytes      zero
  *     at 8   uint32_t[6]  the neighbour's number, for each face
  *     at 32  uint8_t[6]   the face code, for each face
- *     at 38  2 bytes      zero
+ *     at 38  uint16_t     the region, below 4,096; 0 for none
  *     at 40  24 bytes     tree data
  *
  * The shapes, their faces and the corners of these:
@@ -71,7 +71,8 @@
  * length is 8 + 64 K, and of each record
  *
  *  - the number is the record's place, from 0;
- *  - the shape is one of the dimension, and the bytes that are to be zero are;
+ *  - the shape is one of the dimension, the bytes that are to be zero are, and
+ *    the region is below 4,096;
  *  - the faces that the shape doesn't have are marked as above;
  *  - every other face has an orientation below the number of its corners, and
  *    meets a face of a tree below K that has as many corners, and whose own
@@ -120,8 +121,8 @@
  *  - tree i has the number first tree + i; the ghosts' numbers ascend strictly
  *    and are below K and outside f(p);
  *  - each record has a shape of the dimension, its bytes that are to be zero
- *    are, the faces that the shape doesn't have are marked so, and a face that
- *    meets itself has orientation 0;
+ *    are, its region is below 4,096, the faces that the shape doesn't have are
+ *    marked so, and a face that meets itself has orientation 0;
  *  - every face that a tree's shape has meets a tree or a ghost of the part,
  *    and every ghost meets a tree of it: the ghosts are exactly those of p;
  *  - a link between two records of the part, or from one to itself, is as in a
@@ -158,9 +159,9 @@
  *
  *  - the dimension is 2 or 3 and the length is 32 + 64 n + 40 g;
  *  - each record has a shape of the dimension, its bytes that are to be zero
- *    are, the faces that the shape doesn't have are marked so, a face that
- *    meets itself has orientation 0, and the neighbours at all faces that the
- *    shape has are below the message's K;
+ *    are, its region is below 4,096, the faces that the shape doesn't have are
+ *    marked so, a face that meets itself has orientation 0, and the neighbours
+ *    at all faces that the shape has are below the message's K;
  *  - the numbers of the trees ascend strictly, and so do those of the ghosts.
  *
  * Nothing else plays a part in this: not P, the ranks, the limits of K, whether
@@ -214,8 +215,8 @@
  *    and ascend strictly; every other ghost slot is zero.
  *
  * A record is in form if its shape is one of the six, its bytes that are to be
- * zero are, the faces that the shape doesn't have are marked so, and a face that
- * meets itself has orientation 0. The area's dimension plays no part in this: F
+ * zero are, its region is below 4,096, the faces that the shape doesn't have are
+ * marked so, and a face that meets itself has orientation 0. The area's dimension plays no part in this: F
  * is that of the record's own shape. So a boundary with an orientation makes an
  * area unsound (10), while a slot with a shape of the other dimension doesn't,
  * and the close refuses it (21).
@@ -1351,6 +1352,50 @@ vejgodat_count      vejgodat_leaf_counts (const uint32_t * shapes,
                                           const uint8_t * bits,
                                           size_t bits_len,
                                           uint32_t * out, size_t out_len);
+
+/** @} */
+
+/** \name Regions
+ *
+ * Each core record has a region number at byte 38, 0 for none, up to 4,095; a
+ * record with a higher one makes its mesh, part, message or area unsound (7, 8,
+ * 10, 11). Linked trees may have different regions. Trees and ghosts keep their
+ * regions when a part is cut out, sent, delivered and closed. Before this
+ * release the two bytes had to be zero, so older bytes have region 0 throughout.
+ * @{
+ */
+
+/** The number of regions: a region is below it. */
+#define VEJGODAT_REGIONS 4096
+
+/** Count the trees of each region of a part.
+ *
+ * Entry b of \a out becomes the number of local trees of the part with region
+ * b; the \ref VEJGODAT_REGIONS entries sum to n. Ghosts aren't counted.
+ *
+ * Checks, in this order: those of \ref vejgodat_check_table (2, 3);
+ * \ref VEJGODAT_INDEX (5) if \a rank is not below P; \ref VEJGODAT_PART (8) if
+ * the part isn't sound; \ref VEJGODAT_BUFFER (22) if \a out_len is below
+ * \ref VEJGODAT_REGIONS, whatever n is.
+ * Cost: that of \ref vejgodat_check_part, and one pass over the trees.
+ *
+ * \param [in] part       Any bytes. Not changed.
+ * \param [in] part_len   The number of its bytes.
+ * \param [in] table      Any bytes. Not changed.
+ * \param [in] table_len  The number of its bytes.
+ * \param [in] rank       A rank; any number.
+ * \param [out] out       Its first \ref VEJGODAT_REGIONS entries become the
+ *                        counts by ascending region; the entries behind them
+ *                        stay. When refused, all of them stay.
+ * \param [in] out_len    The number of entries of \a out.
+ * \return                0, or the refusal.
+ */
+uint32_t            vejgodat_region_counts (const uint8_t * part,
+                                            size_t part_len,
+                                            const uint8_t * table,
+                                            size_t table_len, uint32_t rank,
+                                            uint32_t * out, size_t out_len)
+  VEJGODAT_USE_RESULT;
 
 /** @} */
 

@@ -155,7 +155,7 @@ fn sound<const F: u8, const LOW: u32, const HIGH: u32>(records: &[[u8; 64]]) -> 
     for (k, record) in records.iter().enumerate() {
         // the shape and the zeros behind it are one number
         let shape = number(record, 4);
-        if number(record, 0) != k as u32 || !(LOW..=HIGH).contains(&shape) || record[38] | record[39] != 0 {
+        if number(record, 0) != k as u32 || !(LOW..=HIGH).contains(&shape) || record[39] > 15 {
             return false;
         }
         let corners = &CORNERS[shape as usize];

@@ -153,7 +153,7 @@ fn sound<const F: u8, const LOW: u32, const HIGH: u32>(part: &[u8], trees: u32, 
     let form = |record: &[u8]| {
         let shape = number(record, 4);
         (LOW..=HIGH).contains(&shape)
-            && record[38] | record[39] == 0
+            && record[39] < 16
             && (FACES[shape as usize]..6).all(|face| number(record, 8 + 4 * face) == u32::MAX && record[32 + face] == 0)
     };
     let corners_of = |record: &[u8], face: usize| CORNERS.get(record[4] as usize).map_or(0, |corners| corners[face]);

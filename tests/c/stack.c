@@ -20,6 +20,7 @@ static uint32_t     leaves[TREES], list[2], first[2] = { 0, TREES / 2 };
 static uint32_t     count[2] = { TREES / 2, TREES / 2 };
 static size_t       part_len, message_len, area_len;
 static uint32_t     refused;
+static uint32_t     counts[VEJGODAT_REGIONS];
 
 static void
 put (uint8_t * bytes, uint32_t number)
@@ -112,6 +113,9 @@ TAKE_LENGTH (part_of_area_length,
              vejgodat_part_of_area_length (area, area_len))
 TAKE_LENGTH (close_area,
              vejgodat_close_area (area, area_len, joined, sizeof joined))
+TAKE (region_counts,
+      vejgodat_region_counts (part, part_len, OLD, 0, counts,
+                              VEJGODAT_REGIONS))
 
 /* Run a call on a painted stack and return how deep it went; 0 where no thread could be made. */
 static size_t
@@ -158,7 +162,8 @@ main (void)
     CALL (check_part), CALL (neighbour_of), CALL (lookup),
     CALL (message_length), CALL (build_message), CALL (check_message),
     CALL (area_length), CALL (open_area), CALL (deliver),
-    CALL (progress_of), CALL (part_of_area_length), CALL (close_area)
+    CALL (progress_of), CALL (part_of_area_length), CALL (close_area),
+    CALL (region_counts)
   };
   size_t              i, used, base, most = 0;
   int                 wrong = 0;

@@ -687,6 +687,53 @@ refinements (void)
   EXPECT (vejgodat_table_from_leaves (2, counts, 3, table, 24).length == 24);
 }
 
+/* The three triangles: liner, none and drum. */
+static void
+regions (void)
+{
+  static const int64_t entries[4] = { 0, -1, 2, 3 };
+  static uint32_t     counts[VEJGODAT_REGIONS + 1];
+  uint8_t             mesh[VEJGODAT_MESH_BYTES (3)], table[32];
+  uint8_t             part[32 + 2 * 64 + 40];
+  uint32_t            b, sum = 0;
+
+  put_triangles (mesh);
+  put_table (table, 3, entries);
+  mesh[8 + 38] = 7;
+  mesh[8 + 2 * 64 + 38] = 0xff;
+  mesh[8 + 2 * 64 + 39] = 0x0f;
+  EXPECT (vejgodat_check_mesh (mesh, sizeof mesh) == VEJGODAT_OK);
+  EXPECT (vejgodat_cut_part (mesh, sizeof mesh, table, 32, 1, part,
+                             sizeof part).length == sizeof part);
+  EXPECT (part[32 + 38] == 7 && part[32 + 64 + 38] == 0);
+  EXPECT (part[32 + 2 * 64 + 38] == 0xff && part[32 + 2 * 64 + 39] == 0x0f);
+
+  for (b = 0; b <= VEJGODAT_REGIONS; ++b) {
+    counts[b] = 9;
+  }
+  EXPECT (vejgodat_region_counts (part, sizeof part, table, 32, 1, counts,
+                                  VEJGODAT_REGIONS - 1) == VEJGODAT_BUFFER);
+  EXPECT (counts[0] == 9 && counts[VEJGODAT_REGIONS - 2] == 9);
+  EXPECT (vejgodat_region_counts (part, sizeof part, table, 32, 3, counts,
+                                  VEJGODAT_REGIONS) == VEJGODAT_INDEX);
+  EXPECT (vejgodat_region_counts (part, sizeof part, table, 32, 0, counts,
+                                  0) == VEJGODAT_PART);
+  EXPECT (vejgodat_region_counts (part, sizeof part, table, 32, 1, counts,
+                                  VEJGODAT_REGIONS + 1) == VEJGODAT_OK);
+  for (b = 0; b < VEJGODAT_REGIONS; ++b) {
+    sum += counts[b];
+  }
+  EXPECT (counts[0] == 1 && counts[7] == 1 && counts[4095] == 0 && sum == 2);
+  EXPECT (counts[VEJGODAT_REGIONS] == 9);
+
+  part[32 + 2 * 64 + 38] = 0;
+  part[32 + 2 * 64 + 39] = 0x10;
+  EXPECT (vejgodat_check_part (part, sizeof part, table, 32, 1)
+          == VEJGODAT_PART);
+  mesh[8 + 39] = 0x10;
+  EXPECT (vejgodat_check_mesh (mesh, sizeof mesh) == VEJGODAT_MESH);
+}
+
 int
 main (void)
 {
@@ -706,5 +753,6 @@ main (void)
   messages ();
   areas ();
   refinements ();
+  regions ();
   return wrong == 0 ? 0 : 1;
 }

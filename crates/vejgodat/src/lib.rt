@@ -16,6 +16,7 @@ ghost use Rattle.lookup.specs.Lookup.{foundRecord};
 ghost use Rattle.part_neighbour.specs.Neighbour.{flatAnswer};
 ghost use Rattle.refinement.specs.Calls.{countLeaves, leafCounts};
 ghost use Rattle.pattern.specs.Calls.{senderOf, treesSent, sendSetOf, receiveSetOf};
+ghost use Rattle.regions.specs.Calls.{regionCountsOf};
 use area_open::Progress;
 use encoding::answer::Length;
 use lookup::Found;
@@ -271,4 +272,11 @@ pub extern "C" fn vejgodat_leaf_counts(
     ensures { λ r. ⌜ (r, now (out .exit)) ≡ leafCounts (now (shapes .entry)) (now (lengths .entry)) (now (bits .entry)) (now (out .entry)) ⌝ }
 {
     refinement::leaf_counts(shapes, lengths, bits, out)
+}
+
+#[no_mangle]
+pub extern "C" fn vejgodat_region_counts(part: &[u8], table: &[u8], rank: u32, out: &mut [u32]) -> u32
+    ensures { λ r. ⌜ (r, now (out .exit)) ≡ regionCountsOf (now (part .entry)) (now (table .entry)) rank (now (out .entry)) ⌝ }
+{
+    regions::region_counts(part, table, rank, out)
 }

@@ -46,6 +46,7 @@ groups! {
     message
     area
     refinement
+    regions
     refusals
 }
 

@@ -12,7 +12,8 @@ pub fn apart(shapes: &[u8], data: u8) -> Vec<u8> {
     let dimension = SHAPES[shapes[0] as usize].0;
     let mut bytes = [dimension.to_le_bytes(), (shapes.len() as u32).to_le_bytes()].concat();
     for (k, &shape) in shapes.iter().enumerate() {
-        let mut record = Record { number: k as u32, shape, zeros: [0; 5], neighbours: [UNUSED; 6], codes: [0; 6] };
+        let mut record =
+            Record { number: k as u32, shape, zeros: [0; 3], region: 0, neighbours: [UNUSED; 6], codes: [0; 6] };
         for face in 0..record.faces().len() {
             (record.neighbours[face], record.codes[face]) = (k as u32, face as u8);
         }
@@ -97,6 +98,11 @@ pub fn sound(random: &mut Random, trees: usize) -> Vec<u8> {
     }
     for tree in 0..trees {
         fill_data(random, &mut mesh, tree);
+        // none, or any region, as the data happens to be
+        let at = place(tree);
+        if mesh[at + 42] % 2 == 1 {
+            (mesh[at + 38], mesh[at + 39]) = (mesh[at + 40], mesh[at + 41] % 16);
+        }
     }
     mesh
 }
@@ -144,7 +150,7 @@ pub fn one_field(random: &mut Random, mesh: &[u8]) -> Vec<u8> {
             put(&mut mesh, at, number);
         }
         3 | 4 => mesh[at + 4] = if random.chance(200) { random.below(8) as u8 } else { random.next() as u8 },
-        5 => mesh[at + random.pick(&[5, 6, 7, 38, 39])] = random.pick(&[0, 1, 128, 255]),
+        5 => mesh[at + random.pick(&[5, 6, 7, 38, 39])] = random.pick(&[0, 1, 15, 16, 255]),
         // faces that the shape doesn't have as well
         6 => {
             let face = random.below(6) as usize;

@@ -5,6 +5,8 @@ use std::collections::BTreeSet;
 
 pub const UNUSED: u32 = u32::MAX;
 
+pub const MAX_REGION: u16 = 4_095;
+
 /// The dimension of each shape, and the corners of each of its faces.
 pub const SHAPES: [(u32, &[u32]); 6] = [
     (2, &[2, 2, 2, 2]),
@@ -30,6 +32,8 @@ pub enum Fault {
     Shape,
     /// zero bytes zero
     Zeros,
+    /// region up to 4,095
+    Region,
     /// unused faces marked so
     Unused,
     /// boundaries with orientation 0, and a link from a face to itself is the boundary only
@@ -55,7 +59,8 @@ pub struct Link {
 pub struct Record {
     pub number: u32,
     pub shape: u8,
-    pub zeros: [u8; 5],
+    pub zeros: [u8; 3],
+    pub region: u16,
     pub neighbours: [u32; 6],
     pub codes: [u8; 6],
 }
@@ -67,17 +72,19 @@ pub fn number_at(bytes: &[u8], at: usize) -> u32 {
 
 impl Record {
     pub fn decode(bytes: &[u8]) -> Record {
-        let zeros = [bytes[5], bytes[6], bytes[7], bytes[38], bytes[39]];
+        let zeros = [bytes[5], bytes[6], bytes[7]];
+        let region = u16::from_le_bytes([bytes[38], bytes[39]]);
         let neighbours = [8, 12, 16, 20, 24, 28].map(|at| number_at(bytes, at));
         let codes = bytes[32..38].try_into().unwrap();
-        Record { number: number_at(bytes, 0), shape: bytes[4], zeros, neighbours, codes }
+        Record { number: number_at(bytes, 0), shape: bytes[4], zeros, region, neighbours, codes }
     }
 
     /// The 40 bytes of a core record.
     pub fn core(&self) -> Vec<u8> {
         let neighbours: Vec<u8> = self.neighbours.iter().flat_map(|number| number.to_le_bytes()).collect();
         let number = self.number.to_le_bytes();
-        let bytes = [&number, &[self.shape][..], &self.zeros[..3], &neighbours, &self.codes, &self.zeros[3..]].concat();
+        let region = self.region.to_le_bytes();
+        let bytes = [&number, &[self.shape][..], &self.zeros, &neighbours, &self.codes, &region].concat();
         assert_eq!(bytes.len(), 40);
         bytes
     }
@@ -143,8 +150,11 @@ pub fn faults(bytes: &[u8]) -> BTreeSet<Fault> {
     if records.iter().any(|record| record.shape > 5) {
         faults.insert(Fault::Shape);
     }
-    if records.iter().any(|record| record.zeros != [0; 5]) {
+    if records.iter().any(|record| record.zeros != [0; 3]) {
         faults.insert(Fault::Zeros);
+    }
+    if records.iter().any(|record| record.region > MAX_REGION) {
+        faults.insert(Fault::Region);
     }
     let marked = |record: &Record, face: usize| record.neighbours[face] == UNUSED && record.codes[face] == 0;
     if records.iter().any(|record| (record.faces().len()..6).any(|face| record.shape <= 5 && !marked(record, face))) {

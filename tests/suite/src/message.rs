@@ -195,7 +195,7 @@ pub fn one_field(random: &mut Random, message: &[u8]) -> Vec<u8> {
             put(&mut message, at, number);
         }
         1 => message[at + 4] = if random.chance(200) { random.below(8) as u8 } else { random.next() as u8 },
-        2 => message[at + random.pick(&[5, 6, 7, 38, 39])] = random.pick(&[0, 1, 128, 255]),
+        2 => message[at + random.pick(&[5, 6, 7, 38, 39])] = random.pick(&[0, 1, 15, 16, 255]),
         3 | 4 => {
             let number = near(random, record.neighbours[face], trees);
             put(&mut message, at + 8 + 4 * face, number);
@@ -693,6 +693,7 @@ fn seen_faults(_: &mut Run) {
         Fault::Length,
         Fault::Form(part_model::Fault::Shape),
         Fault::Form(part_model::Fault::Zeros),
+        Fault::Form(part_model::Fault::Region),
         Fault::Form(part_model::Fault::Unused),
         Fault::Form(part_model::Fault::Boundary),
         Fault::OtherDimension,

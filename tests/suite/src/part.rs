@@ -280,7 +280,7 @@ pub fn one_field(random: &mut Random, case: &Case) -> Vec<u8> {
             put(&mut part, at, number);
         }
         1 => part[at + 4] = if random.chance(200) { random.below(8) as u8 } else { random.next() as u8 },
-        2 => part[at + random.pick(&[5, 6, 7, 38, 39])] = random.pick(&[0, 1, 128, 255]),
+        2 => part[at + random.pick(&[5, 6, 7, 38, 39])] = random.pick(&[0, 1, 15, 16, 255]),
         3 => {
             let number = near(random, record.neighbours[any_face], &share, case.ghosts());
             put(&mut part, at + 8 + 4 * any_face, number);
@@ -612,8 +612,8 @@ fn each_link(run: &mut Run) {
                     }
                 }
                 let at = HEADER + TREE * local;
-                let data = meshes::place(first + local) + 40..meshes::place(first + local + 1);
-                assert_eq!(part[at + 40..at + 64], mesh[data], "tree data");
+                let data = meshes::place(first + local) + 38..meshes::place(first + local + 1);
+                assert_eq!(part[at + 38..at + 64], mesh[data], "region and tree data");
             }
             let numbers: Vec<usize> = ghosts.iter().map(|ghost| number_at(ghost, 0) as usize).collect();
             assert_eq!(numbers, met.into_iter().collect::<Vec<usize>>(), "each ghost once, ascending");
@@ -985,7 +985,7 @@ fn tree_limits(run: &mut Run) {
     assert_eq!(run.calls.check_part(&part, &table, 0), 0);
     // the last byte that matters
     let at = part.len() - 25;
-    part[at] = 1;
+    part[at] = 16;
     assert_eq!(run.calls.check_part(&part, &table, 0), 8);
     // one tree with two ghosts far apart
     let table = bytes_of(&[0, 1, all]);
@@ -1020,6 +1020,7 @@ fn seen_faults(_: &mut Run) {
         Fault::GhostOrder,
         Fault::Shape,
         Fault::Zeros,
+        Fault::Region,
         Fault::Unused,
         Fault::Boundary,
         Fault::OtherDimension,

@@ -1,6 +1,6 @@
 //! The second implementation of parts. To write one, records keep global neighbours until the end. To check one, every
 //! record is decoded first, then document 01's sentences are checked one by one, each on the whole part.
-use crate::mesh_model::{self, number_at, Link, Record, SHAPES, UNUSED};
+use crate::mesh_model::{self, number_at, Link, Record, MAX_REGION, SHAPES, UNUSED};
 use crate::model::{self, Answer, Trees};
 use std::collections::{BTreeMap, BTreeSet};
 
@@ -169,6 +169,8 @@ pub enum Fault {
     Shape,
     /// zero bytes zero
     Zeros,
+    /// region up to 4,095
+    Region,
     /// unused faces marked so
     Unused,
     /// boundaries with orientation 0
@@ -199,8 +201,11 @@ pub fn form_faults(record: &Record, own: u32) -> BTreeSet<Fault> {
     if record.shape > 5 {
         faults.insert(Fault::Shape);
     }
-    if record.zeros != [0; 5] {
+    if record.zeros != [0; 3] {
         faults.insert(Fault::Zeros);
+    }
+    if record.region > MAX_REGION {
+        faults.insert(Fault::Region);
     }
     for face in record.faces().len()..6 {
         if record.shape <= 5 && (record.neighbours[face] != UNUSED || record.codes[face] != 0) {

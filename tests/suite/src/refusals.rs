@@ -173,6 +173,7 @@ fn seen_faults(run: &mut Run) {
         Fault::Order,
         Fault::Shape,
         Fault::Zeros,
+        Fault::Region,
         Fault::Unused,
         Fault::Boundary,
         Fault::OtherDimension,

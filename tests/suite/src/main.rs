@@ -45,6 +45,7 @@ groups! {
     message
     area
     refusals
+    nearest
 }
 
 /// What a test is given.

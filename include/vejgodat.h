@@ -642,8 +642,11 @@ vejgodat_length     vejgodat_table_from_leaves (uint32_t ranks,
 /** \name Who sends
  *
  * The old table has the ranges f and the new one f'. For a tree k in f'(q), the
- * sender of k to q is q itself if k is in f(q), else the smallest rank p with k
- * in f(p). A rank may thus send to itself: it keeps the tree.
+ * sender of k to q is q itself if k is in f(q), else the rank p with k in f(p)
+ * that differs least from q, the lower of two at equal distance. A rank may thus
+ * send to itself: it keeps the tree. Messages and areas of a release in which
+ * the smallest such rank sent must not be mixed with those of this one in an
+ * epoch; such an area gets 10 where it isn't sound by this rule.
  *
  * Every call below takes both tables and checks, in this order:
  * \ref VEJGODAT_RANKS (2) for either table, \ref VEJGODAT_TABLE (3) for either,

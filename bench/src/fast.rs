@@ -78,30 +78,26 @@ pub fn table_from_leaves<const CHECKS: bool>(ranks: u32, leaves: &[u32], out: &m
 
 /// Visit the ranks to which p sends, ascending.
 fn receivers(old: &[u8], new: &[u8], p: usize, mut visit: impl FnMut(u32)) {
-    // p is the smallest holder of the trees from |O[p]| to its end
-    let (lowest, end) = (entry(old, p).abs(), entry(old, p + 1).abs());
-    let meets = |from: i64, to: i64, here: i64, next: i64| from.max(first(here)) < to.min(next.abs());
+    let (start, end) = (first(entry(old, p)), entry(old, p + 1).abs());
+    if start == end {
+        return;
+    }
+    // of two ranks a < b that have a tree, b is nearer to q exactly where a + b < 2 q
+    let has_trees = |r: &usize| first(entry(old, *r)) < entry(old, *r + 1).abs();
+    let lower = (0..p).rev().find(has_trees);
+    let upper = (p + 1..old.len() / 8 - 1).find(has_trees);
+    let later = entry(old, p).abs();
+    let earlier = upper.map_or(end, |n| end.min(first(entry(old, n))));
+    let to_lower = lower.map_or(0, |m| (m + p) / 2 + 1);
+    let to_upper = upper.map_or(usize::MAX, |n| (n + p) / 2 + 1);
     let mut here = 0;
-    for (q, next) in entries(&new[8..8 * p + 8]).enumerate() {
-        if meets(lowest, end, here, next) {
+    for (q, next) in entries(&new[8..]).enumerate() {
+        let from = if q < to_lower { later } else { start };
+        let to = if q < to_upper { end } else { earlier };
+        if from.max(first(here)) < to.min(next.abs()) {
             visit(q as u32);
         }
         here = next;
-    }
-    let mut old_here = entry(old, p + 1);
-    let mut next = entry(new, p + 1);
-    if meets(first(entry(old, p)), end, here, next) {
-        visit(p as u32);
-    }
-    here = next;
-    for (at, (old_next, new_next)) in entries(&old[8 * p + 16..]).zip(entries(&new[8 * p + 16..])).enumerate() {
-        // a higher rank that has p's last tree keeps its own
-        let shares = first(old_here) < end && first(old_here) < old_next.abs();
-        next = new_next;
-        if meets(lowest, end - i64::from(shares), here, next) {
-            visit((p + 1 + at) as u32);
-        }
-        (here, old_here) = (next, old_next);
     }
 }
 

@@ -33,12 +33,15 @@ pub fn library_build(part: &[u8], [old, new]: [&[u8]; 2], [p, q]: [u32; 2], out:
 fn sent(old: &[u8], new: &[u8], p: u32, q: u32) -> (u32, u32) {
     let (mut first, mut end) = range(old, p);
     let (new_first, new_end) = range(new, q);
-    if p != q {
-        // p is the smallest holder from |O[p]| on, and q keeps its own
-        first = fast::entry(old, p as usize).unsigned_abs() as u32;
-        let (own, own_end) = range(old, q);
-        if own < own_end && own >= first {
-            end = end.min(own);
+    if first < end {
+        // of two ranks a < b that have a tree, b is nearer to q exactly where a + b < 2 q
+        let has_trees = |r: &u32| range(old, *r).0 < range(old, *r).1;
+        if (0..p).rev().find(has_trees).is_some_and(|lower| 2 * q <= lower + p) {
+            first = fast::entry(old, p as usize).unsigned_abs() as u32;
+        }
+        let ranks = old.len() as u32 / 8 - 1;
+        if let Some(upper) = (p + 1..ranks).find(has_trees).filter(|upper| upper + p < 2 * q) {
+            end = end.min(range(old, upper).0);
         }
     }
     (first.max(new_first), end.min(new_end))

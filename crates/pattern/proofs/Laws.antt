@@ -152,8 +152,8 @@ pub record Walking (t : List ℕ) (k q d : ℕ) : Type 0 where
   pub none : (r : ℕ) → r < ranks t → holds t r k ≡ true → d ≤ distance r q
 
 module _ (t : List ℕ) (k q : ℕ) (b : Bytes t) (f : TreeOf t k × (q < ranks t)) where
-  pub walk-start : Walking t k q 0
-  walk-start = record { inside = omega arith; none = λ r l h. omega arith }
+  pub walk-start : (d : ℕ) → d ≤ 0 → Walking t k q d
+  walk-start d z = record { inside = omega arith; none = λ r l h. omega arith }
 
   module _ (P d : ℕ) (e : P ≡ ranks t) (w : Walking t k q d) (l : d < P) where
     -- the one below has it

@@ -48,6 +48,7 @@ groups! {
     refinement
     regions
     refusals
+    nearest
 }
 
 /// What a test is given.

@@ -19,7 +19,7 @@ ranks-requires c κs = c .before .pre .0 .ranksFit
 
 -- src/holder.rt:44:5
 loop-holds : tie.Need-loop-holds Inv-loop μ-loop
-loop-holds c = walk-start _ _ _ (λ i. c .before .shared-slice-known .given i .fits) (c .before .before .pre)
+loop-holds c = walk-start _ _ _ (λ i. c .before .shared-slice-known .given i .fits) (c .before .before .pre) _ (omega arith)
 
 -- src/holder.rt:45:12
 holds-below-requires : tie.Need-holds-below-requires Inv-loop μ-loop

@@ -4,3 +4,4 @@ pub mod Renamed
 pub mod CutSound
 pub mod CutLinks
 pub mod SoundParts
+pub mod RowParts

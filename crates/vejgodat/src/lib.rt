@@ -245,7 +245,12 @@ pub extern "C" fn vejgodat_close_area(area: &[u8], out: &mut [u8]) -> Length
 }
 
 #[no_mangle]
-pub extern "C" fn vejgodat_region_counts(part: &[u8], table: &[u8], rank: u32, out: &mut [u32]) -> u32
+pub extern "C" fn vejgodat_region_counts(
+    part: &[u8],
+    table: &[u8],
+    rank: u32,
+    out: &mut [u32],
+) -> u32
     ensures { λ r. ⌜ (r, now (out .exit)) ≡ regionCountsOf (now (part .entry)) (now (table .entry)) rank (now (out .entry)) ⌝ }
 {
     regions::region_counts(part, table, rank, out)

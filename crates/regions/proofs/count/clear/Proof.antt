@@ -28,13 +28,13 @@ loop-less : tie.Need-loop-less Inv-loop μ-loop
 loop-less c = search needs
 
 loop-again : tie.Need-loop-again Inv-loop μ-loop
-loop-again c = clear-more _ (c .before .before .pre) (c .before .loop .inv) (c .loop-test .taken)
+loop-again c = clear-more _ (c .before .before .pre) (c .before .loop .inv) (omega (arith, c .loop-test .taken))
 
 same-length : tie.Need-same-length Inv-loop μ-loop
 same-length c = clear-length _ (c .before .before .pre) (c .before .loop .inv)
 
 returns : tie.Need-returns Inv-loop μ-loop
-returns c = clear-done _ (c .before .before .pre) (c .before .loop .inv) (c .loop-test .left)
+returns c = clear-done _ (c .before .before .pre) (c .before .loop .inv) (omega (arith, c .loop-test .left))
 
 pub clear-spec : {M : Type 1} → statement M
 clear-spec =

@@ -1,5 +1,4 @@
 use Prim.Native.Nat.{_-_}
-use mathlib.Core.Path.{refl}
 use native.Mathlib.Omega.{arith}
 use Rattle.regions.proofs.Counting.{Counting, count-start, region-is, same-long, region-there, entry-most, count-next, count-done}
 use borrow.Author.Needs.{needs}
@@ -92,7 +91,7 @@ loop-again c =
     let loop-test = c .before .before .before .loop-test in
     let tree-at = c .before .before .tree-at in
     let region-of = c .before .region-of in
-    count-next _ _ _ pre (clear .ensures) (loop .inv) (omega (arith, tree-count .ensures, loop-test .taken)) (region-is _ _ _ pre (clear .ensures) _ (region-of .ensures) (tree-at .ensures)) refl
+    count-next _ _ _ pre (clear .ensures) (loop .inv) (omega (arith, tree-count .ensures, loop-test .taken)) (region-is _ _ _ pre (clear .ensures) _ (region-of .ensures) (tree-at .ensures)) (omega arith)
 
 same-length : tie.Need-same-length Inv-loop μ-loop
 same-length c =

@@ -599,7 +599,7 @@ vejgodat_length     vejgodat_write_table (uint32_t ranks,
 /** Write the offset table that divides the leaves evenly among the ranks.
  *
  * With N leaves in all, numbered tree by tree, rank p gets those from
- * floor (N p / P) up to, but without, floor (N (p + 1) / P). A tree is on rank
+ * ceil (N p / P) up to, but without, ceil (N (p + 1) / P). A tree is on rank
  * p exactly if one of these leaves is in it.
  *
  * Checks, in this order: \ref VEJGODAT_RANKS (2) if \a ranks isn't within P's

@@ -154,7 +154,7 @@ write_table (void)
 static void
 table_from_leaves (void)
 {
-  static const int64_t entries[2][4] = { {0, -1, -2, 2}, {0, 0, 1, 2} };
+  static const int64_t entries[2][4] = { {0, -1, -2, 2}, {0, 1, 2, 2} };
   static const uint32_t leaves[2][2] = { {4, 4}, {1, 1} }, none[2] = { 4, 0 };
   uint8_t             table[32], out[32];
   vejgodat_length     answer;

@@ -227,9 +227,9 @@
  *
  * Each call checks its input itself and returns a refusal: 0, or the number of
  * the first check that fails. The checks come in ascending order of their
- * numbers, and each is made of all arguments before the next one is made of
- * any: of two tables, a bad length (2) decides before bad entries (3),
- * whichever of the two has them. The numbers of this header's calls are those
+ * numbers, those from 23 on where the call's own list has them, and each is
+ * made of all arguments before the next one is made of any: of two tables, a
+ * bad length (2) decides before bad entries (3), whichever of the two has them. The numbers of this header's calls are those
  * of \ref VEJGODAT_OK and the names that follow it, and
  * \ref vejgodat_refusal_text has words for them. Only \ref vejgodat_lookup and
  * \ref vejgodat_version have nothing to refuse.
@@ -286,6 +286,9 @@ extern "C" {
 
 /** The largest number of leaves of one tree. */
 #define VEJGODAT_MAX_LEAVES 16777216
+
+/** The largest weight of a rank. */
+#define VEJGODAT_MAX_WEIGHT 65535
 
 /** The neighbour at a face that the shape doesn't have. */
 #define VEJGODAT_UNUSED 4294967295u
@@ -348,7 +351,11 @@ enum
   VEJGODAT_FULL = 19,           /**< There are more ghosts than slots. */
   VEJGODAT_MISSING = 20,        /**< Not every sender is heard. */
   VEJGODAT_JOIN = 21,           /**< The joined part isn't sound. */
-  VEJGODAT_BUFFER = 22          /**< A buffer is too short. */
+  VEJGODAT_BUFFER = 22,         /**< A buffer is too short. */
+  VEJGODAT_WEIGHTS = 30         /**< All weights are 0, or one is above
+                                     \ref VEJGODAT_MAX_WEIGHT. Checked after
+                                     \ref VEJGODAT_RANKS (2) and before
+                                     \ref VEJGODAT_PARTITION (6). */
 };
 
 /** Say what a refusal means, as part of a sentence without its full stop.
@@ -410,6 +417,8 @@ vejgodat_refusal_text (uint32_t refusal)
     return "the joined part isn't sound";
   case VEJGODAT_BUFFER:
     return "a buffer is too short";
+  case VEJGODAT_WEIGHTS:
+    return "all weights are 0, or one is above 65,535";
   default:
     return refusal <= 33 ? "reserved: no call of this version gives it"
       : "no refusal of this library";
@@ -1233,6 +1242,44 @@ vejgodat_length     vejgodat_part_of_area_length (const uint8_t * area,
 vejgodat_length     vejgodat_close_area (const uint8_t * area,
                                          size_t area_len,
                                          uint8_t * out, size_t out_len)
+  VEJGODAT_USE_RESULT;
+
+/** @} */
+
+/** \name Ranks of unequal speed */
+/** @{ */
+
+/** Write the offset table that divides the leaves among ranks of unequal speed.
+ *
+ * Each rank has a weight; W is their sum. With N leaves in all, numbered tree
+ * by tree, and V the sum of the weights below rank p, whose own is w, rank p
+ * gets the leaves from ceil (N V / W) up to, but without, ceil (N (V + w) / W):
+ * its share N w / W, rounded down or up. A rank of weight 0 is empty, and equal
+ * weights above 0 give the table of \ref vejgodat_table_from_leaves.
+ *
+ * Checks, in this order: \ref VEJGODAT_RANKS (2) if \a weights_len isn't within
+ * P's limits; \ref VEJGODAT_WEIGHTS (30) if all weights are 0 or one is above
+ * \ref VEJGODAT_MAX_WEIGHT; \ref VEJGODAT_PARTITION (6) if \a leaves_len isn't
+ * within K's limits or a leaf count isn't from 1 to \ref VEJGODAT_MAX_LEAVES;
+ * \ref VEJGODAT_BUFFER (22) if \a out_len is below 8 (P + 1).
+ * Cost: O(K + P).
+ *
+ * \param [in] weights    The weight of each rank; any numbers. Not changed.
+ * \param [in] weights_len The number of entries, which is P.
+ * \param [in] leaves     The number of leaves of each tree; any numbers. Not
+ *                        changed.
+ * \param [in] leaves_len The number of entries, which is K.
+ * \param [out] out       Its first 8 (P + 1) bytes become the table; the bytes
+ *                        behind them stay. When refused, all of them stay.
+ * \param [in] out_len    The number of bytes of \a out.
+ * \return                The bytes written, 8 (P + 1).
+ */
+vejgodat_length     vejgodat_table_from_weights (const uint32_t * weights,
+                                                 size_t weights_len,
+                                                 const uint32_t * leaves,
+                                                 size_t leaves_len,
+                                                 uint8_t * out,
+                                                 size_t out_len)
   VEJGODAT_USE_RESULT;
 
 /** @} */

@@ -87,7 +87,7 @@ in-limits : (a i b : ℕ) → (leb a i && leb i b) ≡ true → (a ≤ i) × (i 
 in-limits a i b e = (omega (tests, and-fst (leb a i) (leb i b) e), omega (tests, and-snd (leb a i) (leb i b) e))
 
 -- a number before a range or behind it
-out-range : (a i b : ℕ) → (a ≤ i → b ≤ i) → (leb a i && ltb i b) ≡ false
+pub out-range : (a i b : ℕ) → (a ≤ i → b ≤ i) → (leb a i && ltb i b) ≡ false
 out-range a i b h = either (leb a i) (λ e. rw e (le-ltb i b (h (omega tests)))) (λ e. rw e)
 
 -- two ranges below n meet where each begins before the other ends

@@ -1,4 +1,4 @@
--- What the public call answers, refusals included, and what it leaves in the lent buffer.
+-- What the public calls answer, refusals included, and what they leave in the lent buffer.
 use Prim.Native.Nat.{ℕ}
 use mathlib.Core.List.{List, [], _∷_}
 use lib.Dec.{leb}
@@ -9,6 +9,7 @@ use Rattle.encoding.specs.declared.answer.Length.{Length}
 use Rattle.offsets.specs.Limits.{rankCountOk}
 use Rattle.offsets.specs.Table.{tableLength}
 use Rattle.leaves.specs.Leaves.{leavesOk, leafTable}
+use Rattle.leaves.specs.Weighted.{weightsOk, weightedTable}
 
 -- write the table that leaf counts give
 unfoldable pub leavesRefusal : ℕ → List ℕ → List ℕ → ℕ
@@ -17,3 +18,11 @@ leavesRefusal P ls out =
 
 unfoldable pub tableFromLeaves : ℕ → List ℕ → List ℕ → Length × List ℕ
 tableFromLeaves P ls out = writeAnswer (leavesRefusal P ls out) (leafTable P ls) out
+
+-- write the table that leaf counts give to ranks of unequal speed: 30 after 2 and before 6
+unfoldable pub weightsRefusal : List ℕ → List ℕ → List ℕ → ℕ
+weightsRefusal ws ls out =
+    firstFailed (check (rankCountOk (length ws)) 2 ∷ check (weightsOk ws) 30 ∷ check (leavesOk ls) 6 ∷ check (leb (tableLength (length ws)) (length out)) 22 ∷ [])
+
+unfoldable pub tableFromWeights : List ℕ → List ℕ → List ℕ → Length × List ℕ
+tableFromWeights ws ls out = writeAnswer (weightsRefusal ws ls out) (weightedTable ws ls) out

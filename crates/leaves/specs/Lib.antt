@@ -1,4 +1,5 @@
 -- Document 01, "Ranks, trees and offset tables": the table that leaf counts give.
 pub mod Leaves
+pub mod Weighted
 pub mod Calls
 pub mod Means

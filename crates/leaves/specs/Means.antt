@@ -9,6 +9,7 @@ use Rattle.encoding.specs.Below.{countBelow}
 use Rattle.offsets.specs.Limits.{rankCountOk}
 use Rattle.offsets.specs.Table.{tableLength}
 use Rattle.leaves.specs.Leaves.{maxLeaves, leavesOk, leafStart, leafTotal}
+use Rattle.leaves.specs.Weighted.{weightsOk}
 
 -- a count within its limits
 abbrev pub countOk : ℕ → Bool
@@ -38,3 +39,11 @@ pub record Writable (P : ℕ) (ls : List ℕ) (N : ℕ) (out : List ℕ) : Type 
   pub leavesFit : leavesOk ls ≡ true
   pub total : N ≡ leafTotal ls
   pub room : tableLength P ≤ length out
+
+-- what writing the table of unequal shares takes
+pub record WeightedWritable (ws ls : List ℕ) (N : ℕ) (out : List ℕ) : Type 0 where
+  pub ranksFit : rankCountOk (length ws) ≡ true
+  pub weightsFit : weightsOk ws ≡ true
+  pub leavesFit : leavesOk ls ≡ true
+  pub total : N ≡ leafTotal ls
+  pub room : tableLength (length ws) ≤ length out

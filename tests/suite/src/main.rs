@@ -38,6 +38,7 @@ groups! {
     tables
     writing
     leaves
+    weights
     pattern
     mesh
     second

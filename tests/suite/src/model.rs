@@ -214,6 +214,11 @@ pub fn rounded_up(a: i128, b: i128) -> i128 {
 
 /// The same from the number of leaves before each tree, in wide arithmetic: for any total.
 pub fn leaves_by_sums(ranks: usize, leaves: &[u32]) -> Vec<Trees> {
+    leaves_by_weights(&vec![1; ranks], leaves)
+}
+
+/// The partition for ranks of these weights, not all 0.
+pub fn leaves_by_weights(weights: &[u32], leaves: &[u32]) -> Vec<Trees> {
     let mut before = vec![0i128];
     for &count in leaves {
         before.push(before[before.len() - 1] + i128::from(count));
@@ -221,15 +226,18 @@ pub fn leaves_by_sums(ranks: usize, leaves: &[u32]) -> Vec<Trees> {
     let total = before[leaves.len()];
     // the tree k with before[k] <= leaf < before[k + 1]
     let tree_of = |leaf: i128| before.partition_point(|&b| b <= leaf) as i128 - 1;
-    let share = |p: usize| {
-        let from = rounded_up(total * p as i128, ranks as i128);
-        let to = rounded_up(total * (p as i128 + 1), ranks as i128);
+    let whole: i128 = weights.iter().map(|&weight| i128::from(weight)).sum();
+    let mut below = 0;
+    let share = |&weight: &u32| {
+        let from = rounded_up(total * below, whole);
+        below += i128::from(weight);
+        let to = rounded_up(total * below, whole);
         if from == to {
             return Trees { first: 0, end: 0 };
         }
         Trees { first: tree_of(from), end: tree_of(to - 1) + 1 }
     };
-    (0..ranks).map(share).collect()
+    weights.iter().map(share).collect()
 }
 
 /// The bytes written to a buffer of `room` bytes.

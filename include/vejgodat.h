@@ -1284,6 +1284,49 @@ vejgodat_length     vejgodat_table_from_weights (const uint32_t * weights,
 
 /** @} */
 
+/** \name Leaf totals by blocks */
+/** @{ */
+
+/** The trees of a block; the last block has what is left. */
+#define VEJGODAT_BLOCK_TREES 256
+
+/** Write the table of \ref vejgodat_table_from_leaves from leaf counts that come
+ * with a sum for each block of \ref VEJGODAT_BLOCK_TREES trees.
+ *
+ * Each sum is compared with its block. The total is made of the sums in pairs,
+ * then in pairs of pairs, and so on; the table is that of
+ * \ref vejgodat_table_from_leaves, in every byte.
+ *
+ * Checks, in this order: \ref VEJGODAT_RANKS (2) if \a ranks isn't within P's
+ * limits; \ref VEJGODAT_PARTITION (6) if \a leaves_len isn't within K's limits,
+ * a leaf count isn't from 1 to \ref VEJGODAT_MAX_LEAVES, \a sums_len isn't
+ * ceil (K / 256) or a sum isn't that of its block;
+ * \ref VEJGODAT_BUFFER (22) if \a out_len is below 8 (P + 1).
+ * Cost: O(K + P).
+ *
+ * \param [in] ranks      The number of ranks P; any number.
+ * \param [in] leaves     The number of leaves of each tree; any numbers. Not
+ *                        changed.
+ * \param [in] leaves_len The number of entries, which is K.
+ * \param [in] sums       The sum of each block's leaf counts; any numbers, and
+ *                        aligned as uint64_t. Not changed.
+ * \param [in] sums_len   The number of entries.
+ * \param [out] out       Its first 8 (P + 1) bytes become the table; the bytes
+ *                        behind them stay. When refused, all of them stay.
+ * \param [in] out_len    The number of bytes of \a out.
+ * \return                The bytes written, 8 (P + 1).
+ */
+vejgodat_length     vejgodat_table_from_blocks (uint32_t ranks,
+                                                const uint32_t * leaves,
+                                                size_t leaves_len,
+                                                const uint64_t * sums,
+                                                size_t sums_len,
+                                                uint8_t * out,
+                                                size_t out_len)
+  VEJGODAT_USE_RESULT;
+
+/** @} */
+
 #ifdef __cplusplus
 }
 #endif

@@ -660,6 +660,36 @@ table_from_weights (void)
   EXPECT (memcmp (out, table, 32) == 0);
 }
 
+/* Leaf counts with the sums of their blocks: 256 trees of 2 leaves, 2 of 4. */
+static void
+table_from_blocks (void)
+{
+  static const int64_t entries[4] = { 0, 87, -174, 258 };
+  static uint32_t     leaves[258];
+  uint64_t            sums[3] = { 512, 8, 0 };
+  uint8_t             table[32], out[32];
+  vejgodat_length     answer;
+  int                 i;
+
+  for (i = 0; i < 258; ++i) {
+    leaves[i] = i < VEJGODAT_BLOCK_TREES ? 2 : 4;
+  }
+  put_table (table, 3, entries);
+  answer = vejgodat_table_from_blocks (3, leaves, 258, sums, 2,
+                                       out, sizeof out);
+  EXPECT (answer.refusal == VEJGODAT_OK && answer.length == 32);
+  EXPECT (memcmp (out, table, 32) == 0);
+  answer = vejgodat_table_from_blocks (3, leaves, 258, sums, 3, out, 32);
+  EXPECT (answer.refusal == VEJGODAT_PARTITION && answer.length == 0);
+  answer = vejgodat_table_from_blocks (3, leaves, 258, sums, 1, out, 32);
+  EXPECT (answer.refusal == VEJGODAT_PARTITION && answer.length == 0);
+  ++sums[0];
+  --sums[1];
+  answer = vejgodat_table_from_blocks (3, leaves, 258, sums, 2, out, 32);
+  EXPECT (answer.refusal == VEJGODAT_PARTITION && answer.length == 0);
+  EXPECT (memcmp (out, table, 32) == 0);
+}
+
 int
 main (void)
 {
@@ -678,5 +708,6 @@ main (void)
   messages ();
   areas ();
   table_from_weights ();
+  table_from_blocks ();
   return wrong == 0 ? 0 : 1;
 }

@@ -133,7 +133,7 @@ unfolding leafTotal
 start-total ls = refl
 
 -- no later tree begins earlier
-start-mono : (ls : List ℕ) (j k : ℕ) → j ≤ k → leafStart ls j ≤ leafStart ls k
+pub start-mono : (ls : List ℕ) (j k : ℕ) → j ≤ k → leafStart ls j ≤ leafStart ls k
 unfolding leafStart
 start-mono ls j k h = sum-mono j k (λ i. getD ls i 0) h
 

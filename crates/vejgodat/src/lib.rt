@@ -2,7 +2,7 @@
 ghost use mathlib.Core.Path.{_≡_};
 ghost use Rattle.offsets.specs.Calls.{tableRefusal, tableRange};
 ghost use Rattle.offsets_write.specs.Calls.{tableLengthAnswer, writeTable};
-ghost use Rattle.leaves.specs.Calls.{tableFromLeaves, tableFromWeights};
+ghost use Rattle.leaves.specs.Calls.{tableFromLeaves, tableFromWeights, tableFromBlocks};
 ghost use Rattle.mesh.specs.Mesh.{meshRefusal};
 ghost use Rattle.area_open.specs.Calls.{areaLengthOf, openAreaOf, progressOf};
 ghost use Rattle.area.specs.Close.{closeLengthOf, closeOf};
@@ -252,4 +252,16 @@ pub extern "C" fn vejgodat_table_from_weights(
     ensures { λ r. ⌜ (r, now (out .exit)) ≡ tableFromWeights (now (weights .entry)) (now (leaves .entry)) (now (out .entry)) ⌝ }
 {
     leaves::table_from_weights(weights, leaves, out)
+}
+
+#[no_mangle]
+pub extern "C" fn vejgodat_table_from_blocks(
+    ranks: u32,
+    leaves: &[u32],
+    sums: &[u64],
+    out: &mut [u8],
+) -> Length
+    ensures { λ r. ⌜ (r, now (out .exit)) ≡ tableFromBlocks ranks (now (leaves .entry)) (now (sums .entry)) (now (out .entry)) ⌝ }
+{
+    leaves::table_from_blocks(ranks, leaves, sums, out)
 }

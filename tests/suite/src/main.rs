@@ -39,6 +39,7 @@ groups! {
     writing
     leaves
     weights
+    blocks
     pattern
     mesh
     second

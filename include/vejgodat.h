@@ -227,9 +227,9 @@
  * ## Refusals
  *
  * Each call checks its input itself and returns a refusal: 0, or the number of
- * the first check that fails. The checks come in the order 2 to 8, 24, 23, 25,
- * 9 to 22, and each is made of all arguments before the next one is made of
- * any: of two tables, a bad length (2) decides before bad entries (3),
+ * the first check that fails. The checks come in the order 2, 30, 3 to 8, 24,
+ * 23, 25, 9 to 22, and each is made of all arguments before the next one is
+ * made of any: of two tables, a bad length (2) decides before bad entries (3),
  * whichever of the two has them. The numbers of this header's calls are those
  * of \ref VEJGODAT_OK and the names that follow it, and
  * \ref vejgodat_refusal_text has words for them. Only \ref vejgodat_lookup,
@@ -287,6 +287,9 @@ extern "C" {
 
 /** The largest number of leaves of one tree. */
 #define VEJGODAT_MAX_LEAVES 16777216
+
+/** The largest weight of a rank. */
+#define VEJGODAT_MAX_WEIGHT 65535
 
 /** The neighbour at a face that the shape doesn't have. */
 #define VEJGODAT_UNUSED 4294967295u
@@ -353,7 +356,11 @@ enum
   VEJGODAT_STRING = 23,         /**< A refinement string has a byte above 1, ends
                                      early, has bytes left or goes too deep. */
   VEJGODAT_SHAPE = 24,          /**< A shape has no refinement strings. */
-  VEJGODAT_LEAVES = 25          /**< A tree has too many leaves. */
+  VEJGODAT_LEAVES = 25,         /**< A tree has too many leaves. */
+  VEJGODAT_WEIGHTS = 30         /**< All weights are 0, or one is above
+                                     \ref VEJGODAT_MAX_WEIGHT. Checked after
+                                     \ref VEJGODAT_RANKS (2) and before
+                                     \ref VEJGODAT_PARTITION (6). */
 };
 
 /** Say what a refusal means, as part of a sentence without its full stop.
@@ -423,6 +430,8 @@ vejgodat_refusal_text (uint32_t refusal)
       " strings";
   case VEJGODAT_LEAVES:
     return "a tree has over 16,777,216 leaves";
+  case VEJGODAT_WEIGHTS:
+    return "all weights are 0, or one is above 65,535";
   default:
     return refusal <= 33 ? "reserved: no call of this version gives it"
       : "no refusal of this library";
@@ -612,7 +621,7 @@ vejgodat_length     vejgodat_write_table (uint32_t ranks,
 /** Write the offset table that divides the leaves evenly among the ranks.
  *
  * With N leaves in all, numbered tree by tree, rank p gets those from
- * floor (N p / P) up to, but without, floor (N (p + 1) / P). A tree is on rank
+ * ceil (N p / P) up to, but without, ceil (N (p + 1) / P). A tree is on rank
  * p exactly if one of these leaves is in it.
  *
  * Checks, in this order: \ref VEJGODAT_RANKS (2) if \a ranks isn't within P's
@@ -1398,6 +1407,86 @@ uint32_t            vejgodat_region_counts (const uint8_t * part,
                                             const uint8_t * table,
                                             size_t table_len, uint32_t rank,
                                             uint32_t * out, size_t out_len)
+
+/** @} */
+
+/** \name Ranks of unequal speed */
+/** @{ */
+
+/** Write the offset table that divides the leaves among ranks of unequal speed.
+ *
+ * Each rank has a weight; W is their sum. With N leaves in all, numbered tree
+ * by tree, and V the sum of the weights below rank p, whose own is w, rank p
+ * gets the leaves from ceil (N V / W) up to, but without, ceil (N (V + w) / W):
+ * its share N w / W, rounded down or up. A rank of weight 0 is empty, and equal
+ * weights above 0 give the table of \ref vejgodat_table_from_leaves.
+ *
+ * Checks, in this order: \ref VEJGODAT_RANKS (2) if \a weights_len isn't within
+ * P's limits; \ref VEJGODAT_WEIGHTS (30) if all weights are 0 or one is above
+ * \ref VEJGODAT_MAX_WEIGHT; \ref VEJGODAT_PARTITION (6) if \a leaves_len isn't
+ * within K's limits or a leaf count isn't from 1 to \ref VEJGODAT_MAX_LEAVES;
+ * \ref VEJGODAT_BUFFER (22) if \a out_len is below 8 (P + 1).
+ * Cost: O(K + P).
+ *
+ * \param [in] weights    The weight of each rank; any numbers. Not changed.
+ * \param [in] weights_len The number of entries, which is P.
+ * \param [in] leaves     The number of leaves of each tree; any numbers. Not
+ *                        changed.
+ * \param [in] leaves_len The number of entries, which is K.
+ * \param [out] out       Its first 8 (P + 1) bytes become the table; the bytes
+ *                        behind them stay. When refused, all of them stay.
+ * \param [in] out_len    The number of bytes of \a out.
+ * \return                The bytes written, 8 (P + 1).
+ */
+vejgodat_length     vejgodat_table_from_weights (const uint32_t * weights,
+                                                 size_t weights_len,
+                                                 const uint32_t * leaves,
+                                                 size_t leaves_len,
+                                                 uint8_t * out,
+                                                 size_t out_len)
+  VEJGODAT_USE_RESULT;
+
+/** @} */
+
+/** \name Leaf totals by blocks */
+/** @{ */
+
+/** The trees of a block; the last block has what is left. */
+#define VEJGODAT_BLOCK_TREES 256
+
+/** Write the table of \ref vejgodat_table_from_leaves from leaf counts that come
+ * with a sum for each block of \ref VEJGODAT_BLOCK_TREES trees.
+ *
+ * Each sum is compared with its block. The total is made of the sums in pairs,
+ * then in pairs of pairs, and so on; the table is that of
+ * \ref vejgodat_table_from_leaves, in every byte.
+ *
+ * Checks, in this order: \ref VEJGODAT_RANKS (2) if \a ranks isn't within P's
+ * limits; \ref VEJGODAT_PARTITION (6) if \a leaves_len isn't within K's limits,
+ * a leaf count isn't from 1 to \ref VEJGODAT_MAX_LEAVES, \a sums_len isn't
+ * ceil (K / 256) or a sum isn't that of its block;
+ * \ref VEJGODAT_BUFFER (22) if \a out_len is below 8 (P + 1).
+ * Cost: O(K + P).
+ *
+ * \param [in] ranks      The number of ranks P; any number.
+ * \param [in] leaves     The number of leaves of each tree; any numbers. Not
+ *                        changed.
+ * \param [in] leaves_len The number of entries, which is K.
+ * \param [in] sums       The sum of each block's leaf counts; any numbers, and
+ *                        aligned as uint64_t. Not changed.
+ * \param [in] sums_len   The number of entries.
+ * \param [out] out       Its first 8 (P + 1) bytes become the table; the bytes
+ *                        behind them stay. When refused, all of them stay.
+ * \param [in] out_len    The number of bytes of \a out.
+ * \return                The bytes written, 8 (P + 1).
+ */
+vejgodat_length     vejgodat_table_from_blocks (uint32_t ranks,
+                                                const uint32_t * leaves,
+                                                size_t leaves_len,
+                                                const uint64_t * sums,
+                                                size_t sums_len,
+                                                uint8_t * out,
+                                                size_t out_len)
   VEJGODAT_USE_RESULT;
 
 /** @} */

@@ -68,7 +68,7 @@ pub fn table_from_leaves<const CHECKS: bool>(ranks: u32, leaves: &[u32], out: &m
             before += u64::from(count);
             trees += 1;
         }
-        let next = total * (p as u64 + 1) / ranks;
+        let next = (total * (p as u64 + 1)).div_ceil(ranks);
         let shared = before != cut && next != cut && (p as u64) < ranks;
         place.copy_from_slice(&(if shared { -trees } else { trees }).to_le_bytes());
         cut = next;

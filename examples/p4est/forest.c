@@ -98,10 +98,25 @@ table_of (p4est_t * forest, uint8_t * table)
   free (first);
 }
 
-/* The table by p4est's formula for equal shares: rank p begins with leaf floor (N p / P). */
+/* Rank p's first leaf by p4est's formula for equal shares, floor (N p / P), and by ours, ceil (N p / P). They differ
+ * where P doesn't divide N p: of 8 leaves, p4est gives three ranks 2, 3 and 3, and vejgodat_table_from_leaves 3, 3 and
+ * 2. */
+static int64_t
+cut_down (int64_t total, int p, int ranks)
+{
+  return p4est_partition_cut_gloidx (total, p, ranks);
+}
+
+static int64_t
+cut_up (int64_t total, int p, int ranks)
+{
+  return total - p4est_partition_cut_gloidx (total, ranks - p, ranks);
+}
+
+/* The table by such a formula. */
 static void
-table_by_formula (const uint32_t * leaves, uint32_t trees, int ranks,
-                  uint8_t * table)
+table_by_formula (int64_t (*cut) (int64_t, int, int), const uint32_t * leaves,
+                  uint32_t trees, int ranks, uint8_t * table)
 {
   const size_t        P = (size_t) ranks;
   uint32_t           *first = malloc (2 * P * sizeof *first), k = 0;
@@ -112,8 +127,8 @@ table_by_formula (const uint32_t * leaves, uint32_t trees, int ranks,
     total += leaves[k];
   }
   for (k = 0, p = 0; p < ranks; ++p) {
-    begin = p4est_partition_cut_gloidx (total, p, ranks);
-    end = p4est_partition_cut_gloidx (total, p + 1, ranks);
+    begin = cut (total, p, ranks);
+    end = cut (total, p + 1, ranks);
     first[P + p] = 0;
     if (begin < end) {
       for (; before + leaves[k] <= begin; before += leaves[k++]);
@@ -185,15 +200,17 @@ run (const char *name, p4est_connectivity_t * conn, uint32_t steps)
     p4est_refine (forest, 0, refine, NULL);
     p4est_partition (forest, 0, NULL);
 
-    /* p4est's partition, its formula and ours by leaf counts are one table */
+    /* p4est's partition is that of its formula; ours by leaf counts is that of the other formula, and so another
+     * table in general */
     table_of (forest, new_table);
     leaves_of (forest, leaves);
-    table_by_formula (leaves, trees, ranks, tables[2]);
+    table_by_formula (cut_down, leaves, trees, ranks, tables[2]);
+    wrong += memcmp (new_table, tables[2], table_len) != 0;
+    table_by_formula (cut_up, leaves, trees, ranks, tables[2]);
     must (vejgodat_table_from_leaves ((uint32_t) ranks, leaves, trees,
                                       tables[3], table_len).refusal,
           "vejgodat_table_from_leaves");
-    wrong += memcmp (new_table, tables[2], table_len) != 0;
-    wrong += memcmp (new_table, tables[3], table_len) != 0;
+    wrong += memcmp (tables[2], tables[3], table_len) != 0;
 
     /* the coarse mesh follows the leaves */
     exchange (MPI_COMM_WORLD, step, tables[(step + 1) % 2], new_table,

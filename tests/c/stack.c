@@ -18,6 +18,10 @@ static uint8_t      message[sizeof part], table[24], other[24];
 static uint8_t      area[VEJGODAT_AREA_BYTES (2, TREES, 4)];
 static uint32_t     leaves[TREES], list[2], first[2] = { 0, TREES / 2 };
 static uint32_t     count[2] = { TREES / 2, TREES / 2 };
+/* as many blocks as there can be, so that their sums are added as deep as they can be */
+static uint8_t      of_many[24];
+static uint32_t     many[VEJGODAT_MAX_TREES];
+static uint64_t     sums[VEJGODAT_MAX_TREES / VEJGODAT_BLOCK_TREES];
 static size_t       part_len, message_len, area_len;
 static uint32_t     refused;
 static uint32_t     counts[VEJGODAT_REGIONS];
@@ -55,6 +59,10 @@ make_mesh (void)
     record[34] = 2;
     record[35] = 3;
     leaves[k] = 1;
+  }
+  for (k = 0; k < VEJGODAT_MAX_TREES; ++k) {
+    many[k] = 1;
+    ++sums[k / VEJGODAT_BLOCK_TREES];
   }
 }
 
@@ -116,6 +124,12 @@ TAKE_LENGTH (close_area,
 TAKE (region_counts,
       vejgodat_region_counts (part, part_len, OLD, 0, counts,
                               VEJGODAT_REGIONS))
+TAKE_LENGTH (table_from_weights,
+             vejgodat_table_from_weights (count, 2, leaves, TREES, OLD))
+TAKE_LENGTH (table_from_blocks,
+             vejgodat_table_from_blocks (2, many, VEJGODAT_MAX_TREES, sums,
+                                         sizeof sums / sizeof sums[0],
+                                         of_many, sizeof of_many))
 
 /* Run a call on a painted stack and return how deep it went; 0 where no thread could be made. */
 static size_t
@@ -163,7 +177,8 @@ main (void)
     CALL (message_length), CALL (build_message), CALL (check_message),
     CALL (area_length), CALL (open_area), CALL (deliver),
     CALL (progress_of), CALL (part_of_area_length), CALL (close_area),
-    CALL (region_counts)
+    CALL (region_counts),
+    CALL (table_from_weights), CALL (table_from_blocks)
   };
   size_t              i, used, base, most = 0;
   int                 wrong = 0;

@@ -21,7 +21,7 @@ version (void)
   EXPECT (vejgodat_version () == VEJGODAT_VERSION);
 }
 
-/* Every number has a text, and no two of 0 to 22 have the same. */
+/* Every number has a text, and of 0 to 33 only those that no call gives have the same. */
 static void
 texts (void)
 {
@@ -29,12 +29,10 @@ texts (void)
 
   for (i = 0; i < 40; ++i) {
     EXPECT (strlen (vejgodat_refusal_text (i)) > 7);
-    for (j = 0; j < i && i <= 22; ++j) {
-      EXPECT (strcmp (vejgodat_refusal_text (i), vejgodat_refusal_text (j)));
+    for (j = 0; j < i && i <= 33; ++j) {
+      EXPECT (strcmp (vejgodat_refusal_text (i), vejgodat_refusal_text (j))
+              || !strncmp (vejgodat_refusal_text (i), "reserved", 8));
     }
-  }
-  for (i = 23; i <= 33; ++i) {
-    EXPECT (!strcmp (vejgodat_refusal_text (i), vejgodat_refusal_text (33)));
   }
   EXPECT (strcmp (vejgodat_refusal_text (33), vejgodat_refusal_text (34)));
   EXPECT (!strcmp (vejgodat_refusal_text (34),
@@ -154,7 +152,7 @@ write_table (void)
 static void
 table_from_leaves (void)
 {
-  static const int64_t entries[2][4] = { {0, -1, -2, 2}, {0, 0, 1, 2} };
+  static const int64_t entries[2][4] = { {0, -1, -2, 2}, {0, 1, 2, 2} };
   static const uint32_t leaves[2][2] = { {4, 4}, {1, 1} }, none[2] = { 4, 0 };
   uint8_t             table[32], out[32];
   vejgodat_length     answer;
@@ -734,6 +732,69 @@ regions (void)
   EXPECT (vejgodat_check_mesh (mesh, sizeof mesh) == VEJGODAT_MESH);
 }
 
+/* Leaves for ranks of unequal speed. */
+static void
+table_from_weights (void)
+{
+  static const int64_t entries[2][4] = { {0, 6, 6, 8}, {0, 3, 6, 8} };
+  static const uint32_t weights[2][3] = { {3, 0, 1}, {7, 7, 7} };
+  static const uint32_t bad[2][3] = { {0, 0, 0}, {1, 65536, 1} };
+  static const uint32_t leaves[8] = { 1, 1, 1, 1, 1, 1, 1, 1 };
+  uint8_t             table[32], out[32];
+  vejgodat_length     answer;
+  int                 i;
+
+  for (i = 0; i < 2; ++i) {
+    put_table (table, 3, entries[i]);
+    answer = vejgodat_table_from_weights (weights[i], 3, leaves, 8,
+                                          out, sizeof out);
+    EXPECT (answer.refusal == VEJGODAT_OK && answer.length == 32);
+    EXPECT (memcmp (out, table, 32) == 0);
+  }
+  for (i = 0; i < 2; ++i) {
+    /* no tree at all: the weights decide */
+    answer = vejgodat_table_from_weights (bad[i], 3, leaves, 0, out, 0);
+    EXPECT (answer.refusal == VEJGODAT_WEIGHTS && answer.length == 0);
+  }
+  answer = vejgodat_table_from_weights (weights[0], 3, leaves, 0, out, 0);
+  EXPECT (answer.refusal == VEJGODAT_PARTITION && answer.length == 0);
+  answer = vejgodat_table_from_weights (weights[0], 0, leaves, 8, out, 32);
+  EXPECT (answer.refusal == VEJGODAT_RANKS && answer.length == 0);
+  answer = vejgodat_table_from_weights (weights[0], 3, leaves, 8, out, 31);
+  EXPECT (answer.refusal == VEJGODAT_BUFFER && answer.length == 0);
+  EXPECT (memcmp (out, table, 32) == 0);
+}
+
+/* Leaf counts with the sums of their blocks: 256 trees of 2 leaves, 2 of 4. */
+static void
+table_from_blocks (void)
+{
+  static const int64_t entries[4] = { 0, 87, -174, 258 };
+  static uint32_t     leaves[258];
+  uint64_t            sums[3] = { 512, 8, 0 };
+  uint8_t             table[32], out[32];
+  vejgodat_length     answer;
+  int                 i;
+
+  for (i = 0; i < 258; ++i) {
+    leaves[i] = i < VEJGODAT_BLOCK_TREES ? 2 : 4;
+  }
+  put_table (table, 3, entries);
+  answer = vejgodat_table_from_blocks (3, leaves, 258, sums, 2,
+                                       out, sizeof out);
+  EXPECT (answer.refusal == VEJGODAT_OK && answer.length == 32);
+  EXPECT (memcmp (out, table, 32) == 0);
+  answer = vejgodat_table_from_blocks (3, leaves, 258, sums, 3, out, 32);
+  EXPECT (answer.refusal == VEJGODAT_PARTITION && answer.length == 0);
+  answer = vejgodat_table_from_blocks (3, leaves, 258, sums, 1, out, 32);
+  EXPECT (answer.refusal == VEJGODAT_PARTITION && answer.length == 0);
+  ++sums[0];
+  --sums[1];
+  answer = vejgodat_table_from_blocks (3, leaves, 258, sums, 2, out, 32);
+  EXPECT (answer.refusal == VEJGODAT_PARTITION && answer.length == 0);
+  EXPECT (memcmp (out, table, 32) == 0);
+}
+
 int
 main (void)
 {
@@ -754,5 +815,7 @@ main (void)
   areas ();
   refinements ();
   regions ();
+  table_from_weights ();
+  table_from_blocks ();
   return wrong == 0 ? 0 : 1;
 }

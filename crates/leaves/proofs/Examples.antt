@@ -9,6 +9,6 @@ use Rattle.offsets_write.specs.Partition.{nonEmpty, endBelow, entryOf, entriesB
 use Rattle.leaves.specs.Leaves.{leafStart, leafTotal, cut, leafHolds, leafFirst, leafCount, equalShares, leafTable}
 
 -- leaf counts 4,4 and 1,1 on three ranks
-pub leaf-tables : (leafTable 3 (4 ∷ 4 ∷ []) ≡ tableBytes (0 ∷ minus 1 ∷ minus 2 ∷ 2 ∷ [])) × (leafTable 3 (1 ∷ 1 ∷ []) ≡ tableBytes (0 ∷ 0 ∷ 1 ∷ 2 ∷ []))
+pub leaf-tables : (leafTable 3 (4 ∷ 4 ∷ []) ≡ tableBytes (0 ∷ minus 1 ∷ minus 2 ∷ 2 ∷ [])) × (leafTable 3 (1 ∷ 1 ∷ []) ≡ tableBytes (0 ∷ 1 ∷ 2 ∷ 2 ∷ []))
 unfolding leafTable tableOf entriesBelow entryOf endBelow nonEmpty leafFirst leafCount leafHolds equalShares cut leafTotal leafStart sumBelow leastBelow countBelow anyBelow tableBytes leBytes
 leaf-tables = (refl, refl)

@@ -1,6 +1,6 @@
 -- Laws of leaf counts: the cuts, and the partition that any ascending cuts give.
 use Prim.Native.Nat.{ℕ, zero, suc, _+_, _-_, _*_, _/_, _%_, _^_, _≤_, _<_}
-use native.Mathlib.Nat.{le-refl, mul-zero, zero-div, div-zero, mul-div-cancel, mod-lt, mul-le-mul, mul-le-mul-left, mul-add-div, div-add-mod, le-div-iff-mul-le, div-mul-le-self, le-trans}
+use native.Mathlib.Nat.{le-refl, mul-zero, div-zero, div-eq-of-lt, mod-lt, mul-le-mul, mul-le-mul-left, mul-add-div, mul-add-div-right, div-add-mod, le-div-iff-mul-le, div-mul-le-self, le-trans}
 use native.Mathlib.Numerals.{add-one}
 use native.Mathlib.Omega.{arith}
 use mathlib.Core.Path.{_≡_, refl, sym, ap, _∙_}
@@ -28,32 +28,34 @@ use Rattle.offsets_write.proofs.Partitions.{table-length, entries-put, table-pu
 -- no share, no leaf
 pub cut-none : (n w : ℕ) → cut n 0 w ≡ 0
 unfolding cut
-cut-none n w = rw mul-zero (zero-div w)
+cut-none n zero = rw mul-zero (div-zero 0)
+cut-none n (suc w) = rw mul-zero (div-eq-of-lt (omega arith))
 
 -- the whole share, all leaves
 pub cut-all : (n w : ℕ) → 0 < w → cut n w w ≡ n
 unfolding cut
-cut-all n w h = mul-div-cancel n h
+cut-all n w h = mul-add-div-right h n (w - 1) ∙ (ap (λ m. n + m) (div-eq-of-lt (omega arith)) ∙ omega arith)
 
 -- a greater share is cut no earlier
 pub cut-mono : (n u v w : ℕ) → u ≤ v → cut n u w ≤ cut n v w
 unfolding cut
 cut-mono n u v zero h = simp div-zero (le-refl 0)
-cut-mono n u v (suc w) h = le-div-iff-mul-le {k = suc w} (omega arith) .1 (le-trans (div-mul-le-self (n * u) (suc w)) (mul-le-mul-left n h))
+cut-mono n u v (suc w) h = le-div-iff-mul-le {k = suc w} (omega arith) .1 (le-trans (div-mul-le-self (n * u + (suc w - 1)) (suc w)) (omega (arith, mul-le-mul-left n h)))
 
 -- no share is cut past the last leaf
 pub cut-le : (n v w : ℕ) → v ≤ w → 0 < w → cut n v w ≤ n
 cut-le n v w h k = omega (arith, cut-mono n v w w h, cut-all n w k)
 
 -- the quotient's share and the remainder's share: no product is above n or w * v
-pub cut-parts : (n v w : ℕ) → 0 < w → (n / w) * v + ((n % w) * v) / w ≡ cut n v w
+pub cut-parts : (n v w : ℕ) → 0 < w → (n / w) * v + ((n % w) * v + (w - 1)) / w ≡ cut n v w
 unfolding cut
 cut-parts n v w h =
     let e : n * v ≡ w * (n / w * v) + n % w * v = ap (λ m. m * v) (sym (div-add-mod n w)) ∙ omega arith in
-    sym (ap (λ m. m / w) e ∙ mul-add-div h (n / w * v) (n % w * v))
+    let f : n * v + (w - 1) ≡ w * (n / w * v) + (n % w * v + (w - 1)) = omega arith in
+    sym (ap (λ m. m / w) f ∙ mul-add-div h (n / w * v) (n % w * v + (w - 1)))
 
 -- and no product wraps
-pub cut-fits : (n v w : ℕ) → 0 < w → v ≤ w → w < 2 ^ 32 → ((n / w) * v ≤ n) × ((n % w) * v < 2 ^ 64)
+pub cut-fits : (n v w : ℕ) → 0 < w → v ≤ w → w < 2 ^ 32 → ((n / w) * v ≤ n) × ((n % w) * v + (w - 1) < 2 ^ 64)
 cut-fits n v w h k b =
     let r : n % w ≤ 2 ^ 32 - 1 = omega (arith, mod-lt n h) in
     let m : v ≤ 2 ^ 32 - 1 = omega arith in
@@ -85,7 +87,7 @@ in-limits : (a i b : ℕ) → (leb a i && leb i b) ≡ true → (a ≤ i) × (i 
 in-limits a i b e = (omega (tests, and-fst (leb a i) (leb i b) e), omega (tests, and-snd (leb a i) (leb i b) e))
 
 -- a number before a range or behind it
-out-range : (a i b : ℕ) → (a ≤ i → b ≤ i) → (leb a i && ltb i b) ≡ false
+pub out-range : (a i b : ℕ) → (a ≤ i → b ≤ i) → (leb a i && ltb i b) ≡ false
 out-range a i b h = either (leb a i) (λ e. rw e (le-ltb i b (h (omega tests)))) (λ e. rw e)
 
 -- two ranges below n meet where each begins before the other ends
@@ -131,7 +133,7 @@ unfolding leafTotal
 start-total ls = refl
 
 -- no later tree begins earlier
-start-mono : (ls : List ℕ) (j k : ℕ) → j ≤ k → leafStart ls j ≤ leafStart ls k
+pub start-mono : (ls : List ℕ) (j k : ℕ) → j ≤ k → leafStart ls j ≤ leafStart ls k
 unfolding leafStart
 start-mono ls j k h = sum-mono j k (λ i. getD ls i 0) h
 

@@ -1,3 +1,5 @@
 -- Laws of leaf counts.
 pub mod LeafCounts
+pub mod WeightedShares
+pub mod BlockTotals
 pub mod Examples

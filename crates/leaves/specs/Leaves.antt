@@ -1,5 +1,5 @@
 -- The partition that leaf counts give.
-use Prim.Native.Nat.{ℕ, _+_, _*_, _/_}
+use Prim.Native.Nat.{ℕ, _+_, _-_, _*_, _/_}
 use mathlib.Core.Bool.{Bool, _&&_}
 use mathlib.Core.List.{List}
 use lib.Dec.{leb, ltb}
@@ -23,9 +23,9 @@ leafStart ls k = sumBelow k (λ i. getD ls i 0)
 unfoldable pub leafTotal : List ℕ → ℕ
 leafTotal ls = leafStart ls (length ls)
 
--- where a rank's leaves begin: the share v of w of n leaves, rounded down
+-- where a rank's leaves begin: the share v of w of n leaves, rounded up
 unfoldable pub cut : ℕ → ℕ → ℕ → ℕ
-cut n v w = n * v / w
+cut n v w = (n * v + (w - 1)) / w
 
 -- bound p is the first leaf of rank p, bound (p + 1) one past its last
 module _ (ls : List ℕ) (bound : ℕ → ℕ) where
@@ -40,7 +40,7 @@ module _ (ls : List ℕ) (bound : ℕ → ℕ) where
   unfoldable pub leafCount : ℕ → ℕ
   leafCount p = countBelow (length ls) (leafHolds p)
 
--- rank p of P gets leaves floor(N × p / P) up to, but without, floor(N × (p + 1) / P)
+-- rank p of P gets leaves ceil(N × p / P) up to, but without, ceil(N × (p + 1) / P)
 unfoldable pub equalShares : ℕ → List ℕ → ℕ → ℕ
 equalShares P ls p = cut (leafTotal ls) p P
 

@@ -1,4 +1,6 @@
 -- Document 01, "Ranks, trees and offset tables": the table that leaf counts give.
 pub mod Leaves
+pub mod Weighted
+pub mod Blocks
 pub mod Calls
 pub mod Means

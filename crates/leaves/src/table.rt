@@ -11,9 +11,9 @@ ghost use Rattle.leaves.specs.Leaves.{leafStart, leafTable};
 ghost use Rattle.leaves.specs.Means.{treesBefore, sharedEntry, leafEntry, Walking, Writable};
 
 // How far a walk over the trees has come: a tree and its first leaf.
-struct Walk {
-    tree: usize,
-    start: u64,
+pub struct Walk {
+    pub tree: usize,
+    pub start: u64,
 }
 
 // On to the first tree that begins at leaf lo or later, or past the last tree.
@@ -43,7 +43,7 @@ fn entry_of(tree: u64, start: u64, lo: u64, hi: u64) -> u64
 }
 
 // The entry of rank p, which has leaves lo up to, but without, hi. The walk goes on to lo.
-fn put_rank(
+pub fn put_rank(
     leaves: &[u32],
     tree: usize,
     start: u64,

@@ -58,7 +58,7 @@ the-written : writeTable 3 (0 ∷ 77 ∷ 2 ∷ []) (3 ∷ 0 ∷ 3 ∷ []) (repli
 unfolding sharedTable writeTable writeRefusal partitionOk rangesFit validPartition coversAll coversOnly ascending lastTree onRank nonEmpty endBelow entryOf entriesBelow tableOf writeAnswer lengthAnswer written splice firstFailed rankCountOk treeCountOk allBelow anyBelow tableBytes leBytes
 the-written = refl
 
-the-leaves : (tableFromLeaves 3 (4 ∷ 4 ∷ []) (replicate 32 9) ≡ accepted (tableBytes (0 ∷ minus 1 ∷ minus 2 ∷ 2 ∷ [])) []) × (tableFromLeaves 3 (1 ∷ 1 ∷ []) (replicate 32 9) ≡ accepted (tableBytes (0 ∷ 0 ∷ 1 ∷ 2 ∷ [])) [])
+the-leaves : (tableFromLeaves 3 (4 ∷ 4 ∷ []) (replicate 32 9) ≡ accepted (tableBytes (0 ∷ minus 1 ∷ minus 2 ∷ 2 ∷ [])) []) × (tableFromLeaves 3 (1 ∷ 1 ∷ []) (replicate 32 9) ≡ accepted (tableBytes (0 ∷ 1 ∷ 2 ∷ 2 ∷ [])) [])
 unfolding tableFromLeaves leavesRefusal leavesOk leafTable tableOf entriesBelow entryOf endBelow nonEmpty leafFirst leafCount leafHolds equalShares cut leafTotal leafStart writeAnswer lengthAnswer written splice firstFailed rankCountOk treeCountOk allBelow sumBelow leastBelow countBelow anyBelow tableBytes leBytes
 the-leaves = (refl, refl)
 

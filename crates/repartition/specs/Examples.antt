@@ -128,7 +128,7 @@ pub record Examples : Type 0 where
   pub shared-written : writeTable 3 (0 ∷ 77 ∷ 2 ∷ []) (3 ∷ 0 ∷ 3 ∷ []) (replicate 40 9) ≡ accepted sharedTable (replicate 8 9)
   -- leaf counts 4,4 and 1,1 on three ranks
   pub leaves-4-4 : tableFromLeaves 3 (4 ∷ 4 ∷ []) (replicate 32 9) ≡ accepted (tableBytes (0 ∷ minus 1 ∷ minus 2 ∷ 2 ∷ [])) []
-  pub leaves-1-1 : tableFromLeaves 3 (1 ∷ 1 ∷ []) (replicate 32 9) ≡ accepted (tableBytes (0 ∷ 0 ∷ 1 ∷ 2 ∷ [])) []
+  pub leaves-1-1 : tableFromLeaves 3 (1 ∷ 1 ∷ []) (replicate 32 9) ≡ accepted (tableBytes (0 ∷ 1 ∷ 2 ∷ 2 ∷ [])) []
   -- the meshes are sound; the solids aren't where the prism's orientation differs from the tetrahedron's
   pub triangles-sound : meshRefusal triangles ≡ 0
   pub solids-sound : meshRefusal (solids 2) ≡ 0

@@ -2,8 +2,8 @@
 ghost use mathlib.Core.Path.{_≡_};
 ghost use Rattle.offsets.specs.Calls.{tableRefusal, tableRange};
 ghost use Rattle.offsets_write.specs.Calls.{tableLengthAnswer, writeTable};
-ghost use Rattle.leaves.specs.Calls.{tableFromLeaves};
 ghost use Rattle.records.specs.Shape.{corners};
+ghost use Rattle.leaves.specs.Calls.{tableFromLeaves, tableFromWeights, tableFromBlocks};
 ghost use Rattle.mesh.specs.Mesh.{meshRefusal};
 ghost use Rattle.area_open.specs.Calls.{areaLengthOf, openAreaOf, progressOf};
 ghost use Rattle.area.specs.Close.{closeLengthOf, closeOf};
@@ -275,8 +275,36 @@ pub extern "C" fn vejgodat_leaf_counts(
 }
 
 #[no_mangle]
-pub extern "C" fn vejgodat_region_counts(part: &[u8], table: &[u8], rank: u32, out: &mut [u32]) -> u32
+pub extern "C" fn vejgodat_region_counts(
+    part: &[u8],
+    table: &[u8],
+    rank: u32,
+    out: &mut [u32],
+) -> u32
     ensures { λ r. ⌜ (r, now (out .exit)) ≡ regionCountsOf (now (part .entry)) (now (table .entry)) rank (now (out .entry)) ⌝ }
 {
     regions::region_counts(part, table, rank, out)
+}
+
+#[no_mangle]
+pub extern "C" fn vejgodat_table_from_weights(
+    weights: &[u32],
+    leaves: &[u32],
+    out: &mut [u8],
+) -> Length
+    ensures { λ r. ⌜ (r, now (out .exit)) ≡ tableFromWeights (now (weights .entry)) (now (leaves .entry)) (now (out .entry)) ⌝ }
+{
+    leaves::table_from_weights(weights, leaves, out)
+}
+
+#[no_mangle]
+pub extern "C" fn vejgodat_table_from_blocks(
+    ranks: u32,
+    leaves: &[u32],
+    sums: &[u64],
+    out: &mut [u8],
+) -> Length
+    ensures { λ r. ⌜ (r, now (out .exit)) ≡ tableFromBlocks ranks (now (leaves .entry)) (now (sums .entry)) (now (out .entry)) ⌝ }
+{
+    leaves::table_from_blocks(ranks, leaves, sums, out)
 }

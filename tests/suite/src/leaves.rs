@@ -7,6 +7,7 @@ use crate::{Run, Test};
 
 pub const TESTS: &[Test] = &[
     ("leaves: the document's two", documents),
+    ("leaves: document 000's equation (4)", equation_four),
     ("leaves: every small list", every_small),
     ("leaves: random small totals", small_totals),
     ("leaves: random large totals", large_totals),
@@ -22,12 +23,24 @@ fn refused(refusal: u32) -> Length {
 }
 
 fn documents(run: &mut Run) {
-    for (leaves, table) in [([4, 4], [0, -1, -2, 2]), ([1, 1], [0, 0, 1, 2])] {
+    for (leaves, table) in [([4, 4], [0, -1, -2, 2]), ([1, 1], [0, 1, 2, 2])] {
         let (got, out) = run.calls.table_from_leaves(3, &leaves, &[9; 33]);
         assert_eq!(got, Length { refusal: 0, length: 32 });
         assert_eq!(out[..32], bytes_of(&table), "{leaves:?}");
         assert_eq!(out[32], 9);
     }
+}
+
+/// Ranks get 3, 3 and 2 leaves of 8. With one leaf in each tree these are trees; two trees of 4 leaves give the tables
+/// of the equation.
+fn equation_four(run: &mut Run) {
+    let (_, out) = run.calls.table_from_leaves(3, &[1; 8], &[9; 32]);
+    assert_eq!(out, bytes_of(&[0, 3, 6, 8]));
+    let (_, out) = run.calls.table_from_leaves(3, &[4, 4], &[9; 32]);
+    assert_eq!(out, bytes_of(&[0, -1, -2, 2]));
+    // more ranks than leaves: the formula, and not the title of the request
+    let (_, out) = run.calls.table_from_leaves(4, &[1, 1], &[9; 40]);
+    assert_eq!(out, bytes_of(&[0, 1, 1, 2, 2]));
 }
 
 fn every_small(run: &mut Run) {

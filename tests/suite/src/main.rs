@@ -39,6 +39,8 @@ groups! {
     tables
     writing
     leaves
+    weights
+    blocks
     pattern
     mesh
     second

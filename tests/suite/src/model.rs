@@ -193,8 +193,10 @@ pub fn leaves_by_numbering(ranks: usize, leaves: &[u32]) -> Vec<Trees> {
         }
     }
     let total = tree_of.len();
+    // rank p has the leaves l with p <= l P / N < p + 1
     let share = |p: usize| {
-        let trees: BTreeSet<i128> = (total * p / ranks..total * (p + 1) / ranks).map(|leaf| tree_of[leaf]).collect();
+        let own = |leaf: &usize| total * p <= leaf * ranks && leaf * ranks < total * (p + 1);
+        let trees: BTreeSet<i128> = (0..total).filter(own).map(|leaf| tree_of[leaf]).collect();
         let range = match (trees.iter().next(), trees.iter().next_back()) {
             (Some(&first), Some(&last)) => Trees { first, end: last + 1 },
             _ => Trees { first: 0, end: 0 },
@@ -205,8 +207,18 @@ pub fn leaves_by_numbering(ranks: usize, leaves: &[u32]) -> Vec<Trees> {
     (0..ranks).map(share).collect()
 }
 
+/// a / b, rounded up.
+pub fn rounded_up(a: i128, b: i128) -> i128 {
+    -(-a).div_euclid(b)
+}
+
 /// The same from the number of leaves before each tree, in wide arithmetic: for any total.
 pub fn leaves_by_sums(ranks: usize, leaves: &[u32]) -> Vec<Trees> {
+    leaves_by_weights(&vec![1; ranks], leaves)
+}
+
+/// The partition for ranks of these weights, not all 0.
+pub fn leaves_by_weights(weights: &[u32], leaves: &[u32]) -> Vec<Trees> {
     let mut before = vec![0i128];
     for &count in leaves {
         before.push(before[before.len() - 1] + i128::from(count));
@@ -214,15 +226,18 @@ pub fn leaves_by_sums(ranks: usize, leaves: &[u32]) -> Vec<Trees> {
     let total = before[leaves.len()];
     // the tree k with before[k] <= leaf < before[k + 1]
     let tree_of = |leaf: i128| before.partition_point(|&b| b <= leaf) as i128 - 1;
-    let share = |p: usize| {
-        let from = total * p as i128 / ranks as i128;
-        let to = total * (p as i128 + 1) / ranks as i128;
+    let whole: i128 = weights.iter().map(|&weight| i128::from(weight)).sum();
+    let mut below = 0;
+    let share = |&weight: &u32| {
+        let from = rounded_up(total * below, whole);
+        below += i128::from(weight);
+        let to = rounded_up(total * below, whole);
         if from == to {
             return Trees { first: 0, end: 0 };
         }
         Trees { first: tree_of(from), end: tree_of(to - 1) + 1 }
     };
-    (0..ranks).map(share).collect()
+    weights.iter().map(share).collect()
 }
 
 /// The bytes written to a buffer of `room` bytes.

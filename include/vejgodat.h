@@ -1328,7 +1328,8 @@ vejgodat_count;
  */
 vejgodat_leaves     vejgodat_count_leaves (uint32_t shape,
                                            const uint8_t * bits,
-                                           size_t bits_len);
+                                           size_t bits_len)
+  VEJGODAT_USE_RESULT;
 
 /** Count the leaves of each tree of a list.
  *
@@ -1363,7 +1364,8 @@ vejgodat_count      vejgodat_leaf_counts (const uint32_t * shapes,
                                           size_t lengths_len,
                                           const uint8_t * bits,
                                           size_t bits_len,
-                                          uint32_t * out, size_t out_len);
+                                          uint32_t * out, size_t out_len)
+  VEJGODAT_USE_RESULT;
 
 /** @} */
 
@@ -1407,6 +1409,7 @@ uint32_t            vejgodat_region_counts (const uint8_t * part,
                                             const uint8_t * table,
                                             size_t table_len, uint32_t rank,
                                             uint32_t * out, size_t out_len)
+  VEJGODAT_USE_RESULT;
 
 /** @} */
 

@@ -8,7 +8,7 @@ use Rattle.encoding.specs.Below.{allBelow, anyBelow, leastBelow}
 use Rattle.encoding.specs.Numbers.{leValue, leBytes, leAt}
 use Rattle.encoding.specs.Pieces.{piece, splice}
 use Rattle.records.specs.Shape.{shapeOk, dimensionOf, faceCount, facesIn, cornersOf, corners}
-use Rattle.records.specs.Record.{unused, numberOf, shapeOf, neighbourOf, codeOf, facesOf, faceOf, orientationOf, tailOk, zerosOk, unusedOk, toItself, boundaryOk, inForm}
+use Rattle.records.specs.Record.{unused, numberOf, shapeOf, neighbourOf, codeOf, facesOf, faceOf, orientationOf, regionOf, regionOk, zerosOk, unusedOk, toItself, boundaryOk, inForm}
 use Rattle.records.specs.Links.{rowOf, rowsOf, neighbourBytes, codeBytes, withRows}
 use Rattle.mesh.specs.Link.{orientationOk, sameCorners, answered, linkOk}
 use Rattle.mesh.specs.Mesh.{faceNeighbour}
@@ -46,11 +46,11 @@ rowMissing = viewOf (rowPart 0 [])
 
 -- the first is sound, the others aren't
 pub row-parts : (recordsHold rowRight ≡ true) × (recordsHold rowStranger ≡ false) × (recordsHold rowMissing ≡ false)
-unfolding recordsHold ghostsExact linksHold treeInForm ghostInForm ghostAscends besideTree ghostNear neighboursGhostly linkRule linksObey linksFar faceNeighbour linkOk orientationOk sameCorners answered shapeOk dimensionOf faceCount facesIn cornersOf corners numberOf shapeOf neighbourOf codeOf facesOf faceOf orientationOf tailOk zerosOk unusedOk toItself boundaryOk inForm allBelow anyBelow leastBelow leAt leValue leBytes piece splice partDimension partK partFirst partCount partGhostCount storedTree storedGhost globalIndex globalTree renamed renameRow rowOf rowsOf neighbourBytes codeBytes withRows rowTriangle rowPart rowMiddle rowLast
+unfolding recordsHold ghostsExact linksHold treeInForm ghostInForm ghostAscends besideTree ghostNear neighboursGhostly linkRule linksObey linksFar faceNeighbour linkOk orientationOk sameCorners answered shapeOk dimensionOf faceCount facesIn cornersOf corners numberOf shapeOf neighbourOf codeOf facesOf faceOf orientationOf regionOk regionOf zerosOk unusedOk toItself boundaryOk inForm allBelow anyBelow leastBelow leAt leValue leBytes piece splice partDimension partK partFirst partCount partGhostCount storedTree storedGhost globalIndex globalTree renamed renameRow rowOf rowsOf neighbourBytes codeBytes withRows rowTriangle rowPart rowMiddle rowLast
 row-parts = (refl, refl, refl)
 
 -- in both it is the ghosts alone that are wrong: forms, order, shapes and links are as they should be
 pub row-ghosts : (allBelow 1 (treeInForm rowStranger) ≡ true) × (allBelow 2 (ghostInForm rowStranger) ≡ true) × (linksHold rowStranger ≡ true) × (ghostsExact rowStranger ≡ false)
     × (allBelow 1 (treeInForm rowMissing) ≡ true) × (linksHold rowMissing ≡ true) × (ghostsExact rowMissing ≡ false)
-unfolding ghostsExact linksHold treeInForm ghostInForm ghostAscends besideTree ghostNear neighboursGhostly linkRule linksObey linksFar faceNeighbour linkOk orientationOk sameCorners answered shapeOk dimensionOf faceCount facesIn cornersOf corners numberOf shapeOf neighbourOf codeOf facesOf faceOf orientationOf tailOk zerosOk unusedOk toItself boundaryOk inForm allBelow anyBelow leastBelow leAt leValue leBytes piece splice partDimension partK partFirst partCount partGhostCount storedTree storedGhost globalIndex globalTree renamed renameRow rowOf rowsOf neighbourBytes codeBytes withRows rowTriangle rowPart rowMiddle rowLast
+unfolding ghostsExact linksHold treeInForm ghostInForm ghostAscends besideTree ghostNear neighboursGhostly linkRule linksObey linksFar faceNeighbour linkOk orientationOk sameCorners answered shapeOk dimensionOf faceCount facesIn cornersOf corners numberOf shapeOf neighbourOf codeOf facesOf faceOf orientationOf regionOk regionOf zerosOk unusedOk toItself boundaryOk inForm allBelow anyBelow leastBelow leAt leValue leBytes piece splice partDimension partK partFirst partCount partGhostCount storedTree storedGhost globalIndex globalTree renamed renameRow rowOf rowsOf neighbourBytes codeBytes withRows rowTriangle rowPart rowMiddle rowLast
 row-ghosts = (refl, refl, refl, refl, refl, refl, refl)

@@ -17,7 +17,6 @@ use Rattle.area.specs.Area.{areaRank, areaCount, areaGhosts, areaNew, areaSound
 use Rattle.area.specs.Close.{allHeard, joinedPart, closeChecks, closeOf}
 use Rattle.close_check.specs.Means.{joinSound}
 use Rattle.close_check.proofs.AreaSlots.{joined-length}
-use Rattle.close_check.proofs.Reading.{join-sound-part}
 use Rattle.close.specs.Means.{JoinRoom}
 use Rattle.close_check.proofs.Checks.{closes-sound, refused-heard, refused-join}
 
@@ -40,12 +39,6 @@ module _ (a : List ℕ) where
       let s : areaSound a ≡ true = closes-sound a e in
       let h : allHeard a ≡ true = either (allHeard a) (λ t. t) (λ f. absurd (omega (arith, refused-heard a s f))) in
       record { isSound = s; heardAll = h; joined = either (joinSound a) (λ t. t) (λ f. absurd (omega (arith, refused-join a s h b f))) }
-
--- the part that a close writes is sound for the new table and the area's rank
-pub closed-sound : (a : List ℕ) → Bytes a → firstFailed (closeChecks a) ≡ 0 → partSound (joinedPart a) (areaNew a) (areaRank a) ≡ true
-closed-sound a b e =
-    let h = closable a b e in
-    sym (join-sound-part a b (h .isSound) (h .heardAll)) ∙ h .joined
 
 module _ (a out : List ℕ) {r : ℕ} (checked : r ≡ firstFailed (closeChecks a)) where
   with-room : (b : Bool) → firstFailed (closeChecks a ++ (check b 22 ∷ [])) ≡ cond (eqb r 0) (cond b 0 22) r

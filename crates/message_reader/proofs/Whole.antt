@@ -18,7 +18,7 @@ use Rattle.message.specs.Reading.{recordCount, recordAt, remainAfter}
 use Rattle.message.specs.Calls.{readingOf}
 use Rattle.message.proofs.Layouts.{size-length, layout-size}
 use Rattle.message.proofs.Reading.{readTo, read-all, record-past, remain-past, record-tree, record-ghost, count-all, count-none, reading-refused}
-use Rattle.message_reader.specs.Handing.{beginOf, begunSeen, nextOf, handed, remains, readerAfter, row, treesOf, ghostsOf, down}
+use Rattle.message_reader.specs.Handing.{beginOf, begunSeen, nextOf, handed, remains, readerAfter, row, treeRecords, ghostRecords, down}
 use Rattle.message_reader.specs.declared.Begun.{Begun}
 use Rattle.message_reader.proofs.Handed.{place-next, place-last}
 use Rattle.message_reader.proofs.Stepped.{reader}
@@ -76,8 +76,8 @@ module _ (s : RefT (List ℕ)) where
 
 -- ---- trees, then ghosts
 
-records-are : (m : List ℕ) → sizeLaid m ≡ true → row 0 (recordCount m) (recordAt m) ≡ treesOf m ++ ghostsOf m
-unfolding treesOf ghostsOf
+records-are : (m : List ℕ) → sizeLaid m ≡ true → row 0 (recordCount m) (recordAt m) ≡ treeRecords m ++ ghostRecords m
+unfolding treeRecords ghostRecords
 records-are m laid =
     let t : row 0 (messageTrees m) (recordAt m) ≡ row 0 (messageTrees m) (λ i. piece m (messageTreePlace i) treeSize) = row-same (messageTrees m) 0 _ _ (λ k l u. record-tree m laid k (omega arith)) in
     let g : row 0 (messageGhosts m) (λ j. recordAt m (messageTrees m + j)) ≡ row 0 (messageGhosts m) (messageGhost m) = row-same (messageGhosts m) 0 _ _ (λ k l u. record-ghost m laid k (omega arith)) in
@@ -120,7 +120,7 @@ module _ (m : List ℕ) (b : Begun) (begun : begunSeen b ≡ beginOf m) where
         ∙ (handed-from (b .reader .message) (recordCount m) 0 (omega (arith, ap recordCount lent-is)) ∙ ap (λ l. row 0 (recordCount m) (recordAt l)) lent-is)
 
     -- the records in order, trees before ghosts
-    pub reads-records : handed (recordCount m) (b .reader) ≡ treesOf m ++ ghostsOf m
+    pub reads-records : handed (recordCount m) (b .reader) ≡ treeRecords m ++ ghostRecords m
     reads-records = handed-all ∙ records-are m (layout-size m laid)
 
     -- every byte behind the header, once

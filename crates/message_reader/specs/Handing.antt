@@ -70,11 +70,11 @@ row i zero f = []
 row i (suc n) f = f i ∷ row (i + 1) n f
 
 -- the trees of a message, each with its data, then its ghosts
-unfoldable pub treesOf : List ℕ → List (List ℕ)
-treesOf m = row 0 (messageTrees m) (λ i. piece m (messageTreePlace i) treeSize)
+unfoldable pub treeRecords : List ℕ → List (List ℕ)
+treeRecords m = row 0 (messageTrees m) (λ i. piece m (messageTreePlace i) treeSize)
 
-unfoldable pub ghostsOf : List ℕ → List (List ℕ)
-ghostsOf m = row 0 (messageGhosts m) (messageGhost m)
+unfoldable pub ghostRecords : List ℕ → List (List ℕ)
+ghostRecords m = row 0 (messageGhosts m) (messageGhost m)
 
 -- n - 1, n - 2 and so on to 0
 unfoldable pub down : ℕ → List ℕ

@@ -14,7 +14,7 @@ use Rattle.encoding.proofs.Below.{tests, either}
 use Rattle.encoding.specs.Refusal.{firstFailed}
 use Rattle.refinement.specs.declared.walk.TreeLeaves.{TreeLeaves}
 use Rattle.refinement.specs.declared.walk.Walk.{Walk}
-use Rattle.refinement.specs.Refinement.{Row, Kind, upright, inverted, one, children, childKinds, shapeOk, leavesIn, leaves}
+use Rattle.refinement.specs.Refinement.{Row, Kind, upright, inverted, one, children, childKinds, refinable, leavesIn, leaves}
 use Rattle.refinement.specs.Reading.{Reading, stopped, found, afterLeaf, afterChildren, afterRefined, readRow, readChildren, readTree, whole, rowOf, stringOk, refinementOf}
 use Rattle.refinement.specs.Calls.{uprightLeaves, invertedLeaves, leafCount, countRefusal, leavesRefused, leavesAnswer, countLeaves}
 use Rattle.refinement.specs.Means.Trees.{treeAt, treeOf}
@@ -203,7 +203,7 @@ module _ (shape : ℕ) (s : List ℕ) (r : TreeLeaves) (e : r ≡ treeOf shape s
   tree-count h = rw (tree-upright h, tree-inverted h)
 
 -- the answers for one tree
-module _ (shape : ℕ) (s : List ℕ) (r : TreeLeaves) (e : r ≡ treeOf shape s) (so : shapeOk shape ≡ true) where
+module _ (shape : ℕ) (s : List ℕ) (r : TreeLeaves) (e : r ≡ treeOf shape s) (so : refinable shape ≡ true) where
   pub refused-string : r .ok ≡ false → leavesRefused 23 ≡ countLeaves shape s
   unfolding countLeaves countRefusal leavesAnswer firstFailed
   refused-string h = rw (so, sym (tree-ok shape s r e) ∙ h)

@@ -20,7 +20,7 @@ use Rattle.refinement.specs.declared.Count.{Count}
 use Rattle.refinement.specs.declared.trees.Seen.{Seen}
 use Rattle.refinement.specs.declared.walk.TreeLeaves.{TreeLeaves}
 use Rattle.refinement.specs.Reading.{stringOk}
-use Rattle.refinement.specs.Calls.{leafCount, listBelow, stringStart, stringOf, treesOk, shapesOk, stringsOk, countOf, countsOk, countList, countsRefusal, countRefused, countAnswer, leafCounts}
+use Rattle.refinement.specs.Calls.{leafCount, listBelow, stringStart, stringOf, treesOk, shapesOk, stringsOk, countOf, countsFit, countList, countsRefusal, countRefused, countAnswer, leafCounts}
 use Rattle.refinement.specs.Means.Trees.{treeOf, seenOf, Ready}
 use Rattle.refinement.proofs.Counts.{tree-ok, tree-count}
 
@@ -79,7 +79,7 @@ module _ (shapes lengths bits : List ℕ) where
         not-seen (rw f)
 
     pub surveyed-done : length shapes ≤ i → length bits ≤ at → record { ok = true; small = small } ≡ seenOf shapes lengths bits
-    unfolding seenOf stringsOk countsOk
+    unfolding seenOf stringsOk countsFit
     surveyed-done h l =
         let e : i ≡ length shapes = omega (arith, v .within) in
         let f : eqb (stringStart lengths (length shapes)) (length bits) ≡ true =
@@ -155,7 +155,7 @@ module _ (shapes lengths bits : List ℕ) (ready : Ready shapes lengths bits) wh
       (and-snd (eqb (stringStart lengths (length shapes)) (length bits)) (allBelow (length shapes) (λ k. stringOk (getD shapes k 0) (stringOf lengths bits k))) (ready .strings)) i h
 
   ready-count : (i : ℕ) → i < length shapes → countOf shapes lengths bits i ≤ 16777216
-  unfolding countsOk
+  unfolding countsFit
   ready-count i h = leb-true (countOf shapes lengths bits i) 16777216 (all-at (length shapes) (λ k. leb (countOf shapes lengths bits k) maxLeaves) (ready .counts) i h)
 
   pub writing-start : (out : List ℕ) → Writing shapes lengths bits out out 0 0
@@ -204,7 +204,7 @@ module _ (shapes lengths bits : List ℕ) (to : treesOk shapes lengths ≡ true)
     unfolding seenOf
     seen-strings = rw e (either (stringsOk shapes lengths bits) (λ p. rw p) (λ p. rw p))
 
-    seen-counts : v .ok ≡ true → v .small ≡ countsOk shapes lengths bits
+    seen-counts : v .ok ≡ true → v .small ≡ countsFit shapes lengths bits
     unfolding seenOf
     seen-counts h = rw (e, sym seen-strings ∙ h)
 

@@ -13,9 +13,9 @@ use Rattle.encoding.specs.Refusal.{firstFailed}
 use Rattle.encoding.proofs.Below.{either, clash, below-suc, and-fst, and-snd, and-intro, all-at, all-intro}
 use Rattle.leaves.specs.Leaves.{maxLeaves, leavesOk}
 use Rattle.offsets.specs.Limits.{treeCountOk}
-use Rattle.refinement.specs.Refinement.{shapeOk, Row, end, leaf, refined, Kind, upright, inverted, one, children, childKinds, maxDepth, fits, refines, bits, leavesIn, leaves}
+use Rattle.refinement.specs.Refinement.{refinable, Row, end, leaf, refined, Kind, upright, inverted, one, children, childKinds, maxDepth, fits, refines, bits, leavesIn, leaves}
 use Rattle.refinement.specs.Reading.{stringOk, refinementOf}
-use Rattle.refinement.specs.Calls.{uprightLeaves, invertedLeaves, leafCount, countRefusal, leavesAnswer, countLeaves, listBelow, stringStart, stringOf, treesOk, shapesOk, stringsOk, countOf, countsOk, countList, countsRefusal}
+use Rattle.refinement.specs.Calls.{uprightLeaves, invertedLeaves, leafCount, countRefusal, leavesAnswer, countLeaves, listBelow, stringStart, stringOf, treesOk, shapesOk, stringsOk, countOf, countsFit, countList, countsRefusal}
 use Rattle.refinement.specs.Promises.{CountsAreLeaves, OthersUpright, CountInLimits, CountsMakeTables, EachAsAlone}
 use Rattle.refinement.proofs.Strings.{written-is-accepted, accepted-fits}
 use Rattle.refinement.proofs.Counts.{kinds-length}
@@ -94,10 +94,10 @@ passed true true true true e h f = f refl refl refl refl
 pub count-in-limits : CountInLimits
 unfolding countRefusal firstFailed
 count-in-limits shape s e =
-    passed-one (shapeOk shape) (stringOk shape s) (leb (leafCount shape s) maxLeaves) e (λ b c. (accepted-leaf shape s b, leb-true (leafCount shape s) maxLeaves c))
+    passed-one (refinable shape) (stringOk shape s) (leb (leafCount shape s) maxLeaves) e (λ b c. (accepted-leaf shape s b, leb-true (leafCount shape s) maxLeaves c))
 
-table-counts : (shapes lengths bits : List ℕ) → treesOk shapes lengths ≡ true → stringsOk shapes lengths bits ≡ true → countsOk shapes lengths bits ≡ true → leavesOk (countList shapes lengths bits) ≡ true
-unfolding leavesOk countList treesOk stringsOk countsOk countOf
+table-counts : (shapes lengths bits : List ℕ) → treesOk shapes lengths ≡ true → stringsOk shapes lengths bits ≡ true → countsFit shapes lengths bits ≡ true → leavesOk (countList shapes lengths bits) ≡ true
+unfolding leavesOk countList treesOk stringsOk countsFit countOf
 table-counts shapes lengths bits a c d =
     let l : length (listBelow (length shapes) (countOf shapes lengths bits)) ≡ length shapes = below-length (length shapes) (countOf shapes lengths bits) in
     rw l
@@ -118,21 +118,21 @@ table-counts shapes lengths bits a c d =
 pub counts-make-tables : CountsMakeTables
 unfolding countsRefusal firstFailed
 counts-make-tables shapes lengths bits out e =
-    passed (treesOk shapes lengths) (shapesOk shapes) (stringsOk shapes lengths bits) (countsOk shapes lengths bits) (leb (length shapes) (length out)) e
+    passed (treesOk shapes lengths) (shapesOk shapes) (stringsOk shapes lengths bits) (countsFit shapes lengths bits) (leb (length shapes) (length out)) e
     (λ a b c d. table-counts shapes lengths bits a c d)
 
-alone : (shape : ℕ) (s : List ℕ) → shapeOk shape ≡ true → stringOk shape s ≡ true → leb (leafCount shape s) maxLeaves ≡ true → (countRefusal shape s ≡ 0) × (leafCount shape s ≡ countLeaves shape s .leaves)
+alone : (shape : ℕ) (s : List ℕ) → refinable shape ≡ true → stringOk shape s ≡ true → leb (leafCount shape s) maxLeaves ≡ true → (countRefusal shape s ≡ 0) × (leafCount shape s ≡ countLeaves shape s .leaves)
 unfolding countLeaves countRefusal leavesAnswer firstFailed leafCount
 alone shape s a b c = (rw (a, b, c), rw (a, b, c))
 
 -- in a list each tree has the count that it has by itself
 pub each-as-alone : EachAsAlone
-unfolding countsRefusal firstFailed shapesOk stringsOk countsOk countList countOf
+unfolding countsRefusal firstFailed shapesOk stringsOk countsFit countList countOf
 each-as-alone shapes lengths bits out e k h =
-    passed (treesOk shapes lengths) (shapesOk shapes) (stringsOk shapes lengths bits) (countsOk shapes lengths bits) (leb (length shapes) (length out)) e
+    passed (treesOk shapes lengths) (shapesOk shapes) (stringsOk shapes lengths bits) (countsFit shapes lengths bits) (leb (length shapes) (length out)) e
     (λ a b c d.
     let r : (countRefusal (getD shapes k 0) (stringOf lengths bits k) ≡ 0) × (leafCount (getD shapes k 0) (stringOf lengths bits k) ≡ countLeaves (getD shapes k 0) (stringOf lengths bits k) .leaves) =
-    alone (getD shapes k 0) (stringOf lengths bits k) (all-at (length shapes) (λ j. shapeOk (getD shapes j 0)) b k h)
+    alone (getD shapes k 0) (stringOf lengths bits k) (all-at (length shapes) (λ j. refinable (getD shapes j 0)) b k h)
     (all-at (length shapes) (λ j. stringOk (getD shapes j 0) (stringOf lengths bits j))
     (and-snd (eqb (stringStart lengths (length shapes)) (length bits)) (allBelow (length shapes) (λ j. stringOk (getD shapes j 0) (stringOf lengths bits j))) c) k h)
     (all-at (length shapes) (λ j. leb (countOf shapes lengths bits j) maxLeaves) d k h) in

@@ -12,7 +12,7 @@ use Rattle.leaves.specs.Leaves.{maxLeaves}
 use Rattle.offsets.specs.Limits.{treeCountOk}
 use Rattle.refinement.specs.declared.Count.{Count}
 use Rattle.refinement.specs.declared.Leaves.{Leaves}
-use Rattle.refinement.specs.Refinement.{upright, inverted, shapeOk, leaves}
+use Rattle.refinement.specs.Refinement.{upright, inverted, refinable, leaves}
 use Rattle.refinement.specs.Reading.{stringOk, refinementOf}
 
 -- ---- one tree
@@ -28,7 +28,7 @@ unfoldable pub leafCount : ℕ → List ℕ → ℕ
 leafCount shape s = uprightLeaves shape s + invertedLeaves shape s
 
 unfoldable pub countRefusal : ℕ → List ℕ → ℕ
-countRefusal shape s = firstFailed (check (shapeOk shape) 24 ∷ check (stringOk shape s) 23 ∷ check (leb (leafCount shape s) maxLeaves) 25 ∷ [])
+countRefusal shape s = firstFailed (check (refinable shape) 24 ∷ check (stringOk shape s) 23 ∷ check (leb (leafCount shape s) maxLeaves) 25 ∷ [])
 
 -- the refusal alone
 abbrev pub leavesRefused : ℕ → Leaves
@@ -59,7 +59,7 @@ unfoldable pub treesOk : List ℕ → List ℕ → Bool
 treesOk shapes lengths = eqb (length lengths) (length shapes) && treeCountOk (length shapes)
 
 unfoldable pub shapesOk : List ℕ → Bool
-shapesOk shapes = allBelow (length shapes) (λ k. shapeOk (getD shapes k 0))
+shapesOk shapes = allBelow (length shapes) (λ k. refinable (getD shapes k 0))
 
 -- the strings cover the bytes exactly, and each is in order
 unfoldable pub stringsOk : List ℕ → List ℕ → List ℕ → Bool
@@ -70,8 +70,8 @@ stringsOk shapes lengths bits =
 unfoldable pub countOf : List ℕ → List ℕ → List ℕ → ℕ → ℕ
 countOf shapes lengths bits k = leafCount (getD shapes k 0) (stringOf lengths bits k)
 
-unfoldable pub countsOk : List ℕ → List ℕ → List ℕ → Bool
-countsOk shapes lengths bits = allBelow (length shapes) (λ k. leb (countOf shapes lengths bits k) maxLeaves)
+unfoldable pub countsFit : List ℕ → List ℕ → List ℕ → Bool
+countsFit shapes lengths bits = allBelow (length shapes) (λ k. leb (countOf shapes lengths bits k) maxLeaves)
 
 -- one count for each tree
 unfoldable pub countList : List ℕ → List ℕ → List ℕ → List ℕ
@@ -83,7 +83,7 @@ countsRefusal shapes lengths bits out =
     (check (treesOk shapes lengths) 6
     ∷ check (shapesOk shapes) 24
     ∷ check (stringsOk shapes lengths bits) 23
-    ∷ check (countsOk shapes lengths bits) 25
+    ∷ check (countsFit shapes lengths bits) 25
     ∷ check (leb (length shapes) (length out)) 22
     ∷ [])
 

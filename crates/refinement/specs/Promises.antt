@@ -6,7 +6,7 @@ use mathlib.Core.List.{List}
 use lib.Dec.{eqb}
 use lib.ListN.{length, getD}
 use Rattle.leaves.specs.Leaves.{leavesOk, maxLeaves}
-use Rattle.refinement.specs.Refinement.{Row, upright, inverted, shapeOk, refines, bits, leaves}
+use Rattle.refinement.specs.Refinement.{Row, upright, inverted, refinable, refines, bits, leaves}
 use Rattle.refinement.specs.Reading.{stringOk, refinementOf}
 use Rattle.refinement.specs.Calls.{leafCount, countRefusal, countLeaves, stringOf, countsRefusal, countList}
 
@@ -31,7 +31,7 @@ CountsMakeTables = (shapes lengths bits out : List ℕ) → countsRefusal shapes
 -- the answer for a refinement's string is its upright leaves, its inverted ones, and their sum
 abbrev pub CountsAreLeaves : Type 0
 CountsAreLeaves =
-    (shape : ℕ) (r : Row) → shapeOk shape ≡ true → refines shape r ≡ true → leaves shape upright r + leaves shape inverted r ≤ maxLeaves →
+    (shape : ℕ) (r : Row) → refinable shape ≡ true → refines shape r ≡ true → leaves shape upright r + leaves shape inverted r ≤ maxLeaves →
     countLeaves shape (bits r) ≡ record { refusal = 0; upright = leaves shape upright r; inverted = leaves shape inverted r; leaves = leaves shape upright r + leaves shape inverted r }
 
 -- only triangles have inverted leaves

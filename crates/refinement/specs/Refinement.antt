@@ -25,8 +25,8 @@ abbrev pub maxDepth : ℕ
 maxDepth = 20
 
 -- quadrilateral, triangle, hexahedron or tetrahedron
-unfoldable pub shapeOk : ℕ → Bool
-shapeOk shape = ltb shape 4
+unfoldable pub refinable : ℕ → Bool
+refinable shape = ltb shape 4
 
 unfoldable pub children : ℕ → ℕ
 children shape = cond (ltb shape 2) 4 8

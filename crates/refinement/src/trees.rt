@@ -7,7 +7,7 @@ ghost use lib.Dec.{eqb};
 ghost use mathlib.Core.Bool.{false, _&&_};
 ghost use Rattle.encoding.specs.Pieces.{splice};
 ghost use Rattle.offsets.specs.Limits.{treeCountOk};
-ghost use Rattle.refinement.specs.Refinement.{shapeOk};
+ghost use Rattle.refinement.specs.Refinement.{refinable};
 ghost use Rattle.refinement.specs.Calls.{shapesOk, countList};
 ghost use Rattle.refinement.specs.Means.Trees.{seenOf, Ready};
 
@@ -18,7 +18,7 @@ pub struct Seen {
 }
 
 pub fn shape_ok(shape: u32) -> bool
-    ensures { λ r. ⌜ r ≡ shapeOk shape ⌝ }
+    ensures { λ r. ⌜ r ≡ refinable shape ⌝ }
 {
     shape < 4
 }

@@ -7,6 +7,9 @@ use mathlib.Core.List.{List, [], _∷_}
 use lib.Dec.{eqb}
 use lib.ListN.{length}
 use borrow.Author.Tests.{lt-ltb, le-leb, eq-eqb}
+use Rattle.offsets_write.proofs.Refusals.{six-means, table-written}
+use Rattle.plan_write.proofs.Listing.{moves-printed}
+use Rattle.plan_text.proofs.Texts.{plan-texts}
 use Rattle.encoding.specs.Answer.{lengthAnswer, writeAnswer}
 use Rattle.encoding.specs.Pieces.{Bytes}
 use Rattle.encoding.specs.Refusal.{check, firstFailed}
@@ -24,7 +27,7 @@ use Rattle.offsets_write.proofs.Partitions.{trees-are, table-of, table-unique, 
 use Rattle.leaves.proofs.LeafCounts.{leaf-table-holds}
 use Rattle.pattern.specs.Sender.{sentFirst, sentCount}
 use Rattle.pattern.proofs.Counting.{range-true, range-in}
-use Rattle.pattern.proofs.Sets.{send-ascends, receive-ascends, symmetric, one-sender, one-range, received-disjoint, received-covers, received-only}
+use Rattle.pattern.proofs.Sets.{send-ascends, receive-ascends, symmetric, one-sender, one-range, received-disjoint, received-covers, received-only, send-ends, receive-ends}
 use Rattle.mesh.specs.Mesh.{meshTrees, meshSound, meshRefusal}
 use Rattle.part.specs.Cut.{cutPart}
 use Rattle.part.specs.Part.{partSound}
@@ -252,6 +255,8 @@ demand-2 =
       one-table = one-table-written;
       only-valid = only-valid;
       table-again = table-written-again;
+      six-means = six-means;
+      table-written = table-written;
       shared-first = shared-first;
       leaf-tables = leaf-tables;
       symmetric = symmetric;
@@ -259,6 +264,9 @@ demand-2 =
       one-range = one-range;
       received = received;
       sets-ascend = sets-ascend;
+      sets-end = λ old new rank. (send-ends old new rank, receive-ends old new rank);
+      plan-texts = plan-texts;
+      plan-moves = moves-printed;
       cut-parts = cut-parts;
       messages = messages;
       built-in-layout = built-in-layout;

@@ -15,7 +15,10 @@ use Rattle.encoding.specs.Refusal.{firstFailed}
 use Rattle.encoding.proofs.Below.{either, clash}
 use Rattle.offsets.specs.Table.{ranks, ranksOk, trees, valid}
 use Rattle.offsets_write.specs.Calls.{writeTable}
-use Rattle.leaves.specs.Calls.{tableFromLeaves}
+use Rattle.leaves.specs.Calls.{tableFromLeaves, tableFromWeights, tableFromBlocks}
+use Rattle.plan_text.specs.Plan.{planAnswer, planOutputAnswer}
+use Rattle.refinement.specs.Calls.{countAnswer, leafCounts}
+use Rattle.regions.specs.Calls.{regionCountsOf}
 use Rattle.pattern.specs.Sets.{sendsTo}
 use Rattle.pattern.specs.Calls.{tableChecks, ranksAnswer, setAnswer, sendSetOf, receiveSetOf}
 use Rattle.part.specs.Part.{partSound}
@@ -27,7 +30,7 @@ use Rattle.area.specs.Area.{areaRank, areaGhosts, areaNew, areaBound, heard, ar
 use Rattle.area_open.specs.Calls.{openAreaOf}
 use Rattle.area.specs.Deliver.{sameRun, senderDue, treesDue, ghostDue, ghostNew, deliverChecks, deliverOf}
 use Rattle.area.specs.Close.{allHeard, joinedPart, closeChecks, closeOf}
-use Rattle.repartition.specs.Refusals.{Unchanged, RefusedUnchanged, RefusalsMean, ClosesSound}
+use Rattle.repartition.specs.Refusals.{Unchanged, SetUnchanged, RefusedUnchanged, RefusalsMean, ClosesSound}
 
 -- ---- what a refused call leaves
 
@@ -39,12 +42,23 @@ refused-writes refusal object out declined =
     (λ e. absurd (declined (rw e)))
     (λ e. rw e (refl, refl))
 
-refused-set : (refusal : ℕ) (set out : List ℕ) → (setAnswer refusal set out .0 .refusal ≡ 0 → ⊥) → setAnswer refusal set out .1 ≡ out
+refused-set : (refusal : ℕ) (set out : List ℕ) → SetUnchanged (setAnswer refusal set out) out
 unfolding setAnswer ranksAnswer written
 refused-set refusal set out declined =
     either (eqb refusal 0)
     (λ e. absurd (declined (rw e)))
-    (λ e. rw e)
+    (λ e. rw e (refl, refl, refl, refl))
+
+refused-counts : (refusal n : ℕ) (counts out : List ℕ) → (countAnswer refusal n .refusal ≡ 0 → ⊥) → (countAnswer refusal n .count ≡ 0) × (written refusal counts out ≡ out)
+unfolding countAnswer written
+refused-counts refusal n counts out declined =
+    either (eqb refusal 0)
+    (λ e. absurd (declined (rw e)))
+    (λ e. rw e (refl, refl))
+
+refused-list : (refusal : ℕ) (counts out : List ℕ) → (refusal ≡ 0 → ⊥) → written refusal counts out ≡ out
+unfolding written
+refused-list refusal counts out declined = either (eqb refusal 0) (λ e. absurd (declined (eqb-true refusal 0 e))) (λ e. rw e)
 
 refused-deliver : (area m : List ℕ) → (deliverOf area m .0 ≡ 0 → ⊥) → deliverOf area m .1 ≡ area
 unfolding deliverOf
@@ -54,11 +68,15 @@ refused-deliver area m declined =
     (λ e. rw e)
 
 pub refused-unchanged : RefusedUnchanged
-unfolding writeTable tableFromLeaves cutPartOf buildMessageOf openAreaOf closeOf sendSetOf receiveSetOf
+unfolding writeTable tableFromLeaves tableFromWeights tableFromBlocks planAnswer planOutputAnswer leafCounts regionCountsOf cutPartOf buildMessageOf openAreaOf closeOf sendSetOf receiveSetOf
 refused-unchanged =
     record {
       write-table = λ P first count out. refused-writes _ _ out;
       table-from-leaves = λ P ls out. refused-writes _ _ out;
+      table-from-weights = λ ws ls out. refused-writes _ _ out;
+      table-from-blocks = λ P ls sums out. refused-writes _ _ out;
+      plan = λ text out. refused-writes _ _ out;
+      plan-output = λ text out. refused-writes _ _ out;
       cut-part = λ mesh table rank out. refused-writes _ _ out;
       build-message = λ part old new p q epoch out. refused-writes _ _ out;
       open-area = λ old new rank dimension epoch out. refused-writes _ _ out;
@@ -66,6 +84,8 @@ refused-unchanged =
       deliver = refused-deliver;
       send-set = λ old new p out. refused-set _ _ out;
       receive-set = λ old new q out. refused-set _ _ out;
+      leaf-counts = λ shapes lengths bits out. refused-counts _ _ _ out;
+      region-counts = λ part table rank out. refused-list _ _ out;
     }
 
 -- ---- what a number means

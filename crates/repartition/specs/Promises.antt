@@ -17,7 +17,10 @@ use Rattle.offsets.specs.Calls.{tableRefusal, tableRange}
 use Rattle.offsets_write.specs.Calls.{each, writeTable}
 use Rattle.leaves.specs.Calls.{tableFromLeaves}
 use Rattle.pattern.specs.Sender.{Tables, sends, sentFirst, sentCount}
-use Rattle.pattern.specs.Sets.{sendsTo, sendSet, receiveSet}
+use Rattle.pattern.specs.Sets.{sendsTo, sendSet, receiveSet, Ends}
+use Rattle.offsets_write.specs.Promises.{SixMeans, TableWritten}
+use Rattle.plan_write.specs.Promises.{PlanMoves}
+use Rattle.plan_text.specs.Promises.{PlanTexts}
 use Rattle.records.specs.Record.{treeSize, numberOf, shapeOf}
 use Rattle.mesh.specs.Mesh.{meshDimension, meshTrees, meshCore, meshRecord, meshRefusal}
 use Rattle.part.specs.Ghosts.{isGhost}
@@ -32,7 +35,7 @@ use Rattle.message.specs.Rule.{sendsGhost}
 use Rattle.message.specs.Build.{partRecord, partMessage}
 use Rattle.message.specs.Calls.{buildMessageOf}
 use Rattle.message.specs.Reading.{recordCount}
-use Rattle.message_reader.specs.Handing.{beginOf, begunSeen, nextOf, handed, remains, readerAfter, treesOf, ghostsOf, down}
+use Rattle.message_reader.specs.Handing.{beginOf, begunSeen, nextOf, handed, remains, readerAfter, treeRecords, ghostRecords, down}
 use Rattle.message_reader.specs.declared.Begun.{Begun}
 use Rattle.repartition.specs.Run.{Run, Setting}
 use Rattle.repartition.specs.Lists.{treeIn, ghostWith, Built, messageOf}
@@ -115,6 +118,10 @@ Ascends set = (i j : ℕ) → i < j → j < length set → getD set i 0 < getD s
 abbrev pub SetsAscend : Type 0
 SetsAscend = (old new : List ℕ) (rank : ℕ) → Ascends (sendSet old new rank) × Ascends (receiveSet old new rank)
 
+-- smallest and largest are a set's least and greatest, −1 and −2 for an empty one
+abbrev pub SetsEnd : Type 0
+SetsEnd = (old new : List ℕ) (rank : ℕ) → Ends (sendSet old new rank) × Ends (receiveSet old new rank)
+
 -- ---- parts
 
 -- part is what a rank of a table holds of a mesh
@@ -172,7 +179,7 @@ BuiltInLayout =
 -- reading a message in layout to its end, by the next call on the reader that each one before it left
 pub record ReadToEnd (m : List ℕ) (b : Begun) : Type 0 where
   -- hands out its records in order, trees with their data before ghosts
-  pub records : handed (recordCount m) (b .reader) ≡ treesOf m ++ ghostsOf m
+  pub records : handed (recordCount m) (b .reader) ≡ treeRecords m ++ ghostRecords m
   -- which are every byte behind the header, once
   pub bytes : flatten (handed (recordCount m) (b .reader)) ≡ drop messageHeader m
   -- what remains falls by one each time, to none
@@ -203,6 +210,9 @@ pub record Demand2 : Type 0 where
   pub one-table : OneTable
   pub only-valid : OnlyValid
   pub table-again : TableAgain
+  -- refusal 6 of ranges exactly where there is no table, and the table where there is one
+  pub six-means : SixMeans
+  pub table-written : TableWritten
   pub shared-first : SharedFirst
   pub leaf-tables : LeafTables
   pub symmetric : Symmetric
@@ -210,6 +220,10 @@ pub record Demand2 : Type 0 where
   pub one-range : OneRange
   pub received : Received
   pub sets-ascend : SetsAscend
+  pub sets-end : SetsEnd
+  -- the program: what it answers to every text, and which moves it prints
+  pub plan-texts : PlanTexts
+  pub plan-moves : PlanMoves
   pub cut-parts : CutParts
   pub messages : Messages
   pub built-in-layout : BuiltInLayout

@@ -6,7 +6,12 @@ use mathlib.Core.List.{List}
 use lib.ListN.{take}
 use Rattle.encoding.specs.declared.answer.Length.{Length}
 use Rattle.offsets_write.specs.Calls.{writeTable}
-use Rattle.leaves.specs.Calls.{tableFromLeaves}
+use Rattle.leaves.specs.Calls.{tableFromLeaves, tableFromWeights, tableFromBlocks}
+use Rattle.plan_text.specs.Plan.{planAnswer, planOutputAnswer}
+use Rattle.refinement.specs.Calls.{leafCounts}
+use Rattle.regions.specs.Calls.{regionCountsOf}
+use Rattle.pattern.specs.declared.Ranks.{Ranks}
+use lib.IntN.{pos}
 use Rattle.pattern.specs.Sets.{sendsTo}
 use Rattle.pattern.specs.Calls.{sendSetOf, receiveSetOf}
 use Rattle.part.specs.Part.{partSound}
@@ -22,16 +27,26 @@ use Rattle.area.specs.Close.{allHeard, joinedPart, closeOf}
 abbrev pub Unchanged : Length × List ℕ → List ℕ → Type 0
 Unchanged answer out = (answer .0 .refusal ≡ 0 → ⊥) → (answer .0 .length ≡ 0) × (answer .1 ≡ out)
 
+-- the same of a call for a set
+abbrev pub SetUnchanged : Ranks × List ℕ → List ℕ → Type 0
+SetUnchanged answer out = (answer .0 .refusal ≡ 0 → ⊥) → (answer .0 .count ≡ 0) × (answer .0 .smallest ≡ pos 0) × (answer .0 .largest ≡ pos 0) × (answer .1 ≡ out)
+
 pub record RefusedUnchanged : Type 0 where
   pub write-table : (P : ℕ) (first count out : List ℕ) → Unchanged (writeTable P first count out) out
   pub table-from-leaves : (P : ℕ) (ls out : List ℕ) → Unchanged (tableFromLeaves P ls out) out
+  pub table-from-weights : (ws ls out : List ℕ) → Unchanged (tableFromWeights ws ls out) out
+  pub table-from-blocks : (P : ℕ) (ls sums out : List ℕ) → Unchanged (tableFromBlocks P ls sums out) out
+  pub plan : (text out : List ℕ) → Unchanged (planAnswer text out) out
+  pub plan-output : (text out : List ℕ) → Unchanged (planOutputAnswer text out) out
   pub cut-part : (mesh table : List ℕ) (rank : ℕ) (out : List ℕ) → Unchanged (cutPartOf mesh table rank out) out
   pub build-message : (part old new : List ℕ) (p q epoch : ℕ) (out : List ℕ) → Unchanged (buildMessageOf part old new p q epoch out) out
   pub open-area : (old new : List ℕ) (rank dimension epoch : ℕ) (out : List ℕ) → Unchanged (openAreaOf old new rank dimension epoch out) out
   pub close-area : (area out : List ℕ) → Unchanged (closeOf area out) out
   pub deliver : (area m : List ℕ) → (deliverOf area m .0 ≡ 0 → ⊥) → deliverOf area m .1 ≡ area
-  pub send-set : (old new : List ℕ) (p : ℕ) (out : List ℕ) → (sendSetOf old new p out .0 .refusal ≡ 0 → ⊥) → sendSetOf old new p out .1 ≡ out
-  pub receive-set : (old new : List ℕ) (q : ℕ) (out : List ℕ) → (receiveSetOf old new q out .0 .refusal ≡ 0 → ⊥) → receiveSetOf old new q out .1 ≡ out
+  pub send-set : (old new : List ℕ) (p : ℕ) (out : List ℕ) → SetUnchanged (sendSetOf old new p out) out
+  pub receive-set : (old new : List ℕ) (q : ℕ) (out : List ℕ) → SetUnchanged (receiveSetOf old new q out) out
+  pub leaf-counts : (shapes lengths bits out : List ℕ) → (leafCounts shapes lengths bits out .0 .refusal ≡ 0 → ⊥) → (leafCounts shapes lengths bits out .0 .count ≡ 0) × (leafCounts shapes lengths bits out .1 ≡ out)
+  pub region-counts : (part table : List ℕ) (rank : ℕ) (out : List ℕ) → (regionCountsOf part table rank out .0 ≡ 0 → ⊥) → regionCountsOf part table rank out .1 ≡ out
 
 -- "nothing for you", "already heard" and "not all heard" hold only where the tables and bits say so
 pub record RefusalsMean : Type 0 where

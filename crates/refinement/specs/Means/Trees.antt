@@ -8,7 +8,7 @@ use lib.ListN.{length}
 use Rattle.refinement.specs.declared.trees.Seen.{Seen}
 use Rattle.refinement.specs.declared.walk.TreeLeaves.{TreeLeaves}
 use Rattle.refinement.specs.Reading.{stringOk}
-use Rattle.refinement.specs.Calls.{uprightLeaves, invertedLeaves, stringsOk, countsOk}
+use Rattle.refinement.specs.Calls.{uprightLeaves, invertedLeaves, stringsOk, countsFit}
 
 -- where a walk has come to, if to the string's end
 unfoldable pub treeAt : ℕ → Bool → ℕ → ℕ → ℕ → TreeLeaves
@@ -22,10 +22,10 @@ treeOf shape s =
 -- whether all strings are in order, and then whether no tree has too many leaves
 unfoldable pub seenOf : List ℕ → List ℕ → List ℕ → Seen
 seenOf shapes lengths bits =
-    cond (stringsOk shapes lengths bits) (record { ok = true; small = countsOk shapes lengths bits }) (record { ok = false; small = false })
+    cond (stringsOk shapes lengths bits) (record { ok = true; small = countsFit shapes lengths bits }) (record { ok = false; small = false })
 
 -- as many lengths as shapes, and strings and counts in order
 pub record Ready (shapes lengths bits : List ℕ) : Type 0 where
   pub sameLength : length lengths ≡ length shapes
   pub strings : stringsOk shapes lengths bits ≡ true
-  pub counts : countsOk shapes lengths bits ≡ true
+  pub counts : countsFit shapes lengths bits ≡ true

@@ -1,10 +1,10 @@
-use Rattle.refinement.specs.Refinement.{shapeOk}
+use Rattle.refinement.specs.Refinement.{refinable}
 use mathlib.Core.Path.{refl}
 use Rattle.refinement.proofs.trees.shape_ok.Statement.{statement}
 use Rattle.refinement.proofs.trees.shape_ok.Tie as tie
 
 returns : tie.Need-returns
-unfolding shapeOk
+unfolding refinable
 returns c = refl
 
 pub shape-ok-spec : {M : Type 1} → statement M

@@ -1,4 +1,4 @@
-use Rattle.refinement.specs.Refinement.{shapeOk}
+use Rattle.refinement.specs.Refinement.{refinable}
 use Rattle.refinement.specs.Calls.{shapesOk}
 use Rattle.encoding.proofs.Below.{all-more, all-fails, all-to}
 use Rattle.encoding.specs.Below.{allBelow}
@@ -13,7 +13,7 @@ use Rattle.refinement.proofs.trees.shapes_ok.Statement.{statement}
 use Rattle.refinement.proofs.trees.shapes_ok.Tie as tie
 
 abbrev Inv-loop : tie.InvT-loop
-Inv-loop shapes i₀ i = (i ≤ length shapes) × (allBelow i (λ k. shapeOk (getD shapes k 0)) ≡ true)
+Inv-loop shapes i₀ i = (i ≤ length shapes) × (allBelow i (λ k. refinable (getD shapes k 0)) ≡ true)
 
 abbrev μ-loop : tie.MeasureT-loop
 μ-loop shapes i₀ i = length shapes - i

@@ -32,9 +32,9 @@ use refinement::Leaves;
 // 10000 major + 100 minor + patch
 #[no_mangle]
 pub extern "C" fn vejgodat_version() -> u32
-    ensures { λ r. ⌜ r ≡ 200 ⌝ }
+    ensures { λ r. ⌜ r ≡ 300 ⌝ }
 {
-    200
+    300
 }
 
 #[no_mangle]

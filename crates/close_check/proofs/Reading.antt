@@ -26,7 +26,7 @@ use Rattle.records.proofs.Shapes.{count-six, faces-positive}
 use Rattle.part.specs.Layout.{partHeader, treePlace, ghostPlace, partSize, headerBytes}
 use Rattle.part.specs.Cut.{renamed, renameRow}
 use Rattle.part.specs.Means.{inRange, isLocal, ghostIs, held, viewSound, RankKnown, partLinked}
-use Rattle.part.specs.Part.{noTree, partDimension, partK, partFirst, partCount, partGhostCount, storedTree, storedGhost, globalIndex, globalTree, partHeaderSound, partSound}
+use Rattle.part.specs.Part.{noTree, partDimension, partK, partFirst, partCount, partGhostCount, storedTree, storedGhost, globalNumber, globalTree, partHeaderSound, partSound}
 use Rattle.part.proofs.Sound.{part-sound-is}
 use Rattle.part.proofs.Records.{links-length, header-length, rows-core}
 use Rattle.part_theorems.proofs.Renamed.{renamed-length, renamed-number, renamed-shape, renamed-neighbour, renamed-back}
@@ -258,8 +258,8 @@ module _ (a : List ℕ) (b : Bytes a) (sound : areaSound a ≡ true) where
       let k : ℕ = firstTree (areaNew a) (areaRank a) + i in
       sym (range-is a b sound k) ∙ rw (le-leb (firstTree (areaNew a) (areaRank a)) k (omega arith), lt-ltb k (firstTree (areaNew a) (areaRank a) + n) (omega arith))
 
-  index-unused : (k : ℕ) → eqb k unused ≡ true → globalIndex part (joinIndex a k) ≡ k
-  unfolding joinIndex globalIndex
+  index-unused : (k : ℕ) → eqb k unused ≡ true → globalNumber part (joinIndex a k) ≡ k
+  unfolding joinIndex globalNumber
   index-unused k e = rw e (sym (eqb-true k unused e))
 
   module _ (k : ℕ) (used : eqb k unused ≡ false) where
@@ -272,8 +272,8 @@ module _ (a : List ℕ) (b : Bytes a) (sound : areaSound a ≡ true) where
     join-ghost e = rw (used, e)
 
     -- a ghost's index leads to its number
-    index-ghost : holds (areaNew a) (areaRank a) k ≡ false → anyBelow g (is k) ≡ true → globalIndex part (joinIndex a k) ≡ k
-    unfolding globalIndex
+    index-ghost : holds (areaNew a) (areaRank a) k ≡ false → anyBelow g (is k) ≡ true → globalNumber part (joinIndex a k) ≡ k
+    unfolding globalNumber
     index-ghost o e =
         let m : ℕ = leastBelow g (is k) in
         let l : m < g = least-lt g (is k) e in
@@ -282,8 +282,8 @@ module _ (a : List ℕ) (b : Bytes a) (sound : areaSound a ≡ true) where
         (eqb-true (numberOf (ghostSlot a m)) k (least-at g (is k) e))
 
     -- the index of a number not held leads to no tree
-    index-none : holds (areaNew a) (areaRank a) k ≡ false → anyBelow g (is k) ≡ false → globalIndex part (joinIndex a k) ≡ noTree
-    unfolding globalIndex
+    index-none : holds (areaNew a) (areaRank a) k ≡ false → anyBelow g (is k) ≡ false → globalNumber part (joinIndex a k) ≡ noTree
+    unfolding globalNumber
     index-none o e =
         let small = few-held a b sound in
         rw (join-ghost o, least-none g (is k) e, read-count, read-ghosts, ne-eqb (n + g) unused (λ q. omega arith), le-ltb (n + g) n (omega arith), le-ltb (n + g) (n + g) (omega arith))
@@ -292,8 +292,8 @@ module _ (a : List ℕ) (b : Bytes a) (sound : areaSound a ≡ true) where
 
   module _ (heard-all : allHeard a ≡ true) where
     -- a tree's index leads to its number
-    index-tree : (k : ℕ) → eqb k unused ≡ false → inRange first (first + n) k ≡ true → globalIndex part (joinIndex a k) ≡ k
-    unfolding globalIndex
+    index-tree : (k : ℕ) → eqb k unused ≡ false → inRange first (first + n) k ≡ true → globalNumber part (joinIndex a k) ≡ k
+    unfolding globalNumber
     index-tree k used e =
         let r = range-bounds first (first + n) k e in
         let i : ℕ = k - first in
@@ -304,7 +304,7 @@ module _ (a : List ℕ) (b : Bytes a) (sound : areaSound a ≡ true) where
 
     -- every neighbour's index leads back, where each used face of a tree leads to a record held
     module _ (reached : (i : ℕ) → i < n → (f : ℕ) → f < faceCount (shapeOf (treeSlotCore a i)) → has (neighbourOf (treeSlotCore a i) f) ≡ true) where
-      back : (i : ℕ) → i < n → (f : ℕ) → f < 6 → globalIndex part (joinIndex a (neighbourOf (treeSlotCore a i) f)) ≡ neighbourOf (treeSlotCore a i) f
+      back : (i : ℕ) → i < n → (f : ℕ) → f < 6 → globalNumber part (joinIndex a (neighbourOf (treeSlotCore a i) f)) ≡ neighbourOf (treeSlotCore a i) f
       back i h f l =
           let r : List ℕ = treeSlotCore a i in
           let k : ℕ = neighbourOf r f in
@@ -319,7 +319,7 @@ module _ (a : List ℕ) (b : Bytes a) (sound : areaSound a ≡ true) where
       unfolding globalTree
       tree-back i h =
           rw (read-dimension, stored-tree i h)
-          (renamed-back (joinIndex a) (globalIndex part) F (treeSlotCore a i) (back i h) (core-bytes i) (core-long i h) (faces-positive (areaDimension a))
+          (renamed-back (joinIndex a) (globalNumber part) F (treeSlotCore a i) (back i h) (core-bytes i) (core-long i h) (faces-positive (areaDimension a))
           (λ f l. join-word (neighbourOf (treeSlotCore a i) f) (neighbour-word (treeSlotCore a i) f (core-bytes i))))
 
       view-is : viewSound (partFirst part) (partCount part) (partGhostCount part) (globalTree part) (storedGhost part) (partDimension part) (partK part) ≡ joinSound a
@@ -362,15 +362,15 @@ module _ (a : List ℕ) (b : Bytes a) (sound : areaSound a ≡ true) where
 
         same-shape : shapeOf (globalTree part i) ≡ shapeOf r
         unfolding globalTree
-        same-shape = rw (read-dimension, stored-tree i h) (renamed-shape (globalIndex part) F stored stored-long ∙ renamed-shape (joinIndex a) F r (core-long i h))
+        same-shape = rw (read-dimension, stored-tree i h) (renamed-shape (globalNumber part) F stored stored-long ∙ renamed-shape (joinIndex a) F r (core-long i h))
 
         stored-neighbour : neighbourOf stored f ≡ joinIndex a (neighbourOf r f)
         stored-neighbour = renamed-neighbour (joinIndex a) F r (core-long i h) f six (join-word (neighbourOf r f) (neighbour-word r f (core-bytes i)))
 
-        global-neighbour : globalIndex part (joinIndex a (neighbourOf r f)) < 4294967296 → neighbourOf (globalTree part i) f ≡ globalIndex part (joinIndex a (neighbourOf r f))
+        global-neighbour : globalNumber part (joinIndex a (neighbourOf r f)) < 4294967296 → neighbourOf (globalTree part i) f ≡ globalNumber part (joinIndex a (neighbourOf r f))
         unfolding globalTree
         global-neighbour w =
-            rw (read-dimension, stored-tree i h) (renamed-neighbour (globalIndex part) F stored stored-long f six (rw stored-neighbour w) ∙ ap (globalIndex part) stored-neighbour)
+            rw (read-dimension, stored-tree i h) (renamed-neighbour (globalNumber part) F stored stored-long f six (rw stored-neighbour w) ∙ ap (globalNumber part) stored-neighbour)
 
         -- the neighbour that it reads is held
         neighbour-below : neighbourOf (globalTree part i) f < maxTrees
@@ -388,10 +388,10 @@ module _ (a : List ℕ) (b : Bytes a) (sound : areaSound a ≡ true) where
             let o = not-held k e in
             either (eqb k unused)
             (λ u.
-            let m : globalIndex part (joinIndex a k) ≡ unused = index-unused k u ∙ eqb-true k unused u in
+            let m : globalNumber part (joinIndex a k) ≡ unused = index-unused k u ∙ eqb-true k unused u in
             absurd (omega (arith, neighbour-below, global-neighbour (rw m (omega arith)))))
             (λ u.
-            let m : globalIndex part (joinIndex a k) ≡ noTree = index-none k u (sym (range-is a b sound k) ∙ o .0) (o .1) in
+            let m : globalNumber part (joinIndex a k) ≡ noTree = index-none k u (sym (range-is a b sound k) ∙ o .0) (o .1) in
             absurd (omega (arith, neighbour-below, global-neighbour (rw m (omega arith))))))
 
 -- the slots decide check 21: in a sound area with all due senders heard, their records are those of a sound part exactly where the joined part is sound

@@ -25,7 +25,7 @@ use Rattle.area.proofs.Ranges.{from-within}
 use Rattle.area_theorems.proofs.Zones.{bound-small}
 use Rattle.area_theorems.proofs.Again.{old-ranks, sound-tables, sound-rank}
 use Rattle.area_theorems.proofs.Delivered.{Accepted, layout-parts, accepted-parts, sender-rank, sender-due, trees-count, trees-number}
-use Rattle.deliver.specs.Means.{Ready, Placed}
+use Rattle.deliver.specs.Means.{Deliverable, Placed}
 
 -- a rank that sends another a tree sends at least one
 sent-some : (old new : List ℕ) → Tables old new → (p q : ℕ) → p < ranks old → q < ranks old → getsFrom old new q p ≡ true → sentCount old new p q ≡ 0 → ⊥
@@ -66,7 +66,7 @@ module _ (a m : List ℕ) (b : Bytes a) (A : Accepted a m) where
   unfolding areaBound
   bound-few = bound-small (areaDimension a) (areaCount a) (H .countHigh)
 
-  pub accepted-ready : Ready a m
+  pub accepted-ready : Deliverable a m
   accepted-ready =
       let c : messageTrees m ≡ fromCount a p = trees-count a m b A in
       let n : 0 < messageTrees m = omega (arith, some-sent) in
@@ -84,7 +84,7 @@ module _ (a m : List ℕ) (b : Bytes a) (A : Accepted a m) where
       }
 
 -- what an accepted delivery has
-pub ready : (a m : List ℕ) → Bytes a → firstFailed (deliverChecks a m) ≡ 0 → Ready a m
+pub ready : (a m : List ℕ) → Bytes a → firstFailed (deliverChecks a m) ≡ 0 → Deliverable a m
 ready a m b e = accepted-ready a m b (accepted-parts a m e)
 
 -- the first tree of the rank
@@ -93,7 +93,7 @@ unfolding areaFirst
 first-read t e f = f ∙ rw (t .isNew, e)
 
 -- the slots of the trees that came
-pub trees-placed : (a m : List ℕ) → Ready a m → (tree : ℕ) → {P base first sent : ℕ} → P ≡ areaP a → base ≡ slotsPlace P → first ≡ areaFirst a → sent ≡ numberOf (piece m 32 coreSize)
+pub trees-placed : (a m : List ℕ) → Deliverable a m → (tree : ℕ) → {P base first sent : ℕ} → P ≡ areaP a → base ≡ slotsPlace P → first ≡ areaFirst a → sent ≡ numberOf (piece m 32 coreSize)
     → tree + first ≡ sent → base + treeSize * tree ≡ fromPlace a (messageSender m)
 unfolding fromPlace
 trees-placed a m F tree e1 e2 e3 e4 e5 =
@@ -101,7 +101,7 @@ trees-placed a m F tree e1 e2 e3 e4 e5 =
     rw (l, e2, e1)
 
 -- all places, and room at them
-pub placed : (a m : List ℕ) → Ready a m → {P n words sender slots trees ghosts held came : ℕ} → P ≡ areaP a → n ≡ areaCount a → words ≡ wordsPlace P → sender ≡ messageSender m → slots ≡ fromPlace a (messageSender m)
+pub placed : (a m : List ℕ) → Deliverable a m → {P n words sender slots trees ghosts held came : ℕ} → P ≡ areaP a → n ≡ areaCount a → words ≡ wordsPlace P → sender ≡ messageSender m → slots ≡ fromPlace a (messageSender m)
     → trees ≡ messageTrees m → ghosts ≡ ghostSlotsPlace P n → held ≡ areaGhosts a → came ≡ messageGhosts m → Placed a m words sender slots trees ghosts held came
 unfolding fromPlace
 placed a m F {P} {n} {words} {sender} {slots} {trees} {ghosts} {held} {came} e1 e2 e3 e4 e5 e6 e7 e8 e9 =

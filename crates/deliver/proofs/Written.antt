@@ -32,11 +32,11 @@ use Rattle.area_theorems.proofs.Heard.{word-again, word-same}
 use Rattle.area_theorems.proofs.Zones.{Zones}
 use Rattle.area_theorems.proofs.Again.{old-ranks, sound-tables, sound-rank, sound-zones, area-again}
 use Rattle.area_theorems.proofs.Delivered.{Accepted, accepted-parts, after-length, delivered-zones}
-use Rattle.deliver.specs.Means.{merged, Ready, Placed}
+use Rattle.deliver.specs.Means.{merged, Deliverable, Placed}
 use Rattle.deliver.proofs.Merged.{merged-after}
 use Rattle.deliver.proofs.Splices.{words-write, slots-write, ghosts-write}
 
-module _ (a m : List ℕ) (b : Bytes a) (A : Accepted a m) (F : Ready a m) where
+module _ (a m : List ℕ) (b : Bytes a) (A : Accepted a m) (F : Deliverable a m) where
   abbrev p : ℕ
   p = messageSender m
 
@@ -233,7 +233,7 @@ module _ (a m : List ℕ) (b : Bytes a) (A : Accepted a m) (F : Ready a m) where
         ghosts-written (e3 ∙ (ap (splice o2 ghosts-place) M ∙ ap (λ (l : List ℕ). splice l ghosts-place (ghostsAfter a m (areaK a))) q2)) e4
 
 -- the same, as the code writes them
-pub delivery-done : (a m : List ℕ) → Bytes a → firstFailed (deliverChecks a m) ≡ 0 → Ready a m → {words sender slots trees ghosts held came : ℕ} → Placed a m words sender slots trees ghosts held came → {o1 o2 o3 o4 : List ℕ}
+pub delivery-done : (a m : List ℕ) → Bytes a → firstFailed (deliverChecks a m) ≡ 0 → Deliverable a m → {words sender slots trees ghosts held came : ℕ} → Placed a m words sender slots trees ghosts held came → {o1 o2 o3 o4 : List ℕ}
     → o1 ≡ putU64 a (words + 8 * (sender / 64)) (withBit (u64At a (words + 8 * (sender / 64))) (sender % 64))
     → o2 ≡ splice o1 slots (take (32 + 64 * trees - 32) (drop 32 m))
     → o3 ≡ splice o2 ghosts (merged (coreAt o2 ghosts) (coreAt m (32 + 64 * trees)) held came)

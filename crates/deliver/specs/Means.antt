@@ -42,7 +42,7 @@ pub record MergeRoom (a : List ℕ) (at held : ℕ) (m : List ℕ) (from came : 
 -- ---- the writes of an accepted delivery
 
 -- what an accepted delivery has: a sound header, room, and the range due from its sender in the new range
-pub record Ready (a m : List ℕ) : Type 0 where
+pub record Deliverable (a m : List ℕ) : Type 0 where
   pub holds : HeaderHolds a
   pub size : length m ≡ 32 + (treeSize * messageTrees m + coreSize * messageGhosts m)
   pub fit : areaGhosts a + messageGhosts m ≤ areaBound a

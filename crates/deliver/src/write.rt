@@ -8,7 +8,7 @@ ghost use Rattle.bits.specs.Bits.{withBit};
 ghost use Rattle.message.specs.Layout.{messageSender};
 ghost use Rattle.area.specs.Deliver.{deliverChecks, delivered};
 ghost use Rattle.area.specs.Means.{fromPlace};
-ghost use Rattle.deliver.specs.Means.{Ready, Placed};
+ghost use Rattle.deliver.specs.Means.{Deliverable, Placed};
 use crate::merge::merge;
 use records::index::GlobalIndex;
 use records::index::to_local;
@@ -26,7 +26,7 @@ pub struct WritePlaces {
 
 // Where the slots of the trees due from the message's sender begin: its first tree is the first of them.
 fn trees_place(area: &[u8], message: &[u8]) -> usize
-    requires { ⌜ Ready (now area) (now message) ⌝ }
+    requires { ⌜ Deliverable (now area) (now message) ⌝ }
     ensures { λ r. ⌜ r ≡ fromPlace (now (area .entry)) (messageSender (now (message .entry))) ⌝ }
 {
     let ranks = area::read::ranks(area);
@@ -50,7 +50,7 @@ fn set_heard(area: &mut [u8], words: usize, s: usize)
 }
 
 fn places(area: &[u8], message: &[u8]) -> WritePlaces
-    requires { ⌜ Ready (now area) (now message) ⌝ }
+    requires { ⌜ Deliverable (now area) (now message) ⌝ }
     ensures { λ r. ⌜ Placed (now (area .entry)) (now (message .entry)) (r .words) (r .sender) (r .slots) (r .trees) (r .ghosts) (r .held) (r .came) ⌝ }
 {
     let ranks = area::read::ranks(area);

@@ -23,7 +23,7 @@ use Rattle.area.specs.Area.{areaEpoch, areaDimension, areaK, areaP, areaRank, a
 use Rattle.area.specs.Means.{Tabled}
 use Rattle.area.specs.Deliver.{sameRun, senderDue, treesDue, ghostDue, ghostNew, deliverChecks}
 use Rattle.area.proofs.Soundness.{sound-holds}
-use Rattle.deliver_check.specs.Means.{Headed, Ready, dueChecks}
+use Rattle.deliver_check.specs.Means.{Headed, Checkable, dueChecks}
 
 -- ---- a check each
 
@@ -90,7 +90,7 @@ pub numbered-is : (m : List ℕ) (first i : ℕ) {at v : ℕ} → at ≡ message
 unfolding messageTree
 numbered-is m first i e q = rw (← e, q)
 
-module _ {a m : List ℕ} (R : Ready a m) where
+module _ {a m : List ℕ} (R : Checkable a m) where
   pub ready-headed : Headed a m
   ready-headed = record { area = omega (arith, R .header .long); message = layout-header m (R .laid) }
 
@@ -159,7 +159,7 @@ module _ (a m : List ℕ) where
           fails-run f = rw (← is-s, ok-s, ← is-l, ok-l, ← is-r, f)
 
           module _ (ok-r : r ≡ true) where
-            pub ready : Bytes a → Ready a m
+            pub ready : Bytes a → Checkable a m
             unfolding sameRun
             ready b =
                 let e : (eqb (messageEpoch m) (areaEpoch a) && eqb (messageDimension m) (areaDimension a) && eqb (messageK m) (areaK a)) ≡ true = and-fst _ _ (sym is-r ∙ ok-r) in

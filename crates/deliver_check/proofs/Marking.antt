@@ -28,7 +28,7 @@ use Rattle.area.specs.Layout.{heardWords, ghostSlotsPlace}
 use Rattle.area.specs.Area.{areaK, areaP, areaRank, areaCount, areaGhosts, areaOld, areaNew, ghostSlot, ghostHeldSound, areaBound, ghostSlotSound, areaHeaderSound, bitSound, treeSlotSound, areaSound}
 use Rattle.area.specs.Deliver.{among, besideTrees, ghostDue, ghostNew}
 use Rattle.area.proofs.Headers.{ghosts-place-is}
-use Rattle.deliver_check.specs.Means.{Ready, acrossFaces, besideFirst, Marked, FacesFit, TreesFit, ghostBeside, Beside, heldAt}
+use Rattle.deliver_check.specs.Means.{Checkable, acrossFaces, besideFirst, Marked, FacesFit, TreesFit, ghostBeside, Beside, heldAt}
 
 -- ---- a set that grows
 
@@ -128,7 +128,7 @@ module _ {new m ws : List ℕ} {rank : ℕ} (B : Beside new m ws rank) {n : ℕ}
   unfolding ghostBeside
   beside-read e q = rw (number-is, e, q, B .members v)
 
-module _ {a m : List ℕ} (R : Ready a m) where
+module _ {a m : List ℕ} (R : Checkable a m) where
   few-trees : messageK m ≤ maxTrees
   few-trees =
       let T = R .header .tables in
@@ -182,7 +182,7 @@ module _ (a : List ℕ) (at count : ℕ) (known : Ascending a at count) (k : ℕ
         (λ t. t ∙ sym (any-intro count (λ j. eqb (numberAt a at j) k) p h (rw (← e) t)))
         (λ f. f ∙ none-held (λ i l q. eqb-false v k f (e ∙ ap (numberAt a at) (position ∙ search-is i l q) ∙ q)))
 
-module _ {a m : List ℕ} (R : Ready a m) where
+module _ {a m : List ℕ} (R : Checkable a m) where
   sound-ghosts : (areaGhosts a ≤ areaBound a) × (allBelow (areaBound a) (ghostSlotSound a) ≡ true)
   unfolding areaSound
   sound-ghosts =

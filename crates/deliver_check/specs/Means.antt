@@ -25,7 +25,7 @@ pub record Headed (a m : List ℕ) : Type 0 where
   pub message : messageHeader ≤ length m
 
 -- a sound area, and a message in layout of as many trees
-pub record Ready (a m : List ℕ) : Type 0 where
+pub record Checkable (a m : List ℕ) : Type 0 where
   pub header : HeaderHolds a
   pub sound : areaSound a ≡ true
   pub laid : inLayout m ≡ true

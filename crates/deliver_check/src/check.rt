@@ -11,7 +11,7 @@ ghost use Rattle.message.specs.Layout.{messageHeader, messageSender, messageRec
 ghost use Rattle.area.specs.Area.{areaP, areaRank, areaGhosts, areaBound};
 ghost use Rattle.area.specs.Means.{Tabled};
 ghost use Rattle.area.specs.Deliver.{sameRun, senderDue, treesDue, deliverChecks};
-ghost use Rattle.deliver_check.specs.Means.{Headed, Ready, dueChecks};
+ghost use Rattle.deliver_check.specs.Means.{Headed, Checkable, dueChecks};
 
 // Whether the message's epoch, dimension, K and P are the area's (12).
 fn same_run(area: &[u8], message: &[u8]) -> bool
@@ -88,7 +88,7 @@ fn has_room(area: &[u8], message: &[u8]) -> bool
 
 // The checks from the sender's on (14 to 19): 0 or the refusal.
 fn due_refusal(area: &[u8], old: &[u8], new: &[u8], message: &[u8]) -> u32
-    requires { ⌜ Tabled (now area) (now old) (now new) × Ready (now area) (now message) ⌝ }
+    requires { ⌜ Tabled (now area) (now old) (now new) × Checkable (now area) (now message) ⌝ }
     ensures { λ r. ⌜ r ≡ firstFailed (dueChecks (now (area .entry)) (now (message .entry))) ⌝ }
 {
     if !sender_due(area, old, new, message) {

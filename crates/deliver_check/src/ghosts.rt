@@ -9,7 +9,7 @@ ghost use Rattle.part.specs.Means.{Ascending};
 ghost use Rattle.message.specs.Layout.{messageK, messageTrees, messageGhosts};
 ghost use Rattle.area.specs.Area.{areaNew};
 ghost use Rattle.area.specs.Deliver.{ghostDue, ghostNew};
-ghost use Rattle.deliver_check.specs.Means.{Ready, acrossFaces, besideFirst, Marked, FacesFit, TreesFit, ghostBeside, Beside, heldAt};
+ghost use Rattle.deliver_check.specs.Means.{Checkable, acrossFaces, besideFirst, Marked, FacesFit, TreesFit, ghostBeside, Beside, heldAt};
 
 // ---- due
 
@@ -80,7 +80,7 @@ fn ghosts_beside(new: &[u8], rank: usize, message: &[u8], marks: &[u64]) -> bool
 
 // Whether each ghost is outside the new range and a neighbour of a tree of the message (17).
 pub fn ghosts_due(area: &[u8], new: &[u8], message: &[u8]) -> bool
-    requires { ⌜ Ready (now area) (now message) × (now new ≡ areaNew (now area)) ⌝ }
+    requires { ⌜ Checkable (now area) (now message) × (now new ≡ areaNew (now area)) ⌝ }
     ensures { λ r. ⌜ r ≡ allBelow (messageGhosts (now (message .entry))) (ghostDue (now (area .entry)) (now (message .entry))) ⌝ }
 {
     let mut marks = [0u64; 16384];
@@ -105,7 +105,7 @@ fn is_held(area: &[u8], at: usize, count: u32, number: GlobalIndex) -> bool
 
 // Whether no ghost is held already (18).
 pub fn ghosts_new(area: &[u8], message: &[u8]) -> bool
-    requires { ⌜ Ready (now area) (now message) ⌝ }
+    requires { ⌜ Checkable (now area) (now message) ⌝ }
     ensures { λ r. ⌜ r ≡ allBelow (messageGhosts (now (message .entry))) (ghostNew (now (area .entry)) (now (message .entry))) ⌝ }
 {
     let held = area::read::ghosts(area);

@@ -14,7 +14,7 @@ use Rattle.records.specs.Shape.{dimensionOf, faceCount}
 use Rattle.records.specs.Record.{coreSize, treeSize, numberOf, shapeOf, neighbourOf, inForm}
 use Rattle.mesh.specs.Mesh.{dimensionOk}
 use Rattle.message.specs.Layout.{messageHeader, messageGhostPlace, messageSize, messageDimension, messageK, messageTrees, messageGhosts, messageTree, messageGhost, recordLaid, sizeLaid, afterLast, recordsLaid, inLayout}
-use Rattle.message.specs.Means.{coreAt, Row}
+use Rattle.message.specs.Means.{laidCore, LaidRow}
 use Rattle.message.proofs.Layouts.{size-length}
 
 module _ (m : List ℕ) where
@@ -32,58 +32,58 @@ module _ (m : List ℕ) where
   unfolding recordLaid
   record-read at e k s n p q r t = rw (p, n, q, t, r, s, e, k)
 
-  module _ (start stride count : ℕ) (row : Row m start stride count) (i : ℕ) (there : i < count) where
+  module _ (start stride count : ℕ) (row : LaidRow m start stride count) (i : ℕ) (there : i < count) where
     -- record i is in the buffer
     pub core-fits : start + stride * i + coreSize ≤ length m
     core-fits = omega (arith, row .core, row .fits, mul-suc stride i, mul-le-mul-left {m = suc i} {n = count} stride there)
 
   module _ (start stride i : ℕ) where
     -- no record stands before the first
-    pub first-read : i ≡ 0 → true ≡ afterLast (coreAt m start stride) i
+    pub first-read : i ≡ 0 → true ≡ afterLast (laidCore m start stride) i
     unfolding afterLast
     first-read e = rw e
 
     pub after-read : {a b before at : ℕ} → (i ≡ 0 → ⊥) → before ≡ start + stride * (i - 1) → at ≡ start + stride * i → a ≡ numberOf (piece m before coreSize) → b ≡ numberOf (piece m at coreSize)
-        → ltb a b ≡ afterLast (coreAt m start stride) i
-    unfolding afterLast coreAt
+        → ltb a b ≡ afterLast (laidCore m start stride) i
+    unfolding afterLast laidCore
     after-read h k l p q = rw (ne-eqb i 0 h, ← k, ← l, p, q)
 
-    pub next-read : {a b : Bool} {at : ℕ} → at ≡ start + stride * i → a ≡ recordLaid m (piece m at coreSize) → b ≡ afterLast (coreAt m start stride) i → (a && b) ≡ (recordLaid m (coreAt m start stride i) && afterLast (coreAt m start stride) i)
-    unfolding coreAt
+    pub next-read : {a b : Bool} {at : ℕ} → at ≡ start + stride * i → a ≡ recordLaid m (piece m at coreSize) → b ≡ afterLast (laidCore m start stride) i → (a && b) ≡ (recordLaid m (laidCore m start stride i) && afterLast (laidCore m start stride) i)
+    unfolding laidCore
     next-read l p q = rw (← l, p, q)
 
   -- the trees are one row
-  trees-row : (n : ℕ) → recordsLaid m n (coreAt m messageHeader treeSize) ≡ recordsLaid m n (messageTree m)
-  unfolding coreAt messageTree
+  trees-row : (n : ℕ) → recordsLaid m n (laidCore m messageHeader treeSize) ≡ recordsLaid m n (messageTree m)
+  unfolding laidCore messageTree
   trees-row n = refl
 
-  ghost-core : (j : ℕ) → coreAt m (messageGhostPlace (messageTrees m) 0) coreSize j ≡ messageGhost m j
-  unfolding coreAt messageGhost
+  ghost-core : (j : ℕ) → laidCore m (messageGhostPlace (messageTrees m) 0) coreSize j ≡ messageGhost m j
+  unfolding laidCore messageGhost
   ghost-core j =
       let e : messageGhostPlace (messageTrees m) 0 + coreSize * j ≡ messageGhostPlace (messageTrees m) j = omega arith in
       rw e
 
   -- and so are the ghosts
-  ghosts-row : (g : ℕ) → recordsLaid m g (coreAt m (messageGhostPlace (messageTrees m) 0) coreSize) ≡ recordsLaid m g (messageGhost m)
+  ghosts-row : (g : ℕ) → recordsLaid m g (laidCore m (messageGhostPlace (messageTrees m) 0) coreSize) ≡ recordsLaid m g (messageGhost m)
   unfolding recordsLaid afterLast
   ghosts-row g = simp ghost-core
 
   module _ (laid : sizeLaid m ≡ true) {n : ℕ} (trees : n ≡ messageTrees m) where
-    pub trees-fit : Row m messageHeader treeSize n
+    pub trees-fit : LaidRow m messageHeader treeSize n
     trees-fit = record { core = omega arith; fits = omega (arith, size-length m laid) }
 
-    pub ghosts-fit : {g at : ℕ} → g ≡ messageGhosts m → at ≡ messageGhostPlace n 0 → Row m at coreSize g
+    pub ghosts-fit : {g at : ℕ} → g ≡ messageGhosts m → at ≡ messageGhostPlace n 0 → LaidRow m at coreSize g
     ghosts-fit e q = record { core = omega arith; fits = omega (arith, size-length m laid) }
 
   -- trees out of layout
-  pub trees-fail : {n : ℕ} {r : Bool} → n ≡ messageTrees m → r ≡ recordsLaid m n (coreAt m messageHeader treeSize) → r ≡ false → false ≡ inLayout m
+  pub trees-fail : {n : ℕ} {r : Bool} → n ≡ messageTrees m → r ≡ recordsLaid m n (laidCore m messageHeader treeSize) → r ≡ false → false ≡ inLayout m
   unfolding inLayout
   trees-fail t p e =
       let f : recordsLaid m (messageTrees m) (messageTree m) ≡ false = sym (trees-row (messageTrees m)) ∙ (rw t at (sym p) ∙ e) in
       rw (f, and-false)
 
   -- a message of the size that its header says
-  pub layout-read : {n g at : ℕ} {r s : Bool} → sizeLaid m ≡ true → n ≡ messageTrees m → g ≡ messageGhosts m → at ≡ messageGhostPlace n 0 → r ≡ recordsLaid m n (coreAt m messageHeader treeSize) → r ≡ true → s ≡ recordsLaid m g (coreAt m at coreSize) → s ≡ inLayout m
+  pub layout-read : {n g at : ℕ} {r s : Bool} → sizeLaid m ≡ true → n ≡ messageTrees m → g ≡ messageGhosts m → at ≡ messageGhostPlace n 0 → r ≡ recordsLaid m n (laidCore m messageHeader treeSize) → r ≡ true → s ≡ recordsLaid m g (laidCore m at coreSize) → s ≡ inLayout m
   unfolding inLayout
   layout-read l t u q p e o =
       let f : recordsLaid m (messageTrees m) (messageTree m) ≡ true = sym (trees-row (messageTrees m)) ∙ (rw t at (sym p) ∙ e) in

@@ -8,12 +8,12 @@ use Rattle.records.specs.Record.{treeSize}
 use Rattle.mesh.specs.Mesh.{meshDimension, meshTrees, meshCore, meshRecord}
 use Rattle.part.specs.Layout.{treePlace}
 use Rattle.part.specs.Cut.{renamed}
-use Rattle.part.specs.Part.{partDimension, partFirst, globalIndex, partHolds, partCore}
+use Rattle.part.specs.Part.{partDimension, partFirst, globalNumber, partHolds, partCore}
 use Rattle.message.specs.Rule.{ruleMessage}
 
 -- the record of tree k of a part, with its data and its neighbours as global numbers
 unfoldable pub partRecord : List ℕ → ℕ → List ℕ
-partRecord part k = renamed (globalIndex part) (facesIn (partDimension part)) (piece part (treePlace (k - partFirst part)) treeSize)
+partRecord part k = renamed (globalNumber part) (facesIn (partDimension part)) (piece part (treePlace (k - partFirst part)) treeSize)
 
 -- the message from p's part to q
 unfoldable pub partMessage : List ℕ → List ℕ → List ℕ → ℕ → ℕ → ℕ → List ℕ

@@ -6,10 +6,10 @@ use Rattle.encoding.specs.Pieces.{piece}
 use Rattle.records.specs.Record.{coreSize}
 
 -- the core of record i of those from byte start, one every stride bytes
-unfoldable pub coreAt : List ℕ → ℕ → ℕ → ℕ → List ℕ
-coreAt m start stride i = piece m (start + stride * i) coreSize
+unfoldable pub laidCore : List ℕ → ℕ → ℕ → ℕ → List ℕ
+laidCore m start stride i = piece m (start + stride * i) coreSize
 
 -- count such records are in the buffer
-pub record Row (m : List ℕ) (start stride count : ℕ) : Type 0 where
+pub record LaidRow (m : List ℕ) (start stride count : ℕ) : Type 0 where
   pub core : coreSize ≤ stride
   pub fits : start + stride * count ≤ length m

@@ -8,7 +8,7 @@ ghost use Rattle.encoding.specs.Below.{allBelow};
 ghost use Rattle.encoding.specs.Pieces.{piece};
 ghost use Rattle.records.specs.Record.{coreSize, neighbourOf};
 ghost use Rattle.message.specs.Layout.{messageTreePlace, messageGhostPlace, messageDimension, messageK, recordLaid, sizeLaid, afterLast, recordsLaid, inLayout};
-ghost use Rattle.message.specs.Means.{coreAt, Row};
+ghost use Rattle.message.specs.Means.{laidCore, LaidRow};
 use crate::header::dimension;
 use crate::header::ghost_count;
 use crate::header::tree_count;
@@ -68,7 +68,7 @@ fn record_laid(message: &[u8], at: usize, dimension: u32, below: u32) -> bool
 
 // Where record i of those from byte `start` begins.
 fn core_at(message: &[u8], start: usize, stride: usize, count: u32, i: u32) -> usize
-    requires { ⌜ (Row (now message) start stride count) × (i < count) ⌝ }
+    requires { ⌜ (LaidRow (now message) start stride count) × (i < count) ⌝ }
     ensures { λ r. ⌜ (r ≡ start + stride * i) × (r + coreSize ≤ length (now (message .entry))) ⌝ }
 {
     start + stride * (i as usize)
@@ -76,8 +76,8 @@ fn core_at(message: &[u8], start: usize, stride: usize, count: u32, i: u32) -> u
 
 // Whether record i of those from byte `start` has a larger number than the one before it.
 fn after_last(message: &[u8], start: usize, stride: usize, count: u32, i: u32) -> bool
-    requires { ⌜ (Row (now message) start stride count) × (i < count) ⌝ }
-    ensures { λ r. ⌜ r ≡ afterLast (coreAt (now (message .entry)) start stride) i ⌝ }
+    requires { ⌜ (LaidRow (now message) start stride count) × (i < count) ⌝ }
+    ensures { λ r. ⌜ r ≡ afterLast (laidCore (now (message .entry)) start stride) i ⌝ }
 {
     if i == 0 {
         return true;
@@ -97,8 +97,8 @@ fn record_next(
     dimension: u32,
     below: u32,
 ) -> bool
-    requires { ⌜ (Row (now message) start stride count) × (i < count) × (dimension ≡ messageDimension (now message)) × (below ≡ messageK (now message)) ⌝ }
-    ensures { λ r. ⌜ r ≡ (recordLaid (now (message .entry)) (coreAt (now (message .entry)) start stride i) && afterLast (coreAt (now (message .entry)) start stride) i) ⌝ }
+    requires { ⌜ (LaidRow (now message) start stride count) × (i < count) × (dimension ≡ messageDimension (now message)) × (below ≡ messageK (now message)) ⌝ }
+    ensures { λ r. ⌜ r ≡ (recordLaid (now (message .entry)) (laidCore (now (message .entry)) start stride i) && afterLast (laidCore (now (message .entry)) start stride) i) ⌝ }
 {
     let at = core_at(message, start, stride, count, i);
     record_laid(message, at, dimension, below) & after_last(message, start, stride, count, i)
@@ -113,8 +113,8 @@ fn records_laid(
     dimension: u32,
     below: u32,
 ) -> bool
-    requires { ⌜ (Row (now message) start stride count) × (dimension ≡ messageDimension (now message)) × (below ≡ messageK (now message)) ⌝ }
-    ensures { λ r. ⌜ r ≡ recordsLaid (now (message .entry)) count (coreAt (now (message .entry)) start stride) ⌝ }
+    requires { ⌜ (LaidRow (now message) start stride count) × (dimension ≡ messageDimension (now message)) × (below ≡ messageK (now message)) ⌝ }
+    ensures { λ r. ⌜ r ≡ recordsLaid (now (message .entry)) count (laidCore (now (message .entry)) start stride) ⌝ }
 {
     let mut i = 0;
     while i < count {

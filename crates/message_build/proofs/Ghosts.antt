@@ -20,7 +20,7 @@ use Rattle.records.specs.Record.{coreSize, numberOf}
 use Rattle.part.specs.Layout.{treePlace, ghostPlace}
 use Rattle.part.specs.Cut.{renamed}
 use Rattle.part.specs.Means.{isLocal, ghostIs, held, heldCore, inRange, Ascending, smaller, ghostCore, ghostHas}
-use Rattle.part.specs.Part.{partFirst, partCount, partGhostCount, storedTree, storedGhost, globalIndex, globalTree, partHolds, partCore}
+use Rattle.part.specs.Part.{partFirst, partCount, partGhostCount, storedTree, storedGhost, globalNumber, globalTree, partHolds, partCore}
 use Rattle.part.proofs.Search.{search-past, search-other, search-found}
 use Rattle.message_build.specs.Means.{RecordRoom, Searchable, coresBelow, GhostRoom}
 
@@ -66,7 +66,7 @@ module _ (part : List ℕ) (count ghosts faces first k : ℕ) (known : Searchabl
   test-is : b ≡ inside part k
   test-is = rw (known .isFirst, known .opened .isCount) at test
 
-  pub core-local : b ≡ true → renamed (globalIndex part) faces (piece part (treePlace (k - first)) coreSize) ≡ partCore part k
+  pub core-local : b ≡ true → renamed (globalNumber part) faces (piece part (treePlace (k - first)) coreSize) ≡ partCore part k
   unfolding globalTree storedTree
   core-local h = rw (core-read part k, ← test-is, h, known .isFaces, known .isFirst)
 

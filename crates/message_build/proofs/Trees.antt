@@ -9,7 +9,7 @@ use Rattle.encoding.proofs.Pieces.{piece-length, length-splice, splice-none, sp
 use Rattle.records.specs.Record.{treeSize}
 use Rattle.part.specs.Layout.{treePlace}
 use Rattle.part.specs.Cut.{renamed}
-use Rattle.part.specs.Part.{globalIndex}
+use Rattle.part.specs.Part.{globalNumber}
 use Rattle.part.proofs.Records.{rows-length}
 use Rattle.message.specs.Build.{partRecord}
 use Rattle.message.specs.Layout.{messageHeader}
@@ -32,7 +32,7 @@ module _ (part : List ℕ) (count ghosts faces first low n : ℕ) (out₀ : List
   source : (k : ℕ) → low ≤ k → k < low + n → treePlace (k - first) + treeSize ≤ length part
   source k h l = let i = room .inside k h l in omega (arith, room .known .opened .long, i .0, i .1)
 
-  record-is : (k : ℕ) → renamed (globalIndex part) faces (piece part (treePlace (k - first)) treeSize) ≡ partRecord part k
+  record-is : (k : ℕ) → renamed (globalNumber part) faces (piece part (treePlace (k - first)) treeSize) ≡ partRecord part k
   unfolding partRecord
   record-is k = rw (room .known .isFaces, room .known .isFirst)
 
@@ -73,13 +73,13 @@ module _ (part : List ℕ) (count ghosts faces first low n : ℕ) (out₀ : List
         let b : low + (k - low) ≡ k = omega (arith, so-far .begun) in
         rw (a, b)
 
-    pub trees-next : {from : ℕ} {last : List ℕ} → from ≡ treePlace (k - first) → last ≡ splice out to (renamed (globalIndex part) faces (piece part from treeSize)) → TreesSent part low n out₀ (to + treeSize) (k + 1) last
+    pub trees-next : {from : ℕ} {last : List ℕ} → from ≡ treePlace (k - first) → last ≡ splice out to (renamed (globalNumber part) faces (piece part from treeSize)) → TreesSent part low n out₀ (to + treeSize) (k + 1) last
     trees-next {from} {last} e p =
         let m : ℕ = k - low in
         let W : List ℕ = recordsFrom (partRecord part) low m in
         let R : List ℕ = partRecord part k in
         let l : length R ≡ treeSize = record-long k (so-far .begun) more in
-        let q : last ≡ splice out to R = p ∙ ap (λ (x : ℕ). splice out to (renamed (globalIndex part) faces (piece part x treeSize))) e ∙ ap (splice out to) (record-is k) in
+        let q : last ≡ splice out to R = p ∙ ap (λ (x : ℕ). splice out to (renamed (globalNumber part) faces (piece part x treeSize))) e ∙ ap (splice out to) (record-is k) in
         let b : length W ≡ treeSize * m = records-long m (omega (arith, so-far .begun)) in
         let t = tree-room e in
         record {

@@ -12,7 +12,7 @@ use Rattle.records.specs.Shape.{facesIn}
 use Rattle.records.specs.Record.{coreSize, treeSize}
 use Rattle.records.specs.Links.{rowsOf, withRows}
 use Rattle.part.specs.Layout.{ghostPlace, partSize}
-use Rattle.part.specs.Part.{partDimension, partFirst, partCount, partGhostCount, globalIndex, partHolds, partCore}
+use Rattle.part.specs.Part.{partDimension, partFirst, partCount, partGhostCount, globalNumber, partHolds, partCore}
 use Rattle.part.specs.Means.{Ascending, rowsWith}
 use Rattle.message.specs.Build.{partMessage}
 use Rattle.message.specs.Layout.{messageHeader, messageSize}
@@ -44,7 +44,7 @@ pub record RecordRoom (part out : List ℕ) (count ghosts faces size from to : �
 
 -- the record r with the links of the part's record at byte `from`, as global numbers
 unfoldable pub globalLinks : List ℕ → ℕ → ℕ → List ℕ → List ℕ
-globalLinks part F from r = withRows (rowsWith (globalIndex part) (rowsOf (piece part from coreSize) F)) F r
+globalLinks part F from r = withRows (rowsWith (globalNumber part) (rowsOf (piece part from coreSize) F)) F r
 
 -- ---- trees
 

@@ -1,6 +1,6 @@
 // The links of a part's trees, whose neighbours are local indices, with global numbers.
 ghost use mathlib.Core.Path.{_≡_};
-ghost use Rattle.part.specs.Part.{globalIndex};
+ghost use Rattle.part.specs.Part.{globalNumber};
 ghost use Rattle.part.specs.Means.{rowWith, rowsWith};
 ghost use Rattle.message_build.specs.Means.{Opened};
 use part::layout::ghost_at;
@@ -11,7 +11,7 @@ use records::index::LocalIndex;
 // The global number behind a local index: it stands in the record there. An unused face keeps its mark.
 fn global_index(part: &[u8], count: u32, ghosts: u32, local: LocalIndex) -> GlobalIndex
     requires { ⌜ Opened (now part) count ghosts ⌝ }
-    ensures { λ r. ⌜ r .0 ≡ globalIndex (now (part .entry)) (local .0) ⌝ }
+    ensures { λ r. ⌜ r .0 ≡ globalNumber (now (part .entry)) (local .0) ⌝ }
 {
     let j = local.0;
     if j == 4294967295 {
@@ -28,7 +28,7 @@ fn global_index(part: &[u8], count: u32, ghosts: u32, local: LocalIndex) -> Glob
 
 fn global_row(part: &[u8], count: u32, ghosts: u32, row: [u32; 3]) -> [u32; 3]
     requires { ⌜ Opened (now part) count ghosts ⌝ }
-    ensures { λ r. ⌜ r ≡ rowWith (globalIndex (now (part .entry))) row ⌝ }
+    ensures { λ r. ⌜ r ≡ rowWith (globalNumber (now (part .entry))) row ⌝ }
 {
     let number = global_index(part, count, ghosts, LocalIndex(row[0]));
     [number.0, row[1], row[2]]
@@ -37,7 +37,7 @@ fn global_row(part: &[u8], count: u32, ghosts: u32, row: [u32; 3]) -> [u32; 3]
 // The six links of a record with global numbers.
 pub fn global_rows(part: &[u8], count: u32, ghosts: u32, rows: [[u32; 3]; 6]) -> [[u32; 3]; 6]
     requires { ⌜ Opened (now part) count ghosts ⌝ }
-    ensures { λ r. ⌜ r ≡ rowsWith (globalIndex (now (part .entry))) rows ⌝ }
+    ensures { λ r. ⌜ r ≡ rowsWith (globalNumber (now (part .entry))) rows ⌝ }
 {
     [
         global_row(part, count, ghosts, rows[0]),

@@ -6,7 +6,7 @@ ghost use lib.ListN.{length};
 ghost use Rattle.encoding.specs.Pieces.{piece, splice};
 ghost use Rattle.records.specs.Record.{coreSize, treeSize};
 ghost use Rattle.part.specs.Cut.{renamed};
-ghost use Rattle.part.specs.Part.{globalIndex, partCore};
+ghost use Rattle.part.specs.Part.{globalNumber, partCore};
 ghost use Rattle.bits.specs.Bits.{inSet};
 ghost use Rattle.message.specs.Build.{partRecord, partMessage};
 ghost use Rattle.message.specs.Layout.{messageHeader};
@@ -49,7 +49,7 @@ fn write_tree(
     to: usize,
 )
     requires { ⌜ RecordRoom (now part) (now out) count ghosts faces treeSize from to ⌝ }
-    ensures { λ u. ⌜ now (out .exit) ≡ splice (now (out .entry)) to (renamed (globalIndex (now (part .entry))) faces (piece (now (part .entry)) from treeSize)) ⌝ }
+    ensures { λ u. ⌜ now (out .exit) ≡ splice (now (out .entry)) to (renamed (globalNumber (now (part .entry))) faces (piece (now (part .entry)) from treeSize)) ⌝ }
 {
     encoding::record::copy64(part, from, &mut *out, to);
     put_links(part, count, ghosts, faces, from, &mut *out, to);
@@ -66,7 +66,7 @@ fn write_core(
     to: usize,
 )
     requires { ⌜ RecordRoom (now part) (now out) count ghosts faces coreSize from to ⌝ }
-    ensures { λ u. ⌜ now (out .exit) ≡ splice (now (out .entry)) to (renamed (globalIndex (now (part .entry))) faces (piece (now (part .entry)) from coreSize)) ⌝ }
+    ensures { λ u. ⌜ now (out .exit) ≡ splice (now (out .entry)) to (renamed (globalNumber (now (part .entry))) faces (piece (now (part .entry)) from coreSize)) ⌝ }
 {
     encoding::record::copy40(part, from, &mut *out, to);
     put_links(part, count, ghosts, faces, from, &mut *out, to);

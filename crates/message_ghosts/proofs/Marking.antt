@@ -24,7 +24,7 @@ use Rattle.records.proofs.Shapes.{count-six}
 use Rattle.part.specs.Layout.{partHeader, treePlace}
 use Rattle.part.specs.Part.{partFirst, partCount, partCore}
 use Rattle.part_theorems.proofs.SoundParts.{part-header, part-length}
-use Rattle.message_ghosts.specs.Means.{numberAt, markWords, Blank, Marks, Added, Sending, AtRecord, AtTree, recordPlace, recordAt, goes, goesAcross, goesBeside, goesFrom}
+use Rattle.message_ghosts.specs.Means.{numberIn, markWords, Blank, Marks, Added, Sending, AtRecord, AtTree, recordPlace, recordIn, goes, goesAcross, goesBeside, goesFrom}
 use Rattle.message_ghosts.proofs.Going.{sent-held, goes-with}
 use Rattle.message_ghosts.proofs.Records.{held-below, place-fits, tree-number, number-held, shape-is, tree-next}
 
@@ -61,8 +61,8 @@ module _ (part old new : List ℕ) (p q count i : ℕ) (a : AtTree part old new 
   unfolding recordPlace
   tree-fits = let w = a .within in rw (lt-ltb i count w) at (place-fits part old new p q count (a .known) i (omega arith))
 
-  tree-read : piece part (treePlace i) coreSize ≡ recordAt part count i
-  unfolding recordAt recordPlace
+  tree-read : piece part (treePlace i) coreSize ≡ recordIn part count i
+  unfolding recordIn recordPlace
   tree-read = rw (lt-ltb i count (a .within))
 
   -- its faces as they are read
@@ -78,7 +78,7 @@ module _ (part old new : List ℕ) (p q count i : ℕ) (a : AtTree part old new 
     tree-face at e = (rw e tree-fits, omega (arith, count-six (shapeOf (partCore part t))))
 
     module _ (at j : ℕ) (place : at ≡ treePlace i) (read : j ≡ neighbourOf (piece part at coreSize) f) where
-      index-is : j ≡ neighbourOf (recordAt part count i) f
+      index-is : j ≡ neighbourOf (recordIn part count i) f
       index-is = read ∙ ap (λ (x : ℕ). neighbourOf (piece part x coreSize) f) place ∙ ap (λ (r : List ℕ). neighbourOf r f) tree-read
 
       -- what is across the face is a record of the part
@@ -88,13 +88,13 @@ module _ (part old new : List ℕ) (p q count i : ℕ) (a : AtTree part old new 
       pub across-fits : recordPlace count j + coreSize ≤ length part
       across-fits = place-fits part old new p q count (a .known) j (across-record .within)
 
-      module _ (n : ℕ) (number : n ≡ numberAt part count j) where
+      module _ (n : ℕ) (number : n ≡ numberIn part count j) where
         number-is : n ≡ neighbourOf (partCore part (partFirst part + i)) f
         number-is = number ∙ rw index-is (tree-next part old new p q count (a .known) i f (a .within) face .1)
 
         -- its number has a bit
         pub number-fits : n < 64 * markWords
-        number-fits = rw (← number) at (held-below part old new p q count (a .known) (numberAt part count j) (number-held part old new p q count (a .known) j (across-record .within)) .1)
+        number-fits = rw (← number) at (held-below part old new p q count (a .known) (numberIn part count j) (number-held part old new p q count (a .known) j (across-record .within)) .1)
 
         module _ (low : ℕ) (b : Bool) (test : b ≡ goes part old new p q low n) where
           -- it is marked where it goes

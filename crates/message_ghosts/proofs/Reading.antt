@@ -13,7 +13,7 @@ use Rattle.records.specs.Shape.{faceCount}
 use Rattle.records.specs.Record.{coreSize, numberOf, shapeOf, neighbourOf}
 use Rattle.part.specs.Layout.{treePlace, ghostPlace}
 use Rattle.part.specs.Part.{partCore}
-use Rattle.message_ghosts.specs.Means.{numberAt, AtRecord, AtFace, Beside, recordPlace, recordAt, acrossAt, sentBefore}
+use Rattle.message_ghosts.specs.Means.{numberIn, AtRecord, AtFace, Beside, recordPlace, recordIn, acrossAt, sentBefore}
 use Rattle.message_ghosts.proofs.Records.{shape-is, across-is, at-face}
 
 -- ---- records by their local index
@@ -27,19 +27,19 @@ unfolding recordPlace
 place-ghost n j r h e = rw (le-ltb j n h) e
 
 module _ (part : List ℕ) (n j at : ℕ) (place : at ≡ recordPlace n j) where
-  pub number-read : (r : ℕ) → r ≡ numberOf (piece part at coreSize) → r ≡ numberAt part n j
-  unfolding numberAt recordAt
+  pub number-read : (r : ℕ) → r ≡ numberOf (piece part at coreSize) → r ≡ numberIn part n j
+  unfolding numberIn recordIn
   number-read r e = rw (← place) e
 
   module _ (f next : ℕ) (read : next ≡ neighbourOf (piece part at coreSize) f) where
-    next-is : next ≡ neighbourOf (recordAt part n j) f
-    unfolding recordAt
+    next-is : next ≡ neighbourOf (recordIn part n j) f
+    unfolding recordIn
     next-is = rw (← place) read
 
     pub next-fits : AtFace part n j f → j < n → recordPlace n next + coreSize ≤ length part
     next-fits a h = rw next-is (a .there h)
 
-    pub across-tree : (r : ℕ) → j < n → r ≡ numberAt part n next → r ≡ acrossAt part n j f
+    pub across-tree : (r : ℕ) → j < n → r ≡ numberIn part n next → r ≡ acrossAt part n j f
     unfolding acrossAt
     across-tree r h e = rw (lt-ltb j n h, ← next-is) e
 
@@ -58,14 +58,14 @@ module _ {old new : List ℕ} {q : ℕ} (r : RankOf old new q) where
 
 -- a neighbour as it is read
 pub neighbour-before : (part old new : List ℕ) (q low count j faces f : ℕ) → Beside part old new q count j faces → f < faces → {h : ℕ} {b : Bool}
-    → h ≡ acrossAt part count j f → b ≡ sentBefore old new q low h → sentBefore old new q low (neighbourOf (partCore part (numberAt part count j)) f) ≡ b
+    → h ≡ acrossAt part count j f → b ≡ sentBefore old new q low h → sentBefore old new q low (neighbourOf (partCore part (numberIn part count j)) f) ≡ b
 neighbour-before part old new q low count j faces f k l d c = sym (c ∙ ap (sentBefore old new q low) (d ∙ k .across f l))
 
 -- ---- a record that may go
 
 module _ (part old new : List ℕ) (p q count j : ℕ) (a : AtRecord part old new p q count j) where
   -- its faces can be read, and lead to its neighbours
-  pub beside-known : (faces : ℕ) → faces ≡ faceCount (shapeOf (partCore part (numberAt part count j))) → Beside part old new q count j faces
+  pub beside-known : (faces : ℕ) → faces ≡ faceCount (shapeOf (partCore part (numberIn part count j))) → Beside part old new q count j faces
   beside-known faces e =
       record {
         receiver = record { tables = a .known .sending .pair .tables; rankBelow = a .known .sending .pair .receiverBelow };
@@ -75,6 +75,6 @@ module _ (part old new : List ℕ) (p q count j : ℕ) (a : AtRecord part old ne
 
   -- its faces as they are read
   pub faces-read : (at shape faces : ℕ) → at ≡ recordPlace count j → shape ≡ shapeOf (piece part at coreSize) → faces ≡ faceCount shape
-      → faces ≡ faceCount (shapeOf (partCore part (numberAt part count j)))
-  unfolding recordAt
+      → faces ≡ faceCount (shapeOf (partCore part (numberIn part count j)))
+  unfolding recordIn
   faces-read at shape faces e d c = c ∙ ap faceCount (d ∙ rw e (shape-is part old new p q count (a .known) j (a .within)))

@@ -19,10 +19,10 @@ use Rattle.records.specs.Shape.{faceCount, facesIn}
 use Rattle.records.specs.Record.{coreSize, unused, numberOf, shapeOf, neighbourOf}
 use Rattle.records.proofs.Shapes.{count-six}
 use Rattle.part.specs.Layout.{treePlace, ghostPlace}
-use Rattle.part.specs.Part.{noTree, partDimension, partK, partFirst, partCount, partGhostCount, storedTree, storedGhost, globalIndex, globalTree, partHolds, partCore, partSound}
+use Rattle.part.specs.Part.{noTree, partDimension, partK, partFirst, partCount, partGhostCount, storedTree, storedGhost, globalNumber, globalTree, partHolds, partCore, partSound}
 use Rattle.part_theorems.proofs.Renamed.{renamed-number, renamed-shape, renamed-neighbour}
 use Rattle.part_theorems.proofs.SoundParts.{part-header, part-length, part-tree, part-number, part-held, part-core-tree, part-core-ghost, part-ghost-held, part-below}
-use Rattle.message_ghosts.specs.Means.{numberAt, Known, recordPlace, recordAt, acrossAt, AtFace}
+use Rattle.message_ghosts.specs.Means.{numberIn, Known, recordPlace, recordIn, acrossAt, AtFace}
 
 -- a number that is read has 32 bits
 number-small : (r : List ℕ) → Bytes r → numberOf r < 4294967296
@@ -62,12 +62,12 @@ module _ (part old new : List ℕ) (p q count : ℕ) (k : Known part old new p q
       let l = part-length part old p sound in
       either (ltb j count) (λ e. rw e (omega tests)) (λ e. rw e (omega tests))
 
-  record-tree : (i : ℕ) → i < count → recordAt part count i ≡ storedTree part i
-  unfolding recordAt recordPlace storedTree
+  record-tree : (i : ℕ) → i < count → recordIn part count i ≡ storedTree part i
+  unfolding recordIn recordPlace storedTree
   record-tree i h = rw (lt-ltb i count h)
 
-  record-ghost : (j : ℕ) → count ≤ j → recordAt part count j ≡ storedGhost part (j - count)
-  unfolding recordAt recordPlace storedGhost
+  record-ghost : (j : ℕ) → count ≤ j → recordIn part count j ≡ storedGhost part (j - count)
+  unfolding recordIn recordPlace storedGhost
   record-ghost j h = rw (le-ltb j count h, ← k .counted)
 
   -- ---- trees
@@ -92,52 +92,52 @@ module _ (part old new : List ℕ) (p q count : ℕ) (k : Known part old new p q
       let c = k .counted in
       piece-length part (treePlace i) coreSize (omega (arith, part-length part old p sound))
 
-  tree-same : (i : ℕ) → i < count → numberAt part count i ≡ numberOf (storedTree part i)
-  unfolding numberAt
+  tree-same : (i : ℕ) → i < count → numberIn part count i ≡ numberOf (storedTree part i)
+  unfolding numberIn
   tree-same i h = ap numberOf (record-tree i h)
 
   -- the number of tree i
-  pub tree-number : (i : ℕ) → i < count → numberAt part count i ≡ partFirst part + i
+  pub tree-number : (i : ℕ) → i < count → numberIn part count i ≡ partFirst part + i
   unfolding globalTree
   tree-number i h =
-      tree-same i h ∙ sym (renamed-number (globalIndex part) (facesIn (partDimension part)) (storedTree part i) (stored-long i h))
+      tree-same i h ∙ sym (renamed-number (globalNumber part) (facesIn (partDimension part)) (storedTree part i) (stored-long i h))
       ∙ ap numberOf (sym (tree-core i h)) ∙ part-number part old p sound (first + i) (tree-held i h)
 
   -- ---- ghosts
 
-  ghost-number : (j : ℕ) → count ≤ j → numberAt part count j ≡ numberOf (storedGhost part (j - count))
-  unfolding numberAt
+  ghost-number : (j : ℕ) → count ≤ j → numberIn part count j ≡ numberOf (storedGhost part (j - count))
+  unfolding numberIn
   ghost-number j h = ap numberOf (record-ghost j h)
 
-  ghost-core : (j : ℕ) → count ≤ j → j < count + ghosts → partCore part (numberAt part count j) ≡ recordAt part count j
+  ghost-core : (j : ℕ) → count ≤ j → j < count + ghosts → partCore part (numberIn part count j) ≡ recordIn part count j
   ghost-core j h l =
       rw (ghost-number j h, record-ghost j h) (part-core-ghost part old p sound (j - count) (omega arith))
 
   -- ---- both
 
   -- the record at an index is held
-  pub number-held : (j : ℕ) → j < count + partGhostCount part → partHolds part (numberAt part count j) ≡ true
+  pub number-held : (j : ℕ) → j < count + partGhostCount part → partHolds part (numberIn part count j) ≡ true
   number-held j l =
       either (ltb j count)
       (λ e. rw (tree-number j (ltb-true j count e)) (tree-held j (ltb-true j count e)))
       (λ e. rw (ghost-number j (omega tests)) (part-ghost-held part old p sound (j - count) (omega tests)))
 
   -- its shape
-  pub shape-is : (j : ℕ) → j < count + partGhostCount part → shapeOf (recordAt part count j) ≡ shapeOf (partCore part (numberAt part count j))
+  pub shape-is : (j : ℕ) → j < count + partGhostCount part → shapeOf (recordIn part count j) ≡ shapeOf (partCore part (numberIn part count j))
   unfolding globalTree
   shape-is j l =
       either (ltb j count)
       (λ e.
       let h : j < count = ltb-true j count e in
-      ap shapeOf (record-tree j h) ∙ sym (renamed-shape (globalIndex part) (facesIn (partDimension part)) (storedTree part j) (stored-long j h))
+      ap shapeOf (record-tree j h) ∙ sym (renamed-shape (globalNumber part) (facesIn (partDimension part)) (storedTree part j) (stored-long j h))
       ∙ ap shapeOf (sym (tree-core j h)) ∙ ap (λ (n : ℕ). shapeOf (partCore part n)) (sym (tree-number j h)))
       (λ e. ap shapeOf (sym (ghost-core j (omega tests) l)))
 
   -- ---- neighbours
 
   -- a local index that leads to a number below K is that of a record
-  index-number : (i : ℕ) → globalIndex part i < noTree → (i < count + partGhostCount part) × (numberAt part count i ≡ globalIndex part i)
-  unfolding globalIndex
+  index-number : (i : ℕ) → globalNumber part i < noTree → (i < count + partGhostCount part) × (numberIn part count i ≡ globalNumber part i)
+  unfolding globalNumber
   index-number i h =
       let c = k .counted in
       either (eqb i unused)
@@ -150,8 +150,8 @@ module _ (part old new : List ℕ) (p q count : ℕ) (k : Known part old new p q
       (λ b. let l : count ≤ i = omega tests in (omega tests, rw (e, a, b, ← c) (ghost-number i l)))
       (λ b. absurd (omega (arith, rw (e, a, b) at h)))))
 
-  index-small : (i : ℕ) → globalIndex part i < 4294967296
-  unfolding globalIndex storedTree storedGhost
+  index-small : (i : ℕ) → globalNumber part i < 4294967296
+  unfolding globalNumber storedTree storedGhost
   index-small i =
       either (eqb i unused) (λ e. rw e (omega arith))
       (λ e. rw e
@@ -162,24 +162,24 @@ module _ (part old new : List ℕ) (p q count : ℕ) (k : Known part old new p q
 
   -- what stands across a face of tree i: the record at the index that it stores
   pub tree-next : (i f : ℕ) → i < count → f < faceCount (shapeOf (partCore part (partFirst part + i)))
-      → (neighbourOf (recordAt part count i) f < count + partGhostCount part)
-      × (numberAt part count (neighbourOf (recordAt part count i) f) ≡ neighbourOf (partCore part (partFirst part + i)) f)
+      → (neighbourOf (recordIn part count i) f < count + partGhostCount part)
+      × (numberIn part count (neighbourOf (recordIn part count i) f) ≡ neighbourOf (partCore part (partFirst part + i)) f)
   unfolding globalTree
   tree-next i f h l =
-      let j : ℕ = neighbourOf (recordAt part count i) f in
+      let j : ℕ = neighbourOf (recordIn part count i) f in
       let six : f < 6 = omega (arith, count-six (shapeOf (partCore part (first + i)))) in
-      let to : neighbourOf (partCore part (first + i)) f ≡ globalIndex part j =
+      let to : neighbourOf (partCore part (first + i)) f ≡ globalNumber part j =
       ap (λ (r : List ℕ). neighbourOf r f) (tree-core i h)
-      ∙ renamed-neighbour (globalIndex part) (facesIn (partDimension part)) (storedTree part i) (stored-long i h) f six (index-small (neighbourOf (storedTree part i) f))
-      ∙ ap (λ (r : List ℕ). globalIndex part (neighbourOf r f)) (sym (record-tree i h)) in
+      ∙ renamed-neighbour (globalNumber part) (facesIn (partDimension part)) (storedTree part i) (stored-long i h) f six (index-small (neighbourOf (storedTree part i) f))
+      ∙ ap (λ (r : List ℕ). globalNumber part (neighbourOf r f)) (sym (record-tree i h)) in
       let has = held-below _ (part-held part old p sound (first + i) (tree-held i h) f l (tree-own i h)) in
-      let low : globalIndex part j < noTree = omega (arith, has .1) in
+      let low : globalNumber part j < noTree = omega (arith, has .1) in
       let n = index-number j low in
       (n .0, n .1 ∙ sym to)
 
   -- the neighbour across a face of the record at index j, as the part stores it
-  pub across-is : (j f : ℕ) → j < count + partGhostCount part → f < faceCount (shapeOf (partCore part (numberAt part count j)))
-      → acrossAt part count j f ≡ neighbourOf (partCore part (numberAt part count j)) f
+  pub across-is : (j f : ℕ) → j < count + partGhostCount part → f < faceCount (shapeOf (partCore part (numberIn part count j)))
+      → acrossAt part count j f ≡ neighbourOf (partCore part (numberIn part count j)) f
   unfolding acrossAt
   across-is j f l h =
       either (ltb j count)
@@ -189,10 +189,10 @@ module _ (part old new : List ℕ) (p q count : ℕ) (k : Known part old new p q
       (λ e. rw (e, ghost-core j (omega tests) l))
 
   -- so it can be read
-  pub at-face : (j f : ℕ) → j < count + partGhostCount part → f < faceCount (shapeOf (partCore part (numberAt part count j))) → AtFace part count j f
+  pub at-face : (j f : ℕ) → j < count + partGhostCount part → f < faceCount (shapeOf (partCore part (numberIn part count j))) → AtFace part count j f
   at-face j f l h =
       record {
-        face = omega (arith, count-six (shapeOf (partCore part (numberAt part count j))));
+        face = omega (arith, count-six (shapeOf (partCore part (numberIn part count j))));
         here = place-fits j l;
-        there = λ e. place-fits (neighbourOf (recordAt part count j) f) (tree-next j f e (rw (tree-number j e) at h) .0);
+        there = λ e. place-fits (neighbourOf (recordIn part count j) f) (tree-next j f e (rw (tree-number j e) at h) .0);
       }

@@ -69,28 +69,28 @@ recordPlace n j = cond {A = ℕ} (ltb j n) (treePlace j) (ghostPlace n (j - n))
 
 module _ (part : List ℕ) (n : ℕ) where
   -- its core as it stands
-  unfoldable pub recordAt : ℕ → List ℕ
-  recordAt j = piece part (recordPlace n j) coreSize
+  unfoldable pub recordIn : ℕ → List ℕ
+  recordIn j = piece part (recordPlace n j) coreSize
 
   -- its number
-  unfoldable pub numberAt : ℕ → ℕ
-  numberAt j = numberOf (recordAt j)
+  unfoldable pub numberIn : ℕ → ℕ
+  numberIn j = numberOf (recordIn j)
 
   -- the number of the neighbour across face f: a tree stores a local index, a ghost the number
   unfoldable pub acrossAt : ℕ → ℕ → ℕ
-  acrossAt j f = cond {A = ℕ} (ltb j n) (numberAt (neighbourOf (recordAt j) f)) (neighbourOf (recordAt j) f)
+  acrossAt j f = cond {A = ℕ} (ltb j n) (numberIn (neighbourOf (recordIn j) f)) (neighbourOf (recordIn j) f)
 
 -- the record is there, and so is the one that it stores the local index of
 pub record AtFace (part : List ℕ) (n j f : ℕ) : Type 0 where
   pub face : f < 6
   pub here : recordPlace n j + coreSize ≤ length part
-  pub there : j < n → recordPlace n (neighbourOf (recordAt part n j) f) + coreSize ≤ length part
+  pub there : j < n → recordPlace n (neighbourOf (recordIn part n j) f) + coreSize ≤ length part
 
 -- a receiver, and a record whose first faces can be read and lead to the neighbours of the core with its number
 pub record Beside (part old new : List ℕ) (q count j faces : ℕ) : Type 0 where
   pub receiver : RankOf old new q
   pub there : (f : ℕ) → f < faces → AtFace part count j f
-  pub across : (f : ℕ) → f < faces → acrossAt part count j f ≡ neighbourOf (partCore part (numberAt part count j)) f
+  pub across : (f : ℕ) → f < faces → acrossAt part count j f ≡ neighbourOf (partCore part (numberIn part count j)) f
 
 -- ---- what goes
 

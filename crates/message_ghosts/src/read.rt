@@ -5,7 +5,7 @@ ghost use mathlib.Core.Path.{_≡_};
 ghost use Prim.Native.Nat.{_+_, _≤_};
 ghost use lib.ListN.{length};
 ghost use Rattle.records.specs.Record.{coreSize};
-ghost use Rattle.message_ghosts.specs.Means.{numberAt, recordPlace, acrossAt, AtFace};
+ghost use Rattle.message_ghosts.specs.Means.{numberIn, recordPlace, acrossAt, AtFace};
 
 // Where a record of a part with `count` trees begins.
 pub fn record_at(count: u32, local: LocalIndex) -> usize
@@ -21,7 +21,7 @@ pub fn record_at(count: u32, local: LocalIndex) -> usize
 // Its number.
 pub fn number_at(part: &[u8], count: u32, local: LocalIndex) -> GlobalIndex
     requires { ⌜ recordPlace count (local .0) + coreSize ≤ length (now part) ⌝ }
-    ensures { λ r. ⌜ r .0 ≡ numberAt (now (part .entry)) count (local .0) ⌝ }
+    ensures { λ r. ⌜ r .0 ≡ numberIn (now (part .entry)) count (local .0) ⌝ }
 {
     GlobalIndex(records::read::number_of(part, record_at(count, local)))
 }

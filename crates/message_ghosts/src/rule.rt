@@ -6,7 +6,7 @@ use records::index::GlobalIndex;
 use records::index::LocalIndex;
 ghost use mathlib.Core.Path.{_≡_};
 ghost use Rattle.pattern.specs.Means.{RankOf};
-ghost use Rattle.message_ghosts.specs.Means.{numberAt, AtRecord, Beside, sentBefore, besideBefore, goes as goesTo};
+ghost use Rattle.message_ghosts.specs.Means.{numberIn, AtRecord, Beside, sentBefore, besideBefore, goes as goesTo};
 
 // Whether q gets the tree from itself or from a rank below the one whose first tree for q is `low`: to one rank, the sender never falls from tree to tree.
 fn sent_before(old: &[u8], new: &[u8], q: usize, low: u32, tree: GlobalIndex) -> bool
@@ -29,7 +29,7 @@ fn beside_before(
     faces: u32,
 ) -> bool
     requires { ⌜ Beside (now part) (now old) (now new) q count (local .0) faces ⌝ }
-    ensures { λ r. ⌜ r ≡ besideBefore (now (part .entry)) (now (old .entry)) (now (new .entry)) q low (numberAt (now (part .entry)) count (local .0)) faces ⌝ }
+    ensures { λ r. ⌜ r ≡ besideBefore (now (part .entry)) (now (old .entry)) (now (new .entry)) q low (numberIn (now (part .entry)) count (local .0)) faces ⌝ }
 {
     let j = local.0;
     let mut face = 0;
@@ -54,7 +54,7 @@ pub fn goes(
     local: LocalIndex,
     number: GlobalIndex,
 ) -> bool
-    requires { ⌜ AtRecord (now part) (now old) (now new) p q count (local .0) × (number .0 ≡ numberAt (now part) count (local .0)) ⌝ }
+    requires { ⌜ AtRecord (now part) (now old) (now new) p q count (local .0) × (number .0 ≡ numberIn (now part) count (local .0)) ⌝ }
     ensures { λ r. ⌜ r ≡ goesTo (now (part .entry)) (now (old .entry)) (now (new .entry)) p q low (number .0) ⌝ }
 {
     let j = local.0;

@@ -16,7 +16,7 @@ use Rattle.records.proofs.Forms.{number-word}
 use Rattle.records.proofs.Rows.{with-number, with-shape, with-zeros, with-region, with-neighbour, with-code}
 use Rattle.part.specs.Layout.{treePlace}
 use Rattle.part.specs.Cut.{renamed, renameRow}
-use Rattle.part.specs.Part.{partDimension, partCount, partGhostCount, storedTree, storedGhost, globalIndex, globalTree}
+use Rattle.part.specs.Part.{partDimension, partCount, partGhostCount, storedTree, storedGhost, globalNumber, globalTree}
 
 -- ---- records that differ in their neighbours alone
 
@@ -98,8 +98,8 @@ module _ (part : List ℕ) (bytes : Bytes part) where
   ghost-word j = number-word _ (bytes-piece part _ coreSize bytes)
 
   -- the number behind a local index has 32 bits
-  pub global-word : (j : ℕ) → globalIndex part j < 4294967296
-  unfolding globalIndex
+  pub global-word : (j : ℕ) → globalNumber part j < 4294967296
+  unfolding globalNumber
   global-word j =
       either (eqb j unused) (λ p. rw p (omega arith))
       (λ p. rw p (either (ltb j (partCount part)) (λ q. rw q (stored-word j))
@@ -113,9 +113,9 @@ module _ (part : List ℕ) (bytes : Bytes part) where
     -- number, shape, zero bytes, region and codes are those stored
     pub global-alike : Alike (globalTree part i) (storedTree part i)
     unfolding globalTree
-    global-alike = renamed-alike (globalIndex part) (facesIn (partDimension part)) (storedTree part i) stored-core
+    global-alike = renamed-alike (globalNumber part) (facesIn (partDimension part)) (storedTree part i) stored-core
 
     -- each neighbour is looked up
-    pub global-neighbour : (f : ℕ) → f < 6 → neighbourOf (globalTree part i) f ≡ globalIndex part (neighbourOf (storedTree part i) f)
+    pub global-neighbour : (f : ℕ) → f < 6 → neighbourOf (globalTree part i) f ≡ globalNumber part (neighbourOf (storedTree part i) f)
     unfolding globalTree
-    global-neighbour f h = renamed-neighbour (globalIndex part) (facesIn (partDimension part)) (storedTree part i) stored-core f h (global-word (neighbourOf (storedTree part i) f))
+    global-neighbour f h = renamed-neighbour (globalNumber part) (facesIn (partDimension part)) (storedTree part i) stored-core f h (global-word (neighbourOf (storedTree part i) f))

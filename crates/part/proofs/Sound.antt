@@ -24,7 +24,7 @@ use Rattle.mesh.specs.Mesh.{dimensionOk, faceNeighbour}
 use Rattle.mesh.proofs.Soundness.{link-there, link-answered}
 use Rattle.part.specs.Layout.{treePlace, partSize}
 use Rattle.part.specs.View.{View, localIn, ghostlyIn, heldIn, coreIn, treeInForm, ghostAscends, ghostInForm, besideTree, ghostNear, neighboursGhostly, ghostsExact, linkRule, linksObey, linksFar, linksHold, recordsHold}
-use Rattle.part.specs.Part.{noTree, partDimension, partK, partFirst, partCount, partGhostCount, storedTree, storedGhost, globalIndex, globalTree, viewOf, partHeaderSound, partSound}
+use Rattle.part.specs.Part.{noTree, partDimension, partK, partFirst, partCount, partGhostCount, storedTree, storedGhost, globalNumber, globalTree, viewOf, partHeaderSound, partSound}
 use Rattle.part.specs.Means.{RankKnown, isLocal, ghostIs, held, heldCore, ghostLink, ghostAfter, ghostBeside, viewSound, partLinked}
 use Rattle.part.proofs.Global.{Alike, alike-face, alike-region, alike-orientation, renamed-alike, renamed-neighbour}
 use Rattle.part.proofs.Views.{TreeView, GhostView, tree-link-held, tree-link-make, view-make, view-trees, view-ghosts, local-at, local-held, ghost-at-held, core-tree, core-ghost, view-form, view-link, view-far, view-beside}
@@ -425,20 +425,20 @@ module _ (part : List ℕ) (long : length part ≡ partSize (partCount part) (pa
 
   tree-alike : (i : ℕ) → i < partCount part → Alike (globalTree part i) (storedTree part i)
   unfolding globalTree
-  tree-alike i h = renamed-alike (globalIndex part) (facesIn (partDimension part)) (storedTree part i) (stored-long i h)
+  tree-alike i h = renamed-alike (globalNumber part) (facesIn (partDimension part)) (storedTree part i) (stored-long i h)
 
-  looked-up : (i : ℕ) → i < partCount part → (f : ℕ) → f < 6 → globalIndex part (neighbourOf (storedTree part i) f) < 4294967296
-      → neighbourOf (globalTree part i) f ≡ globalIndex part (neighbourOf (storedTree part i) f)
+  looked-up : (i : ℕ) → i < partCount part → (f : ℕ) → f < 6 → globalNumber part (neighbourOf (storedTree part i) f) < 4294967296
+      → neighbourOf (globalTree part i) f ≡ globalNumber part (neighbourOf (storedTree part i) f)
   unfolding globalTree
-  looked-up i h f l w = renamed-neighbour (globalIndex part) (facesIn (partDimension part)) (storedTree part i) (stored-long i h) f l w
+  looked-up i h f l w = renamed-neighbour (globalNumber part) (facesIn (partDimension part)) (storedTree part i) (stored-long i h) f l w
 
-  index-unused : globalIndex part unused ≡ unused
-  unfolding globalIndex
+  index-unused : globalNumber part unused ≡ unused
+  unfolding globalNumber
   index-unused = refl
 
   unused-kept : (i : ℕ) → i < partCount part → (f : ℕ) → f < 6 → neighbourOf (storedTree part i) f ≡ unused → neighbourOf (globalTree part i) f ≡ unused
   unused-kept i h f l e =
-      let q : globalIndex part (neighbourOf (storedTree part i) f) ≡ unused = ap (globalIndex part) e ∙ index-unused in
+      let q : globalNumber part (neighbourOf (storedTree part i) f) ≡ unused = ap (globalNumber part) e ∙ index-unused in
       looked-up i h f l (omega arith) ∙ q
 
   records-linked : recordsHold (viewOf part) ≡ true → viewSound (partFirst part) (partCount part) (partGhostCount part) (globalTree part) (storedGhost part) (partDimension part) (partK part) ≡ true
@@ -454,8 +454,8 @@ module _ (part : List ℕ) (long : length part ≡ partSize (partCount part) (pa
     ghost-below j h = view-ghosts (partFirst part) (partCount part) (partGhostCount part) (globalTree part) (storedGhost part) (partDimension part) (partK part) sound j h .below
 
     -- the number behind every other index is below unused
-    index-other : (j : ℕ) → (j ≡ unused → ⊥) → globalIndex part j < unused
-    unfolding globalIndex
+    index-other : (j : ℕ) → (j ≡ unused → ⊥) → globalNumber part j < unused
+    unfolding globalNumber
     index-other j u =
         rw (ne-eqb j unused u)
         (either (ltb j (partCount part)) (λ p. rw p (let h : j < partCount part = omega tests in omega (arith, tree-number j h)))
@@ -463,22 +463,22 @@ module _ (part : List ℕ) (long : length part ≡ partSize (partCount part) (pa
         (λ q. rw q (let h : j - partCount part < partGhostCount part = omega tests in omega (arith, ghost-below (j - partCount part) h)))
         (λ q. rw q (omega arith)))))
 
-    index-word : (j : ℕ) → globalIndex part j < 4294967296
+    index-word : (j : ℕ) → globalNumber part j < 4294967296
     index-word j =
-        either (eqb j unused) (λ p. let e : globalIndex part j ≡ unused = ap (globalIndex part) (eqb-true _ _ p) ∙ index-unused in omega arith)
+        either (eqb j unused) (λ p. let e : globalNumber part j ≡ unused = ap (globalNumber part) (eqb-true _ _ p) ∙ index-unused in omega arith)
         (λ p. omega (arith, index-other j (eqb-false _ _ p)))
 
-    index-itself : (i : ℕ) → i < partCount part → globalIndex part i ≡ partFirst part + i
-    unfolding globalIndex
+    index-itself : (i : ℕ) → i < partCount part → globalNumber part i ≡ partFirst part + i
+    unfolding globalNumber
     index-itself i h = rw (ne-eqb i unused (λ e. omega arith), lt-ltb i (partCount part) h) (tree-number i h)
 
     linked-records : recordsHold (viewOf part) ≡ true
     linked-records =
         to-words (viewOf part) tree-alike
-        (λ i h f l e. looked-up i h f l (index-word _) ∙ ap (globalIndex part) e ∙ index-itself i h)
+        (λ i h f l e. looked-up i h f l (index-word _) ∙ ap (globalNumber part) e ∙ index-itself i h)
         (λ i h f l e.
         let j : ℕ = neighbourOf (storedTree part i) f in
-        let q : globalIndex part j ≡ unused = sym (looked-up i h f l (index-word j)) ∙ e in
+        let q : globalNumber part j ≡ unused = sym (looked-up i h f l (index-word j)) ∙ e in
         either (eqb j unused) (λ p. eqb-true _ _ p) (λ p. absurd (omega (arith, index-other j (eqb-false _ _ p)))))
         sound
 

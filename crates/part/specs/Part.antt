@@ -47,15 +47,15 @@ module _ (part : List ℕ) where
   storedGhost j = piece part (ghostPlace partCount j) coreSize
 
   -- the global number behind a local index is read from the record at that index; unused stays, and an index of no record gives no tree's number
-  unfoldable pub globalIndex : ℕ → ℕ
-  globalIndex j =
+  unfoldable pub globalNumber : ℕ → ℕ
+  globalNumber j =
       cond (eqb j unused) unused
       (cond (ltb j partCount) (numberOf (storedTree j))
       (cond (ltb j (partCount + partGhostCount)) (numberOf (storedGhost (j - partCount))) noTree))
 
   -- the core of tree i with neighbours as global numbers
   unfoldable pub globalTree : ℕ → List ℕ
-  globalTree i = renamed globalIndex (facesIn partDimension) (storedTree i)
+  globalTree i = renamed globalNumber (facesIn partDimension) (storedTree i)
 
   -- what the part says
   abbrev pub viewOf : View

@@ -20,7 +20,7 @@ use Rattle.offsets.proofs.Tables.{count-add, end-trees, trees-high}
 use Rattle.part.specs.Layout.{treePlace, ghostPlace, partSize}
 use Rattle.part.specs.Means.{viewSound, inRange, neighbourIn, Ascending, ghostCore, ghostHas, RankKnown, partLinked}
 use Rattle.part.proofs.Sound.{part-sound-is}
-use Rattle.part.specs.Part.{partDimension, partK, partFirst, partCount, partGhostCount, storedTree, storedGhost, globalIndex, globalTree, partHeaderSound, partSound}
+use Rattle.part.specs.Part.{partDimension, partK, partFirst, partCount, partGhostCount, storedTree, storedGhost, globalNumber, globalTree, partHeaderSound, partSound}
 use Rattle.mesh.specs.Means.{linkByDimension}
 use Rattle.part_check.specs.Means.{treeTo, treeFace, treeStored, treeNumbered, ghostBehind, ghostNumbered, ghostTo, ghostFace, ghostStored, recordsSound, PartLaid, PartNumbered}
 use Rattle.part.proofs.Global.{global-alike, global-neighbour}
@@ -130,7 +130,7 @@ module _ (part : List ℕ) (bytes : Bytes part) (laid : PartLaid part (partFirst
   tree-fits i h = omega (arith, laid .long)
 
   part-seen : Seen (partFirst part) (partCount part) (partGhostCount part) (partK part) (storedTree part) (globalTree part) (ghostCore part (partCount part))
-  unfolding lookedUp globalIndex storedGhost ghostCore
+  unfolding lookedUp globalNumber storedGhost ghostCore
   part-seen =
       record {
         within = laid .within;

@@ -26,7 +26,7 @@ use Rattle.part.specs.Cut.{localIndex, ghostCount, cutPart}
 use Rattle.part.specs.Means.{RankKnown, isLocal, ghostIs, held, heldCore, treeLink, ghostLink, ghostAfter, ghostBeside, partLinked}
 use Rattle.part.proofs.Sound.{part-sound-is}
 use Rattle.part.proofs.Same.{holds-held, core-held}
-use Rattle.part.specs.Part.{partDimension, partK, partFirst, partCount, partGhostCount, storedGhost, globalIndex, globalTree, partHolds, partCore, partHeaderSound, partSound}
+use Rattle.part.specs.Part.{partDimension, partK, partFirst, partCount, partGhostCount, storedGhost, globalNumber, globalTree, partHolds, partCore, partHeaderSound, partSound}
 use Rattle.part_cut.proofs.Cutting.{Cuttable, cut-length}
 use Rattle.part.proofs.Ghosts.{ghost-at, ghost-found, ghosts-ascend}
 use Rattle.part_theorems.proofs.CutRead.{cuttable-fits, cut-dimension, cut-K, cut-ranks, cut-rank, cut-first, cut-count, cut-ghosts, cut-zero, cut-end, cut-within, cut-tree, cut-data, cut-ghost, position-below, cut-ghost-at, cut-ghost-number}
@@ -108,12 +108,12 @@ module _ (mesh table : List ℕ) (rank : ℕ) (ok : Cuttable mesh table rank) (m
       rw (ne-eqb k unused (λ q. omega arith), e)
 
   -- the global number behind a local index
-  global-unused : globalIndex part unused ≡ unused
-  unfolding globalIndex
+  global-unused : globalNumber part unused ≡ unused
+  unfolding globalNumber
   global-unused = refl
 
-  global-tree : (i : ℕ) → i < n → globalIndex part i ≡ first + i
-  unfolding globalIndex
+  global-tree : (i : ℕ) → i < n → globalNumber part i ≡ first + i
+  unfolding globalNumber
   global-tree i h =
       let w = cuttable-fits mesh table rank ok bytes in
       let b = cut-within mesh table rank ok bytes in
@@ -122,8 +122,8 @@ module _ (mesh table : List ℕ) (rank : ℕ) (ok : Cuttable mesh table rank) (m
       rw (ne-eqb i unused (λ q. omega arith), cut-count mesh table rank ok bytes, lt-ltb i n h)
       (ap numberOf (cut-tree mesh table rank ok bytes i h) ∙ renamed-number (localIndex mesh table rank) (facesIn (meshDimension mesh)) (meshCore mesh (first + i)) c ∙ sound-number mesh (ok .mesh-sound) (first + i) l)
 
-  global-ghost : (k : ℕ) → k < K → ghost k ≡ true → globalIndex part (n + position k) ≡ k
-  unfolding globalIndex ghostPosition
+  global-ghost : (k : ℕ) → k < K → ghost k ≡ true → globalNumber part (n + position k) ≡ k
+  unfolding globalNumber ghostPosition
   global-ghost k l e =
       let w = cuttable-fits mesh table rank ok bytes in
       let b = cut-within mesh table rank ok bytes in
@@ -132,21 +132,21 @@ module _ (mesh table : List ℕ) (rank : ℕ) (ok : Cuttable mesh table rank) (m
       (cut-ghost-number mesh table rank ok bytes k l e)
 
   -- a neighbour renamed to a local index and back is itself
-  pub index-unused : globalIndex (cutPart mesh table rank) (localIndex mesh table rank unused) ≡ unused
+  pub index-unused : globalNumber (cutPart mesh table rank) (localIndex mesh table rank unused) ≡ unused
   index-unused = rw local-unused global-unused
 
-  pub index-tree : (k : ℕ) → holds table rank k ≡ true → globalIndex (cutPart mesh table rank) (localIndex mesh table rank k) ≡ k
+  pub index-tree : (k : ℕ) → holds table rank k ≡ true → globalNumber (cutPart mesh table rank) (localIndex mesh table rank k) ≡ k
   index-tree k e =
       let r = holds-range table rank k e in
       let d = cut-end mesh table rank ok bytes in
       rw (local-tree k e, global-tree (k - first) (omega arith)) (omega arith)
 
-  pub index-ghost : (k : ℕ) → k < meshTrees mesh → holds table rank k ≡ false → isGhost (meshCore mesh) table rank k ≡ true → globalIndex (cutPart mesh table rank) (localIndex mesh table rank k) ≡ k
+  pub index-ghost : (k : ℕ) → k < meshTrees mesh → holds table rank k ≡ false → isGhost (meshCore mesh) table rank k ≡ true → globalNumber (cutPart mesh table rank) (localIndex mesh table rank k) ≡ k
   index-ghost k l e t = rw (local-ghost k l e) (global-ghost k l t)
 
   module _ (k : ℕ) (tree : holds table rank k ≡ true) (f : ℕ) (face : f < 6) where
     -- so it is for each neighbour of a tree of f(rank)
-    neighbour-back : globalIndex part (localIndex mesh table rank (neighbourOf (meshCore mesh k) f)) ≡ neighbourOf (meshCore mesh k) f
+    neighbour-back : globalNumber part (localIndex mesh table rank (neighbourOf (meshCore mesh k) f)) ≡ neighbourOf (meshCore mesh k) f
     neighbour-back =
         neighbour-cases k tree f face
         (λ e. rw e index-unused)
@@ -183,7 +183,7 @@ module _ (mesh table : List ℕ) (rank : ℕ) (ok : Cuttable mesh table rank) (m
       let k : ℕ = first + i in
       let t : holds table rank k ≡ true = range-local i h in
       rw (cut-dimension mesh table rank ok bytes, cut-tree mesh table rank ok bytes i h)
-      (renamed-back (localIndex mesh table rank) (globalIndex part) (facesIn (meshDimension mesh)) (meshCore mesh k) (neighbour-back k t) (core-bytes k) (sound-core mesh (ok .mesh-sound) k (local-below k t)) (faces-positive (meshDimension mesh)) (neighbour-local k t))
+      (renamed-back (localIndex mesh table rank) (globalNumber part) (facesIn (meshDimension mesh)) (meshCore mesh k) (neighbour-back k t) (core-bytes k) (sound-core mesh (ok .mesh-sound) k (local-below k t)) (faces-positive (meshDimension mesh)) (neighbour-local k t))
 
   abbrev isTree : ℕ → Bool
   isTree = isLocal (partFirst part) (partCount part) (partGhostCount part) (globalTree part) (storedGhost part)

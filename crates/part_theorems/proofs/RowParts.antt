@@ -15,7 +15,7 @@ use Rattle.mesh.specs.Mesh.{faceNeighbour}
 use Rattle.part.specs.Layout.{headerBytes}
 use Rattle.part.specs.Cut.{renameRow, renamed}
 use Rattle.part.specs.View.{View, treeInForm, ghostAscends, ghostInForm, besideTree, ghostNear, neighboursGhostly, ghostsExact, linkRule, linksObey, linksFar, linksHold, recordsHold}
-use Rattle.part.specs.Part.{partDimension, partK, partFirst, partCount, partGhostCount, storedTree, storedGhost, globalIndex, globalTree, viewOf}
+use Rattle.part.specs.Part.{partDimension, partK, partFirst, partCount, partGhostCount, storedTree, storedGhost, globalNumber, globalTree, viewOf}
 
 -- a triangle: its number, the neighbours of its three faces and their codes
 unfoldable pub rowTriangle : ℕ → ℕ → ℕ → ℕ → ℕ → ℕ → ℕ → List ℕ
@@ -46,11 +46,11 @@ rowMissing = viewOf (rowPart 0 [])
 
 -- the first is sound, the others aren't
 pub row-parts : (recordsHold rowRight ≡ true) × (recordsHold rowStranger ≡ false) × (recordsHold rowMissing ≡ false)
-unfolding recordsHold ghostsExact linksHold treeInForm ghostInForm ghostAscends besideTree ghostNear neighboursGhostly linkRule linksObey linksFar faceNeighbour linkOk orientationOk sameCorners answered shapeOk dimensionOf faceCount facesIn cornersOf corners numberOf shapeOf neighbourOf codeOf facesOf faceOf orientationOf regionOk regionOf zerosOk unusedOk toItself boundaryOk inForm allBelow anyBelow leastBelow leAt leValue leBytes piece splice partDimension partK partFirst partCount partGhostCount storedTree storedGhost globalIndex globalTree renamed renameRow rowOf rowsOf neighbourBytes codeBytes withRows rowTriangle rowPart rowMiddle rowLast
+unfolding recordsHold ghostsExact linksHold treeInForm ghostInForm ghostAscends besideTree ghostNear neighboursGhostly linkRule linksObey linksFar faceNeighbour linkOk orientationOk sameCorners answered shapeOk dimensionOf faceCount facesIn cornersOf corners numberOf shapeOf neighbourOf codeOf facesOf faceOf orientationOf regionOk regionOf zerosOk unusedOk toItself boundaryOk inForm allBelow anyBelow leastBelow leAt leValue leBytes piece splice partDimension partK partFirst partCount partGhostCount storedTree storedGhost globalNumber globalTree renamed renameRow rowOf rowsOf neighbourBytes codeBytes withRows rowTriangle rowPart rowMiddle rowLast
 row-parts = (refl, refl, refl)
 
 -- in both it is the ghosts alone that are wrong: forms, order, shapes and links are as they should be
 pub row-ghosts : (allBelow 1 (treeInForm rowStranger) ≡ true) × (allBelow 2 (ghostInForm rowStranger) ≡ true) × (linksHold rowStranger ≡ true) × (ghostsExact rowStranger ≡ false)
     × (allBelow 1 (treeInForm rowMissing) ≡ true) × (linksHold rowMissing ≡ true) × (ghostsExact rowMissing ≡ false)
-unfolding ghostsExact linksHold treeInForm ghostInForm ghostAscends besideTree ghostNear neighboursGhostly linkRule linksObey linksFar faceNeighbour linkOk orientationOk sameCorners answered shapeOk dimensionOf faceCount facesIn cornersOf corners numberOf shapeOf neighbourOf codeOf facesOf faceOf orientationOf regionOk regionOf zerosOk unusedOk toItself boundaryOk inForm allBelow anyBelow leastBelow leAt leValue leBytes piece splice partDimension partK partFirst partCount partGhostCount storedTree storedGhost globalIndex globalTree renamed renameRow rowOf rowsOf neighbourBytes codeBytes withRows rowTriangle rowPart rowMiddle rowLast
+unfolding ghostsExact linksHold treeInForm ghostInForm ghostAscends besideTree ghostNear neighboursGhostly linkRule linksObey linksFar faceNeighbour linkOk orientationOk sameCorners answered shapeOk dimensionOf faceCount facesIn cornersOf corners numberOf shapeOf neighbourOf codeOf facesOf faceOf orientationOf regionOk regionOf zerosOk unusedOk toItself boundaryOk inForm allBelow anyBelow leastBelow leAt leValue leBytes piece splice partDimension partK partFirst partCount partGhostCount storedTree storedGhost globalNumber globalTree renamed renameRow rowOf rowsOf neighbourBytes codeBytes withRows rowTriangle rowPart rowMiddle rowLast
 row-ghosts = (refl, refl, refl, refl, refl, refl, refl)

@@ -27,7 +27,7 @@ use Rattle.part.specs.Cut.{renamed}
 use Rattle.part.specs.Means.{isLocal, ghostIs, held, heldCore, viewSound, partLinked}
 use Rattle.part.proofs.Sound.{sound-linked}
 use Rattle.part.proofs.Same.{records-same}
-use Rattle.part.specs.Part.{partDimension, partK, partFirst, partCount, partGhostCount, storedTree, storedGhost, globalIndex, globalTree, viewOf, partHolds, partCore, partHeaderSound, partSound}
+use Rattle.part.specs.Part.{partDimension, partK, partFirst, partCount, partGhostCount, storedTree, storedGhost, globalNumber, globalTree, viewOf, partHolds, partCore, partHeaderSound, partSound}
 use Rattle.part_theorems.proofs.Renamed.{renamed-length}
 use Rattle.part.proofs.Views.{local-at, local-range, core-tree, core-ghost, held-cases, local-held, ghost-at-held, view-ghosts, view-ascends, view-number, view-form, view-shape, view-link, view-neighbour, view-far, view-beside, view-below, held-same, core-same}
 
@@ -183,7 +183,7 @@ module _ (part table : List ℕ) (rank : ℕ) (sound : partSound part table rank
 
   tree-long : (i : ℕ) → i < partCount part → length (globalTree part i) ≡ coreSize
   unfolding globalTree storedTree
-  tree-long i h = renamed-length (globalIndex part) (facesIn (partDimension part)) _ (piece-length part (treePlace i) coreSize (omega (arith, part-length)))
+  tree-long i h = renamed-length (globalNumber part) (facesIn (partDimension part)) _ (piece-length part (treePlace i) coreSize (omega (arith, part-length)))
 
   ghost-long : (j : ℕ) → j < partGhostCount part → length (storedGhost part j) ≡ coreSize
   unfolding storedGhost
@@ -296,8 +296,8 @@ module _ (a b : List ℕ) (same-header : piece a 0 partHeader ≡ piece b 0 part
   header-same table rank = rw (dimension-same, K-same, word-same 8 (omega arith), word-same 12 (omega arith), first-same, count-same, word-same 28 (omega arith))
 
   module _ (same-trees : (i : ℕ) → i < partCount a → storedTree a i ≡ storedTree b i) (same-ghosts : (j : ℕ) → j < partGhostCount a → storedGhost a j ≡ storedGhost b j) where
-    pub index-same : (j : ℕ) → globalIndex a j ≡ globalIndex b j
-    unfolding globalIndex
+    pub index-same : (j : ℕ) → globalNumber a j ≡ globalNumber b j
+    unfolding globalNumber
     index-same j =
         rw (← count-same, ← ghosts-same)
         (either (eqb j unused) (λ p. rw p)

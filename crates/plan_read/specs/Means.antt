@@ -117,8 +117,8 @@ parse text = record { ok = formOk text; ranks = readRanks text .value; old = rea
 -- ---- what the functions hand on
 
 -- a number that was read
-abbrev pub numberOf : Numeral → Number
-numberOf n = record { ok = n .ok; value = n .value; next = n .next }
+abbrev pub numeralOf : Numeral → Number
+numeralOf n = record { ok = n .ok; value = n .value; next = n .next }
 
 -- a count of digits that a number may have, where b is the first
 abbrev pub digitCountOk : ℕ → ℕ → Bool

@@ -3,7 +3,7 @@ ghost use mathlib.Core.Path.{_≡_};
 ghost use Prim.Native.Nat.{_+_, _-_, _≤_, _<_};
 ghost use lib.ListN.{length};
 ghost use Rattle.encoding.specs.Pieces.{piece};
-ghost use Rattle.plan_read.specs.Means.{byteAt, isDigit, digitCount, valueOf, readNumber, negated, readEntry, numberOf, digitCountOk};
+ghost use Rattle.plan_read.specs.Means.{byteAt, isDigit, digitCount, valueOf, readNumber, negated, readEntry, numeralOf, digitCountOk};
 
 // A number that was read, and the place behind it.
 pub struct Numeral {
@@ -67,7 +67,7 @@ fn digits_value(text: &[u8], at: usize, n: usize) -> u64
 }
 
 pub fn read_number(text: &[u8], at: usize) -> Numeral
-    ensures { λ r. ⌜ numberOf r ≡ readNumber (now (text .entry)) at ⌝ }
+    ensures { λ r. ⌜ numeralOf r ≡ readNumber (now (text .entry)) at ⌝ }
 {
     let n = digit_count(text, at);
     if !digit_count_ok(n, byte_at(text, at)) {
@@ -86,7 +86,7 @@ pub fn read_number(text: &[u8], at: usize) -> Numeral
 
 // The number behind a minus sign, as its 64 bits.
 fn negated(n: Numeral) -> Numeral
-    ensures { λ r. ⌜ numberOf r ≡ negated (numberOf n) ⌝ }
+    ensures { λ r. ⌜ numeralOf r ≡ negated (numeralOf n) ⌝ }
 {
     if n.ok & (0 < n.value) {
         return Numeral {
@@ -104,7 +104,7 @@ fn negated(n: Numeral) -> Numeral
 
 // An entry of a table.
 pub fn read_entry(text: &[u8], at: usize) -> Numeral
-    ensures { λ r. ⌜ numberOf r ≡ readEntry (now (text .entry)) at ⌝ }
+    ensures { λ r. ⌜ numeralOf r ≡ readEntry (now (text .entry)) at ⌝ }
 {
     if byte_at(text, at) == 45 {
         return negated(read_number(text, at + 1));

@@ -15,8 +15,8 @@ use Rattle.encoding.specs.Refusal.{firstFailed}
 use Rattle.refinement.specs.declared.walk.TreeLeaves.{TreeLeaves}
 use Rattle.refinement.specs.declared.walk.Walk.{Walk}
 use Rattle.refinement.specs.Refinement.{Row, Kind, upright, inverted, one, children, childKinds, refinable, leavesIn, leaves}
-use Rattle.refinement.specs.Reading.{Reading, stopped, found, afterLeaf, afterChildren, afterRefined, readRow, readChildren, readTree, whole, rowOf, stringOk, refinementOf}
-use Rattle.refinement.specs.Calls.{uprightLeaves, invertedLeaves, leafCount, countRefusal, leavesRefused, leavesAnswer, countLeaves}
+use Rattle.refinement.specs.Reading.{Reading, stopped, found, afterLeaf, afterChildren, afterRefined, readRow, readChildren, readTree, whole, rowRead, stringOk, refinementOf}
+use Rattle.refinement.specs.Calls.{uprightLeaves, invertedLeaves, treeLeaves, countRefusal, leavesRefused, leavesAnswer, countLeaves}
 use Rattle.refinement.specs.Means.Trees.{treeAt, treeOf}
 use Rattle.refinement.specs.Means.Walks.{bitAt, leafed, onward, afterBit, walkRow, walkOf, Passing}
 
@@ -152,8 +152,8 @@ start = record { ok = true; at = 0; upright = 0; inverted = 0 }
 
 whole-tree : (shape : ℕ) (s : List ℕ) (q : Reading) (v : Walk) → Agrees shape s (upright ∷ []) start q v
     → treeAt (length s) (v .ok) (v .at) (v .upright) (v .inverted)
-    ≡ cond (whole q) (record { ok = true; upright = leaves shape upright (rowOf q); inverted = leaves shape inverted (rowOf q) }) (record { ok = false; upright = 0; inverted = 0 })
-unfolding whole rowOf treeAt leaves
+    ≡ cond (whole q) (record { ok = true; upright = leaves shape upright (rowRead q); inverted = leaves shape inverted (rowRead q) }) (record { ok = false; upright = 0; inverted = 0 })
+unfolding whole rowRead treeAt leaves
 whole-tree shape s stopped v a = rw a
 whole-tree shape s (found r []) v a =
     let n : length s - v .at ≡ 0 = sym (length-drop (v .at) s) ∙ ap length (a .rest) in
@@ -198,8 +198,8 @@ module _ (shape : ℕ) (s : List ℕ) (r : TreeLeaves) (e : r ≡ treeOf shape s
   unfolding treeOf
   tree-inverted h = rw (e, sym tree-ok ∙ h)
 
-  pub tree-count : r .ok ≡ true → r .upright + r .inverted ≡ leafCount shape s
-  unfolding leafCount
+  pub tree-count : r .ok ≡ true → r .upright + r .inverted ≡ treeLeaves shape s
+  unfolding treeLeaves
   tree-count h = rw (tree-upright h, tree-inverted h)
 
 -- the answers for one tree
@@ -210,9 +210,9 @@ module _ (shape : ℕ) (s : List ℕ) (r : TreeLeaves) (e : r ≡ treeOf shape s
 
   pub refused-leaves : r .ok ≡ true → 16777216 < r .upright + r .inverted → leavesRefused 25 ≡ countLeaves shape s
   unfolding countLeaves countRefusal leavesAnswer firstFailed
-  refused-leaves h l = rw (so, sym (tree-ok shape s r e) ∙ h, lt-leb (leafCount shape s) 16777216 (rw (tree-count shape s r e h) at l))
+  refused-leaves h l = rw (so, sym (tree-ok shape s r e) ∙ h, lt-leb (treeLeaves shape s) 16777216 (rw (tree-count shape s r e h) at l))
 
   pub counted : r .ok ≡ true → r .upright + r .inverted ≤ 16777216 → record { refusal = 0; upright = r .upright; inverted = r .inverted; leaves = r .upright + r .inverted } ≡ countLeaves shape s
   unfolding countLeaves countRefusal leavesAnswer firstFailed
   counted h l =
-      rw (so, sym (tree-ok shape s r e) ∙ h, le-leb (leafCount shape s) 16777216 (rw (tree-count shape s r e h) at l), ← tree-upright shape s r e h, ← tree-inverted shape s r e h)
+      rw (so, sym (tree-ok shape s r e) ∙ h, le-leb (treeLeaves shape s) 16777216 (rw (tree-count shape s r e h) at l), ← tree-upright shape s r e h, ← tree-inverted shape s r e h)

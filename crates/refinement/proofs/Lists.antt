@@ -20,8 +20,8 @@ use Rattle.refinement.specs.declared.Count.{Count}
 use Rattle.refinement.specs.declared.trees.Seen.{Seen}
 use Rattle.refinement.specs.declared.walk.TreeLeaves.{TreeLeaves}
 use Rattle.refinement.specs.Reading.{stringOk}
-use Rattle.refinement.specs.Calls.{leafCount, listBelow, stringStart, stringOf, treesOk, shapesOk, stringsOk, countOf, countsFit, countList, countsRefusal, countRefused, countAnswer, leafCounts}
-use Rattle.refinement.specs.Means.Trees.{treeOf, seenOf, Ready}
+use Rattle.refinement.specs.Calls.{treeLeaves, listBelow, stringStart, stringOf, treesOk, shapesOk, stringsOk, countOf, countsFit, countList, countsRefusal, countRefused, countAnswer, leafCounts}
+use Rattle.refinement.specs.Means.Trees.{treeOf, seenOf, Walkable}
 use Rattle.refinement.proofs.Counts.{tree-ok, tree-count}
 
 start-more : (lengths : List ℕ) (i : ℕ) → stringStart lengths (i + 1) ≡ stringStart lengths i + getD lengths i 0
@@ -98,7 +98,7 @@ module _ (shapes lengths bits : List ℕ) where
           all-fails (length shapes) (λ k. stringOk (getD shapes k 0) (stringOf lengths bits k)) i h (sym (tree-ok (getD shapes i 0) (stringOf lengths bits i) r this) ∙ e) in
           not-seen (rw (f, and-false))
 
-      surveyed-count : r .upright + r .inverted ≡ leafCount (getD shapes i 0) (stringOf lengths bits i) → (small && leb (r .upright + r .inverted) 16777216) ≡ allBelow (i + 1) (λ k. leb (countOf shapes lengths bits k) maxLeaves)
+      surveyed-count : r .upright + r .inverted ≡ treeLeaves (getD shapes i 0) (stringOf lengths bits i) → (small && leb (r .upright + r .inverted) 16777216) ≡ allBelow (i + 1) (λ k. leb (countOf shapes lengths bits k) maxLeaves)
       unfolding countOf allBelow
       surveyed-count z = rw (z, v .counts, add-one)
 
@@ -138,7 +138,7 @@ pub record Writing (shapes lengths bits out₀ out : List ℕ) (at i : ℕ) : Ty
   pub same : length out ≡ length out₀
   pub done : out ≡ splice out₀ 0 (listBelow i (countOf shapes lengths bits))
 
-module _ (shapes lengths bits : List ℕ) (ready : Ready shapes lengths bits) where
+module _ (shapes lengths bits : List ℕ) (ready : Walkable shapes lengths bits) where
   -- each string lies within the bytes
   pub string-inside : (at i : ℕ) → at ≡ stringStart lengths i → i < length shapes → at + getD lengths i 0 ≤ length bits
   unfolding stringsOk
@@ -208,7 +208,7 @@ module _ (shapes lengths bits : List ℕ) (to : treesOk shapes lengths ≡ true)
     unfolding seenOf
     seen-counts h = rw (e, sym seen-strings ∙ h)
 
-    pub seen-ready : v .ok ≡ true → v .small ≡ true → Ready shapes lengths bits
+    pub seen-ready : v .ok ≡ true → v .small ≡ true → Walkable shapes lengths bits
     seen-ready h k = record { sameLength = trees-same; strings = sym seen-strings ∙ h; counts = sym (seen-counts h) ∙ k }
 
 module _ (shapes lengths bits out : List ℕ) where

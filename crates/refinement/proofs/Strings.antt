@@ -5,7 +5,7 @@ use mathlib.Core.Bool.{Bool, true, false}
 use mathlib.Core.List.{List, [], _∷_, _++_, append-assoc, append-nil}
 use Rattle.encoding.proofs.Below.{clash, and-fst, and-snd, and-intro}
 use Rattle.refinement.specs.Refinement.{Row, end, leaf, refined, children, maxDepth, fits, refines, bits}
-use Rattle.refinement.specs.Reading.{Reading, stopped, found, afterLeaf, afterChildren, afterRefined, readRow, readChildren, readTree, whole, rowOf, stringOk, refinementOf}
+use Rattle.refinement.specs.Reading.{Reading, stopped, found, afterLeaf, afterChildren, afterRefined, readRow, readChildren, readTree, whole, rowRead, stringOk, refinementOf}
 use Rattle.refinement.specs.Promises.{AcceptedIsWritten, WrittenIsAccepted, OnlyString}
 
 -- the children of an element that may be refined so deep
@@ -74,11 +74,11 @@ tree-read-back shape r e = ap (readRow (readChildren (children shape) maxDepth) 
 
 -- the string of every refinement is accepted and read back
 pub written-is-accepted : WrittenIsAccepted
-unfolding stringOk refinementOf whole rowOf
-written-is-accepted shape r e = (ap whole (tree-read-back shape r e), ap rowOf (tree-read-back shape r e))
+unfolding stringOk refinementOf whole rowRead
+written-is-accepted shape r e = (ap whole (tree-read-back shape r e), ap rowRead (tree-read-back shape r e))
 
-whole-written : (ok : Row → Bool) (s : List ℕ) (q : Reading) → Written ok s q → whole q ≡ true → (ok (rowOf q) ≡ true) × (s ≡ bits (rowOf q))
-unfolding whole rowOf
+whole-written : (ok : Row → Bool) (s : List ℕ) (q : Reading) → Written ok s q → whole q ≡ true → (ok (rowRead q) ≡ true) × (s ≡ bits (rowRead q))
+unfolding whole rowRead
 whole-written ok s stopped w e = clash e refl
 whole-written ok s (found r []) w e = (w .1, w .0 ∙ append-nil (bits r))
 whole-written ok s (found r (b ∷ t)) w e = clash e refl

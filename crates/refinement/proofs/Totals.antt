@@ -15,7 +15,7 @@ use Rattle.leaves.specs.Leaves.{maxLeaves, leavesOk}
 use Rattle.offsets.specs.Limits.{treeCountOk}
 use Rattle.refinement.specs.Refinement.{refinable, Row, end, leaf, refined, Kind, upright, inverted, one, children, childKinds, maxDepth, fits, refines, bits, leavesIn, leaves}
 use Rattle.refinement.specs.Reading.{stringOk, refinementOf}
-use Rattle.refinement.specs.Calls.{uprightLeaves, invertedLeaves, leafCount, countRefusal, leavesAnswer, countLeaves, listBelow, stringStart, stringOf, treesOk, shapesOk, stringsOk, countOf, countsFit, countList, countsRefusal}
+use Rattle.refinement.specs.Calls.{uprightLeaves, invertedLeaves, treeLeaves, countRefusal, leavesAnswer, countLeaves, listBelow, stringStart, stringOf, treesOk, shapesOk, stringsOk, countOf, countsFit, countList, countsRefusal}
 use Rattle.refinement.specs.Promises.{CountsAreLeaves, OthersUpright, CountInLimits, CountsMakeTables, EachAsAlone}
 use Rattle.refinement.proofs.Strings.{written-is-accepted, accepted-fits}
 use Rattle.refinement.proofs.Counts.{kinds-length}
@@ -23,7 +23,7 @@ use Rattle.refinement.proofs.Lists.{below-length}
 
 -- the answer for a refinement's string is its leaves
 pub counts-are-leaves : CountsAreLeaves
-unfolding countLeaves countRefusal leavesAnswer firstFailed leafCount uprightLeaves invertedLeaves
+unfolding countLeaves countRefusal leavesAnswer firstFailed treeLeaves uprightLeaves invertedLeaves
 counts-are-leaves shape r so e l =
     let a : stringOk shape (bits r) ≡ true = written-is-accepted shape r e .0 in
     let b : refinementOf shape (bits r) ≡ r = written-is-accepted shape r e .1 in
@@ -65,8 +65,8 @@ one-leaf shape (refined c r) (suc depth) (k ∷ ks) h e =
     omega (arith, one-leaf shape c depth (childKinds shape k) l (rw (kinds-length shape k) f))
 
 -- an accepted string has a leaf
-pub accepted-leaf : (shape : ℕ) (s : List ℕ) → stringOk shape s ≡ true → 1 ≤ leafCount shape s
-unfolding leafCount uprightLeaves invertedLeaves leaves refines
+pub accepted-leaf : (shape : ℕ) (s : List ℕ) → stringOk shape s ≡ true → 1 ≤ treeLeaves shape s
+unfolding treeLeaves uprightLeaves invertedLeaves leaves refines
 accepted-leaf shape s e = one-leaf shape (refinementOf shape s) maxDepth (upright ∷ []) (omega arith) (accepted-fits shape s e .0)
 
 below-at : (n : ℕ) (g : ℕ → ℕ) (k : ℕ) → k < n → getD (listBelow n g) k 0 ≡ g k
@@ -94,7 +94,7 @@ passed true true true true e h f = f refl refl refl refl
 pub count-in-limits : CountInLimits
 unfolding countRefusal firstFailed
 count-in-limits shape s e =
-    passed-one (refinable shape) (stringOk shape s) (leb (leafCount shape s) maxLeaves) e (λ b c. (accepted-leaf shape s b, leb-true (leafCount shape s) maxLeaves c))
+    passed-one (refinable shape) (stringOk shape s) (leb (treeLeaves shape s) maxLeaves) e (λ b c. (accepted-leaf shape s b, leb-true (treeLeaves shape s) maxLeaves c))
 
 table-counts : (shapes lengths bits : List ℕ) → treesOk shapes lengths ≡ true → stringsOk shapes lengths bits ≡ true → countsFit shapes lengths bits ≡ true → leavesOk (countList shapes lengths bits) ≡ true
 unfolding leavesOk countList treesOk stringsOk countsFit countOf
@@ -121,8 +121,8 @@ counts-make-tables shapes lengths bits out e =
     passed (treesOk shapes lengths) (shapesOk shapes) (stringsOk shapes lengths bits) (countsFit shapes lengths bits) (leb (length shapes) (length out)) e
     (λ a b c d. table-counts shapes lengths bits a c d)
 
-alone : (shape : ℕ) (s : List ℕ) → refinable shape ≡ true → stringOk shape s ≡ true → leb (leafCount shape s) maxLeaves ≡ true → (countRefusal shape s ≡ 0) × (leafCount shape s ≡ countLeaves shape s .leaves)
-unfolding countLeaves countRefusal leavesAnswer firstFailed leafCount
+alone : (shape : ℕ) (s : List ℕ) → refinable shape ≡ true → stringOk shape s ≡ true → leb (treeLeaves shape s) maxLeaves ≡ true → (countRefusal shape s ≡ 0) × (treeLeaves shape s ≡ countLeaves shape s .leaves)
+unfolding countLeaves countRefusal leavesAnswer firstFailed treeLeaves
 alone shape s a b c = (rw (a, b, c), rw (a, b, c))
 
 -- in a list each tree has the count that it has by itself
@@ -131,7 +131,7 @@ unfolding countsRefusal firstFailed shapesOk stringsOk countsFit countList count
 each-as-alone shapes lengths bits out e k h =
     passed (treesOk shapes lengths) (shapesOk shapes) (stringsOk shapes lengths bits) (countsFit shapes lengths bits) (leb (length shapes) (length out)) e
     (λ a b c d.
-    let r : (countRefusal (getD shapes k 0) (stringOf lengths bits k) ≡ 0) × (leafCount (getD shapes k 0) (stringOf lengths bits k) ≡ countLeaves (getD shapes k 0) (stringOf lengths bits k) .leaves) =
+    let r : (countRefusal (getD shapes k 0) (stringOf lengths bits k) ≡ 0) × (treeLeaves (getD shapes k 0) (stringOf lengths bits k) ≡ countLeaves (getD shapes k 0) (stringOf lengths bits k) .leaves) =
     alone (getD shapes k 0) (stringOf lengths bits k) (all-at (length shapes) (λ j. refinable (getD shapes j 0)) b k h)
     (all-at (length shapes) (λ j. stringOk (getD shapes j 0) (stringOf lengths bits j))
     (and-snd (eqb (stringStart lengths (length shapes)) (length bits)) (allBelow (length shapes) (λ j. stringOk (getD shapes j 0) (stringOf lengths bits j))) c) k h)

@@ -24,11 +24,11 @@ unfoldable pub invertedLeaves : ℕ → List ℕ → ℕ
 invertedLeaves shape s = leaves shape inverted (refinementOf shape s)
 
 -- the tree's leaf count
-unfoldable pub leafCount : ℕ → List ℕ → ℕ
-leafCount shape s = uprightLeaves shape s + invertedLeaves shape s
+unfoldable pub treeLeaves : ℕ → List ℕ → ℕ
+treeLeaves shape s = uprightLeaves shape s + invertedLeaves shape s
 
 unfoldable pub countRefusal : ℕ → List ℕ → ℕ
-countRefusal shape s = firstFailed (check (refinable shape) 24 ∷ check (stringOk shape s) 23 ∷ check (leb (leafCount shape s) maxLeaves) 25 ∷ [])
+countRefusal shape s = firstFailed (check (refinable shape) 24 ∷ check (stringOk shape s) 23 ∷ check (leb (treeLeaves shape s) maxLeaves) 25 ∷ [])
 
 -- the refusal alone
 abbrev pub leavesRefused : ℕ → Leaves
@@ -68,7 +68,7 @@ stringsOk shapes lengths bits =
 
 -- the leaf count of tree k
 unfoldable pub countOf : List ℕ → List ℕ → List ℕ → ℕ → ℕ
-countOf shapes lengths bits k = leafCount (getD shapes k 0) (stringOf lengths bits k)
+countOf shapes lengths bits k = treeLeaves (getD shapes k 0) (stringOf lengths bits k)
 
 unfoldable pub countsFit : List ℕ → List ℕ → List ℕ → Bool
 countsFit shapes lengths bits = allBelow (length shapes) (λ k. leb (countOf shapes lengths bits k) maxLeaves)

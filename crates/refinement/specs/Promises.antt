@@ -8,7 +8,7 @@ use lib.ListN.{length, getD}
 use Rattle.leaves.specs.Leaves.{leavesOk, maxLeaves}
 use Rattle.refinement.specs.Refinement.{Row, upright, inverted, refinable, refines, bits, leaves}
 use Rattle.refinement.specs.Reading.{stringOk, refinementOf}
-use Rattle.refinement.specs.Calls.{leafCount, countRefusal, countLeaves, stringOf, countsRefusal, countList}
+use Rattle.refinement.specs.Calls.{treeLeaves, countRefusal, countLeaves, stringOf, countsRefusal, countList}
 
 -- an accepted string is that of its refinement, and of no other
 abbrev pub AcceptedIsWritten : Type 0
@@ -40,7 +40,7 @@ OthersUpright = (shape : ℕ) (r : Row) → eqb shape 1 ≡ false → leaves sha
 
 -- one tree's count is within the limits of a leaf count
 abbrev pub CountInLimits : Type 0
-CountInLimits = (shape : ℕ) (s : List ℕ) → countRefusal shape s ≡ 0 → (1 ≤ leafCount shape s) × (leafCount shape s ≤ maxLeaves)
+CountInLimits = (shape : ℕ) (s : List ℕ) → countRefusal shape s ≡ 0 → (1 ≤ treeLeaves shape s) × (treeLeaves shape s ≤ maxLeaves)
 
 -- in a list each tree has the count that it has by itself
 abbrev pub EachAsAlone : Type 0

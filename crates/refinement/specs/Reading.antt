@@ -44,9 +44,9 @@ whole stopped = false
 whole (found r []) = true
 whole (found r (b ∷ s)) = false
 
-unfoldable pub rowOf : Reading → Row
-rowOf stopped = end
-rowOf (found r s) = r
+unfoldable pub rowRead : Reading → Row
+rowRead stopped = end
+rowRead (found r s) = r
 
 -- each byte is 0 or 1, no byte is missing or left, and nothing is deeper than it may be
 unfoldable pub stringOk : ℕ → List ℕ → Bool
@@ -54,4 +54,4 @@ stringOk shape s = whole (readTree shape s)
 
 -- the refinement that an accepted string writes
 unfoldable pub refinementOf : ℕ → List ℕ → Row
-refinementOf shape s = rowOf (readTree shape s)
+refinementOf shape s = rowRead (readTree shape s)

@@ -9,7 +9,7 @@ ghost use Rattle.encoding.specs.Pieces.{splice};
 ghost use Rattle.offsets.specs.Limits.{treeCountOk};
 ghost use Rattle.refinement.specs.Refinement.{refinable};
 ghost use Rattle.refinement.specs.Calls.{shapesOk, countList};
-ghost use Rattle.refinement.specs.Means.Trees.{seenOf, Ready};
+ghost use Rattle.refinement.specs.Means.Trees.{seenOf, Walkable};
 
 // Whether all strings are in order, and then whether no tree has too many leaves.
 pub struct Seen {
@@ -86,7 +86,7 @@ pub fn survey(shapes: &[u32], lengths: &[u32], bits: &[u8]) -> Seen
 
 // The counts, at the start of `out`.
 pub fn write(shapes: &[u32], lengths: &[u32], bits: &[u8], out: &mut [u32])
-    requires { ⌜ Ready (now shapes) (now lengths) (now bits) ⌝ }
+    requires { ⌜ Walkable (now shapes) (now lengths) (now bits) ⌝ }
     requires { ⌜ length (now shapes) ≤ length (now out) ⌝ }
     ensures { λ r. ⌜ now (out .exit) ≡ splice (now (out .entry)) 0 (countList (now (shapes .entry)) (now (lengths .entry)) (now (bits .entry))) ⌝ }
 {

@@ -16,7 +16,7 @@ use Rattle.records.specs.Record.{coreSize, regionLimit, regionOf}
 use Rattle.records.specs.Shape.{facesIn}
 use Rattle.records.proofs.Forms.{form-region, region-below}
 use Rattle.part.specs.Layout.{treePlace}
-use Rattle.part.specs.Part.{partDimension, partFirst, partCount, storedTree, globalIndex, globalTree, partSound}
+use Rattle.part.specs.Part.{partDimension, partFirst, partCount, storedTree, globalNumber, globalTree, partSound}
 use Rattle.part.specs.Checks.{rankChecks}
 use Rattle.part.proofs.Global.{renamed-alike}
 use Rattle.part_check.specs.Calls.{partRefusal}
@@ -48,7 +48,7 @@ module _ (part table : List ℕ) (rank : ℕ) (sound : partSound part table rank
   pub region-stored : (i : ℕ) → i < partCount part → regionOf (globalTree part i) ≡ regionOf (storedTree part i)
   unfolding globalTree storedTree
   region-stored i h =
-      renamed-alike (globalIndex part) (facesIn (partDimension part)) (piece part (treePlace i) coreSize)
+      renamed-alike (globalNumber part) (facesIn (partDimension part)) (piece part (treePlace i) coreSize)
       (piece-length part (treePlace i) coreSize (omega (arith, part-length part table rank sound))) .region
 
   -- which is within its limit

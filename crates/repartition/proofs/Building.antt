@@ -25,7 +25,7 @@ use Rattle.mesh.specs.Mesh.{meshHeader, meshDimension, meshTrees, meshCore, mes
 use Rattle.mesh.proofs.Soundness.{sound-fits}
 use Rattle.part.specs.Layout.{treePlace}
 use Rattle.part.specs.Cut.{renameRow, renamed, localIndex, partTree, cutPart}
-use Rattle.part.specs.Part.{storedTree, globalIndex, globalTree, partHolds, partCore}
+use Rattle.part.specs.Part.{storedTree, globalNumber, globalTree, partHolds, partCore}
 use Rattle.part_cut.proofs.Cutting.{Cuttable}
 use Rattle.part.proofs.Records.{links-length, rows-length, rows-core}
 use Rattle.part_theorems.proofs.CutRead.{cut-dimension, cut-first, cut-end, cut-record, cut-stored, cut-data}
@@ -131,7 +131,7 @@ module _ (mesh old : List ℕ) (p : ℕ) (ok : Cuttable mesh old p) (mesh-bytes 
         ∙ cut-data mesh old p ok bytes index index-below
         ∙ ap (λ (j : ℕ). piece mesh (meshHeader + treeSize * j + coreSize) 24) index-back
 
-    global-core : renamed (globalIndex part) (facesIn (meshDimension mesh)) (storedTree part index) ≡ meshCore mesh k
+    global-core : renamed (globalNumber part) (facesIn (meshDimension mesh)) (storedTree part index) ≡ meshCore mesh k
     unfolding globalTree
     global-core =
         let g = cut-global mesh old p ok mesh-bytes bytes index index-below in
@@ -142,9 +142,9 @@ module _ (mesh old : List ℕ) (p : ℕ) (ok : Cuttable mesh old p) (mesh-bytes 
     unfolding partRecord
     own-record =
         rw (cut-dimension mesh old p ok bytes, cut-first mesh old p ok bytes)
-        (same-halves (renamed (globalIndex part) (facesIn (meshDimension mesh)) stored) (meshRecord mesh k) (wide-long (globalIndex part) (facesIn (meshDimension mesh)) stored stored-long) record-long
-        (wide-core (globalIndex part) (facesIn (meshDimension mesh)) stored stored-long ∙ ap (renamed (globalIndex part) (facesIn (meshDimension mesh))) stored-core ∙ global-core ∙ sym record-core)
-        (wide-data (globalIndex part) (facesIn (meshDimension mesh)) stored stored-long ∙ stored-data ∙ sym record-data))
+        (same-halves (renamed (globalNumber part) (facesIn (meshDimension mesh)) stored) (meshRecord mesh k) (wide-long (globalNumber part) (facesIn (meshDimension mesh)) stored stored-long) record-long
+        (wide-core (globalNumber part) (facesIn (meshDimension mesh)) stored stored-long ∙ ap (renamed (globalNumber part) (facesIn (meshDimension mesh))) stored-core ∙ global-core ∙ sym record-core)
+        (wide-data (globalNumber part) (facesIn (meshDimension mesh)) stored stored-long ∙ stored-data ∙ sym record-data))
 
   -- the part has what the rule reads
   has-part : meshTrees mesh ≡ trees old → HasPart (partCore part) (partHolds part) (partRecord part) mesh old p

@@ -19,7 +19,7 @@ use Rattle.records.specs.Shape.{facesIn}
 use Rattle.records.proofs.Forms.{piece-piece}
 use Rattle.part.specs.Layout.{partHeader, treePlace}
 use Rattle.part.specs.Cut.{renamed}
-use Rattle.part.specs.Part.{partDimension, partK, partFirst, partCount, partGhostCount, storedTree, storedGhost, globalIndex, globalTree, partHolds, partCore, partSound}
+use Rattle.part.specs.Part.{partDimension, partK, partFirst, partCount, partGhostCount, storedTree, storedGhost, globalNumber, globalTree, partHolds, partCore, partSound}
 use Rattle.part_theorems.proofs.SoundParts.{part-header, part-length, part-tree, part-number, part-form, part-shape, part-core-tree, part-core-long, part-neighbour-below, dimension-same, holds-same, cores-same}
 use Rattle.part_theorems.proofs.CutSound.{holds-range}
 use Rattle.message.specs.Layout.{messageSize, inLayout}
@@ -59,19 +59,19 @@ module _ (part old new : List ℕ) (p q : ℕ) (T : Tables old new) (is-sender :
     unfolding partRecord globalTree
     record-core =
         let back : partFirst part + (k - partFirst part) ≡ k = omega (arith, in-part .0) in
-        wide-core (globalIndex part) (facesIn (partDimension part)) (record-of k) own-long
-        ∙ ap (renamed (globalIndex part) (facesIn (partDimension part))) own-stored
+        wide-core (globalNumber part) (facesIn (partDimension part)) (record-of k) own-long
+        ∙ ap (renamed (globalNumber part) (facesIn (partDimension part))) own-stored
         ∙ sym (part-core-tree part old p sound (k - partFirst part) (in-part .1))
         ∙ ap (partCore part) back
 
     pub record-long : length (partRecord part k) ≡ treeSize
     unfolding partRecord
-    record-long = wide-long (globalIndex part) (facesIn (partDimension part)) (record-of k) own-long
+    record-long = wide-long (globalNumber part) (facesIn (partDimension part)) (record-of k) own-long
 
     pub record-data : piece (partRecord part k) coreSize 24 ≡ piece part (treePlace (k - partFirst part) + coreSize) 24
     unfolding partRecord
     record-data =
-        wide-data (globalIndex part) (facesIn (partDimension part)) (record-of k) own-long
+        wide-data (globalNumber part) (facesIn (partDimension part)) (record-of k) own-long
         ∙ piece-piece part (treePlace (k - partFirst part)) treeSize coreSize 24 (omega arith)
 
   -- the records of its message have their sizes and are laid out

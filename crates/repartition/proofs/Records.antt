@@ -17,7 +17,7 @@ use Rattle.mesh.proofs.Soundness.{sound-core, sound-number}
 use Rattle.part.specs.Layout.{partHeader, treePlace, ghostPlace, partSize}
 use Rattle.part.specs.Ghosts.{isGhost, ghostsOf, ghostPosition}
 use Rattle.part.specs.Cut.{renamed, localIndex, ghostCount, cutPart}
-use Rattle.part.specs.Part.{partDimension, partFirst, partCount, partGhostCount, storedTree, storedGhost, globalIndex}
+use Rattle.part.specs.Part.{partDimension, partFirst, partCount, partGhostCount, storedTree, storedGhost, globalNumber}
 use Rattle.part_cut.proofs.Cutting.{Cuttable}
 use Rattle.part_theorems.proofs.Renamed.{renamed-number}
 use Rattle.part_theorems.proofs.CutRead.{cut-first, cut-count, cut-ghosts, cut-within, cut-tree, cut-ghost}
@@ -111,6 +111,6 @@ module _ (mesh table : List ℕ) (rank : ℕ) (ok : Cuttable mesh table rank) (m
       let here : holds table rank k ≡ true = range-local mesh table rank ok mesh-bytes bytes i h in
       let back : k - partFirst part ≡ i = rw (cut-first mesh table rank ok bytes) (omega arith) in
       rw (dimension-same (part ++ rest) part same-header, first-same (part ++ rest) part same-header)
-      (ap (λ (r : List ℕ). renamed (globalIndex (part ++ rest)) (facesIn (partDimension part)) r) (piece-first part rest (treePlace (k - partFirst part)) treeSize (omega (arith, back, part-long)))
+      (ap (λ (r : List ℕ). renamed (globalNumber (part ++ rest)) (facesIn (partDimension part)) r) (piece-first part rest (treePlace (k - partFirst part)) treeSize (omega (arith, back, part-long)))
       ∙ ap (λ (rename : ℕ → ℕ). renamed rename (facesIn (partDimension part)) (piece part (treePlace (k - partFirst part)) treeSize)) (fun-ext (index-same (part ++ rest) part same-header same-trees same-ghosts))
       ∙ own-record mesh table rank ok mesh-bytes bytes k here)

@@ -25,7 +25,7 @@ seenOf shapes lengths bits =
     cond (stringsOk shapes lengths bits) (record { ok = true; small = countsFit shapes lengths bits }) (record { ok = false; small = false })
 
 -- as many lengths as shapes, and strings and counts in order
-pub record Ready (shapes lengths bits : List ℕ) : Type 0 where
+pub record Walkable (shapes lengths bits : List ℕ) : Type 0 where
   pub sameLength : length lengths ≡ length shapes
   pub strings : stringsOk shapes lengths bits ≡ true
   pub counts : countsFit shapes lengths bits ≡ true

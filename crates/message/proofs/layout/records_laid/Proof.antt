@@ -1,4 +1,4 @@
-use Rattle.message.specs.Means.{coreAt}
+use Rattle.message.specs.Means.{laidCore}
 use Rattle.message.specs.Layout.{recordLaid, afterLast, recordsLaid}
 use Rattle.encoding.proofs.Below.{all-more, all-fails, all-to}
 use Rattle.encoding.specs.Below.{allBelow}
@@ -12,7 +12,7 @@ use Rattle.message.proofs.layout.records_laid.Statement.{statement}
 use Rattle.message.proofs.layout.records_laid.Tie as tie
 
 abbrev Inv-loop : tie.InvT-loop
-Inv-loop message start stride count dimension below i₀ i = (i ≤ count) × (allBelow i (λ k. recordLaid message (coreAt message start stride k) && afterLast (coreAt message start stride) k) ≡ true)
+Inv-loop message start stride count dimension below i₀ i = (i ≤ count) × (allBelow i (λ k. recordLaid message (laidCore message start stride k) && afterLast (laidCore message start stride) k) ≡ true)
 
 abbrev μ-loop : tie.MeasureT-loop
 μ-loop message start stride count dimension below i₀ i = count - i

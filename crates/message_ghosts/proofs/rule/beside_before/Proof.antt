@@ -1,5 +1,5 @@
 use Rattle.message_ghosts.proofs.Reading.{neighbour-before}
-use Rattle.message_ghosts.specs.Means.{numberAt, besideBefore}
+use Rattle.message_ghosts.specs.Means.{numberIn, besideBefore}
 use Rattle.part.proofs.Ranges.{none-next, none-to}
 use Rattle.encoding.proofs.Below.{any-intro}
 use Rattle.encoding.specs.Below.{anyBelow}
@@ -12,7 +12,7 @@ use Rattle.message_ghosts.proofs.rule.beside_before.Statement.{statemen
 use Rattle.message_ghosts.proofs.rule.beside_before.Tie as tie
 
 abbrev Inv-loop : tie.InvT-loop
-Inv-loop part old new q count low faces j face₀ face = (face ≤ faces) × (besideBefore part old new q low (numberAt part count j) face ≡ false)
+Inv-loop part old new q count low faces j face₀ face = (face ≤ faces) × (besideBefore part old new q low (numberIn part count j) face ≡ false)
 
 abbrev μ-loop : tie.MeasureT-loop
 μ-loop part old new q count low faces j face₀ face = faces - face

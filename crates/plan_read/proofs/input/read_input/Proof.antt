@@ -1,5 +1,5 @@
 use Rattle.plan_read.proofs.Grammar.{number-sound, formed}
-use Rattle.plan_read.specs.Means.{numberOf, formTests, ListRead, InputRead, byteAt, isDigit, digitCount, digitsOk, readNumber, readList, readRanks, readOld, readNew, formOk, parse, Number}
+use Rattle.plan_read.specs.Means.{numeralOf, formTests, ListRead, InputRead, byteAt, isDigit, digitCount, digitsOk, readNumber, readList, readRanks, readOld, readNew, formOk, parse, Number}
 use Rattle.plan_read.specs.Text.{inputLimit, numberLimit}
 use Rattle.plan_read.specs.declared.input.Counted.{Counted}
 use Rattle.plan_read.specs.declared.number.Numeral.{Numeral}
@@ -30,8 +30,8 @@ unfolding formOk
 too-long text oldEntry oldExit newEntry newExit h =
     record { ok = rw (lt-leb (length text) inputLimit h); ranks = λ p. clash p refl; old = λ p. clash p refl; new = λ p. clash p refl }
 
-module _ (text : List ℕ) (p : Numeral) (ep : numberOf p ≡ readNumber text 6) where
-  ranks-is : numberOf p ≡ readRanks text
+module _ (text : List ℕ) (p : Numeral) (ep : numeralOf p ≡ readNumber text 6) where
+  ranks-is : numeralOf p ≡ readRanks text
   unfolding readRanks
   ranks-is = ep
 

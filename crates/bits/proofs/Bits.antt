@@ -133,10 +133,6 @@ extends-low (suc k) v w h =
     let l : v % 2 ^ k ≡ w % 2 ^ k = extends-low k v w (λ b p. h b (omega arith)) in
     rw e (mod-pow-add v 1 k ∙ ap₂ (λ x y. x * 2 ^ k + y) d l ∙ sym (mod-pow-add w 1 k))
 
--- two words with the same bits are equal
-pub set-extends : (v w : ℕ) → v < 2 ^ 64 → w < 2 ^ 64 → ((b : ℕ) → b < 64 → bitOf v b ≡ bitOf w b) → v ≡ w
-set-extends v w p q h = sym (mod-eq-of-lt p) ∙ extends-low 64 v w h ∙ mod-eq-of-lt q
-
 -- ---- sets
 
 -- words of 0 have no members
@@ -169,14 +165,6 @@ in-with ws k j h =
 pub with-length : (ws : List ℕ) (k : ℕ) → length (withMember ws k) ≡ length ws
 unfolding withMember
 with-length ws k = simp length-set
-
--- its words still have 64 bits
-pub with-words : (ws : List ℕ) (k : ℕ) → k < 64 * length ws → ((i : ℕ) → getD ws i 0 < 2 ^ 64) → (i : ℕ) → getD (withMember ws k) i 0 < 2 ^ 64
-unfolding withMember
-with-words ws k h words i =
-    either (eqb i (k / 64))
-    (λ p. rw (eqb-true i (k / 64) p, getD-set-same ws (k / 64) (withBit (getD ws (k / 64) 0) (k % 64)) 0 (omega arith)) (with-fits (getD ws (k / 64) 0) (k % 64) (words (k / 64)) (omega arith)))
-    (λ p. rw (getD-set-other ws (k / 64) i (withBit (getD ws (k / 64) 0) (k % 64)) 0 (eqb-false i (k / 64) p)) (words i))
 
 -- ---- how many members a set has
 

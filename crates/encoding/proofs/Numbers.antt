@@ -15,7 +15,7 @@ use Rattle.encoding.specs.Below.{allBelow}
 use Rattle.encoding.specs.Words.{zeroAt}
 use Rattle.encoding.specs.Numbers.{leValue, leBytes, leAt, lePut}
 use Rattle.encoding.proofs.Below.{either, tests, all-same, all-add}
-use Rattle.encoding.proofs.Pieces.{splice-next, piece-cons, piece-past, piece-add, piece-length, piece-most, bytes-piece, length-splice, splice-cons, splice-none, splice-then, piece-same, piece-below, piece-above}
+use Rattle.encoding.proofs.Pieces.{splice-next, piece-cons, piece-past, piece-add, piece-length, piece-most, bytes-piece, length-splice, splice-cons, splice-none, splice-then}
 
 pub bytes-length : (w v : ℕ) → length (leBytes w v) ≡ w
 unfolding leBytes
@@ -105,22 +105,6 @@ put-step w bs off v h = splice-cons bs off (v % 256) (leBytes w (v / 256)) h
 pub put-none : (bs : List ℕ) (off v : ℕ) → lePut 0 bs off v ≡ bs
 unfolding lePut leBytes
 put-none bs off v = splice-none bs off
-
--- a number written is read back; all others are as before
-pub at-same : (w : ℕ) (bs : List ℕ) (off v : ℕ) → off + w ≤ length bs → v < 256 ^ w → leAt w (lePut w bs off v) off ≡ v
-unfolding leAt lePut
-at-same w bs off v h b =
-    let l : length (leBytes w v) ≡ w = bytes-length w v in
-    let r : piece (splice bs off (leBytes w v)) off (length (leBytes w v)) ≡ leBytes w v = piece-same bs off (leBytes w v) (rw l h) in
-    ap leValue (rw l at r) ∙ value-bytes w v b
-
-pub at-below : (w : ℕ) (bs : List ℕ) (off v m at : ℕ) → off + w ≤ length bs → at + m ≤ off → leAt m (lePut w bs off v) at ≡ leAt m bs at
-unfolding leAt lePut
-at-below w bs off v m at h k = ap leValue (piece-below bs off (leBytes w v) at m (rw (bytes-length w v) h) k)
-
-pub at-above : (w : ℕ) (bs : List ℕ) (off v m at : ℕ) → off + w ≤ length bs → off + w ≤ at → leAt m (lePut w bs off v) at ≡ leAt m bs at
-unfolding leAt lePut
-at-above w bs off v m at h k = ap leValue (piece-above bs off (leBytes w v) at m (rw (bytes-length w v) h) (rw (bytes-length w v) k))
 
 -- the bytes of the number that stands somewhere are the bytes there
 pub at-bytes : (w : ℕ) (bs : List ℕ) (off : ℕ) → Bytes bs → off + w ≤ length bs → leBytes w (leAt w bs off) ≡ piece bs off w

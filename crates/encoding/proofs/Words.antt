@@ -2,18 +2,17 @@
 use Prim.Native.Nat.{ℕ, suc, _+_, _*_, _≤_, _<_}
 use mathlib.Core.Path.{_≡_, refl, sym, _∙_}
 use mathlib.Core.Bool.{Bool, true, false, _&&_}
-use mathlib.Core.List.{List, [], _∷_, _++_}
+use mathlib.Core.List.{List, [], _∷_}
 use native.Mathlib.Omega.{arith}
 use lib.Dec.{ltb}
 use lib.ListN.{length, getD, replicate, length-append, length-replicate, getD-replicate, List·getD-eq-default}
 use lib.Seq.{ext-getD}
 use borrow.Author.Tests.{eqb-true, eq-eqb}
 use Rattle.encoding.specs.declared.record.Words40.{Words40}
-use Rattle.encoding.specs.declared.record.Words64.{Words64}
 use Rattle.encoding.specs.Pieces.{piece, splice, Bytes}
 use Rattle.encoding.specs.Numbers.{leBytes, lePut, u64At, putU64}
 use Rattle.encoding.specs.Below.{allBelow}
-use Rattle.encoding.specs.Words.{wordBytes, bytes40, bytes64, zeroAt, allZero}
+use Rattle.encoding.specs.Words.{wordBytes, bytes40, zeroAt, allZero}
 use Rattle.encoding.proofs.Below.{either, clash, tests, all-at, all-intro, all-add}
 use Rattle.encoding.proofs.Pieces.{piece-add, splice-none, splice-then}
 use Rattle.encoding.proofs.Numbers.{bytes-length, at-bytes, length-put}
@@ -28,11 +27,6 @@ words-length (w ∷ ws) = rw (length-append, bytes-length 8 w, words-length ws) 
 pub bytes40-length : (r : Words40) → length (bytes40 r) ≡ 40
 unfolding bytes40
 bytes40-length r = words-length (r .w0 ∷ r .w1 ∷ r .w2 ∷ r .w3 ∷ r .w4 ∷ [])
-
--- and one of 64 bytes
-pub bytes64-length : (r : Words64) → length (bytes64 r) ≡ 64
-unfolding bytes64
-bytes64-length r = rw (length-append, bytes40-length (r .core), words-length (r .w5 ∷ r .w6 ∷ r .w7 ∷ []))
 
 -- the words were read one after the other, the first at off + k
 pub data Read (bs : List ℕ) (off : ℕ) : ℕ → List ℕ → Type 0 where

@@ -2,6 +2,5 @@
 pub mod Layouts
 pub mod Reading
 pub mod Checking
-pub mod Examples
 pub mod Ghosts
 pub mod Messages

@@ -1,5 +1,5 @@
 -- Laws of the test of a range, and of counts and sums over ranges and pairs.
-use Prim.Native.Nat.{ℕ, zero, suc, _+_, _-_, _*_, _≤_, _<_, min, max}
+use Prim.Native.Nat.{ℕ, zero, suc, _+_, _-_, _*_, _≤_, _<_}
 use native.Mathlib.Nat.{le-refl}
 use native.Mathlib.Omega.{arith}
 use mathlib.Core.Path.{_≡_, sym, ap, _∙_}
@@ -7,7 +7,7 @@ use mathlib.Core.Bool.{Bool, true, false, cond, _&&_, _||_}
 use lib.Dec.{leb, ltb}
 use borrow.Author.Tests.{ltb-true, leb-true, lt-ltb, le-leb}
 use Rattle.encoding.specs.Below.{anyBelow, leastBelow, countBelow, sumBelow}
-use Rattle.encoding.proofs.Below.{tests, either, and-fst, and-snd, and-intro, iff-eq, any-intro, any-none, least-is, count-range, count-none, count-or, sum-count, sum-same, sum-le}
+use Rattle.encoding.proofs.Below.{tests, either, and-fst, and-snd, and-intro, any-intro, any-none, least-is, count-range, count-none, count-or, sum-count, sum-same, sum-le}
 
 -- a number that passes is in the range
 pub range-true : (a b k : ℕ) → (leb a k && ltb k b) ≡ true → (a ≤ k) × (k < b)
@@ -20,16 +20,6 @@ range-in a b k l h = and-intro (leb a k) (ltb k b) (le-leb a k l) (lt-ltb k b h)
 -- a number outside the range fails
 pub range-out : (a b k : ℕ) → (a ≤ k → b ≤ k) → (leb a k && ltb k b) ≡ false
 range-out a b k h = either (leb a k && ltb k b) (λ e. let r = range-true a b k e in absurd (omega (arith, h (r .0), r .1))) (λ e. e)
-
--- what is in both of two ranges is one range
-pub range-meet : (a b c d k : ℕ) → ((leb a k && ltb k b) && (leb c k && ltb k d)) ≡ (leb (max c a) k && ltb k (min d b))
-range-meet a b c d k =
-    iff-eq ((leb a k && ltb k b) && (leb c k && ltb k d)) (leb (max c a) k && ltb k (min d b))
-    (λ e. let r = range-true a b k (and-fst _ _ e) in
-    let s = range-true c d k (and-snd (leb a k && ltb k b) (leb c k && ltb k d) e) in
-    range-in (max c a) (min d b) k (omega arith) (omega arith))
-    (λ e. let r = range-true (max c a) (min d b) k e in
-    and-intro (leb a k && ltb k b) (leb c k && ltb k d) (range-in a b k (omega arith) (omega arith)) (range-in c d k (omega arith) (omega arith)))
 
 -- a test below n that is the test of a range from a to b
 module _ (n : ℕ) (f : ℕ → Bool) (a b : ℕ) (u : b ≤ n) (t : (i : ℕ) → i < n → f i ≡ (leb a i && ltb i b)) where

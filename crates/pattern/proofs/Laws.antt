@@ -36,9 +36,6 @@ module _ {old new : List ℕ} {p q : ℕ} (f : PairOf old new p q) where
   pub sender-row : tableLength (p + 1) ≤ length old
   sender-row = row-fits old p (f .tables .oldRanks) (f .senderBelow)
 
-  pub receiver-row : tableLength (q + 1) ≤ length old
-  receiver-row = row-fits old q (f .tables .oldRanks) (f .receiverBelow)
-
   pub receiver-new-row : tableLength (q + 1) ≤ length new
   receiver-new-row = receiver-in-new old new (f .tables) q (f .receiverBelow)
 

@@ -17,7 +17,7 @@ use Rattle.offsets.proofs.Tables.{size, ranks-low, trees-high, zero-first, plai
 use Rattle.pattern.specs.declared.Sender.the-variants.{Rank, Nobody}
 use Rattle.pattern.specs.Sender.{Tables, distance, nearest, sender, senderTo, sends, sentCount, sentFirst}
 use Rattle.pattern.specs.Means.{hasTrees, lowerRank, aboveWithTrees, upperRank, sentLow, sentHigh}
-use Rattle.pattern.proofs.Counting.{range-true, range-in, range-out, count-span, least-span}
+use Rattle.pattern.proofs.Counting.{range-true, range-in, count-span, least-span}
 
 -- ---- the trees of a rank
 
@@ -29,13 +29,6 @@ holds-true t p k e = range-true (firstTree t p) (endTree t p) k e
 pub holds-in : (t : List ℕ) (p k : ℕ) → firstTree t p ≤ k → k < endTree t p → holds t p k ≡ true
 unfolding holds
 holds-in t p k l h = range-in (firstTree t p) (endTree t p) k l h
-
-pub holds-out : (t : List ℕ) (p k : ℕ) → (firstTree t p ≤ k → endTree t p ≤ k) → holds t p k ≡ false
-unfolding holds
-holds-out t p k h = range-out (firstTree t p) (endTree t p) k h
-
-pub holds-false : (t : List ℕ) (p k : ℕ) → holds t p k ≡ false → firstTree t p ≤ k → endTree t p ≤ k
-holds-false t p k e l = either (ltb k (endTree t p)) (λ h. clash (holds-in t p k l (ltb-true k (endTree t p) h)) e) (ltb-false k (endTree t p))
 
 -- ---- the holders of a tree, in one valid table
 

@@ -1,6 +1,6 @@
 -- Laws of records: reading them in place, their codes, their form, and which bytes they read.
 use Prim.Native.Nat.{ℕ, zero, suc, _+_, _-_, _*_, _≤_, _<_}
-use native.Mathlib.Nat.{zero-add, suc-add, add-zero, mod-lt, div-add-mod'}
+use native.Mathlib.Nat.{zero-add, suc-add, add-zero, mod-lt}
 use native.Mathlib.Omega.{arith}
 use mathlib.Core.Path.{_≡_, refl, sym, ap, ap₂, _∙_}
 use mathlib.Core.Bool.{true, _&&_}
@@ -106,10 +106,6 @@ module _ (r : List ℕ) where
 
   pub face-six : (f : ℕ) → faceOf r f < 6
   face-six f = omega (arith, face-below f, faces-of-six)
-
-  pub code-parts : (f : ℕ) → codeOf r f ≡ orientationOf r f * facesOf r + faceOf r f
-  unfolding faceOf orientationOf
-  code-parts f = sym (div-add-mod' (codeOf r f) (facesOf r))
 
 -- ---- the parts of the form
 

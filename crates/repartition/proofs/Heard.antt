@@ -259,11 +259,6 @@ module _ (run : Run) where
   pub canonical-agree : (H₁ H₂ : ℕ → Bool) → ((s : ℕ) → H₁ s ≡ H₂ s) → canonical run H₁ ≡ canonical run H₂
   canonical-agree H₁ H₂ e = ap (canonical run) (fun-ext e)
 
-  -- the area depends on the ranks below P
-  pub canonical-same : (H₁ H₂ : ℕ → Bool) → InReceive run H₁ → InReceive run H₂ → ((s : ℕ) → s < ranks (run .old) → H₁ s ≡ H₂ s)
-      → canonical run H₁ ≡ canonical run H₂
-  canonical-same H₁ H₂ r₁ r₂ e = canonical-agree H₁ H₂ (heard-agree H₁ H₂ r₁ r₂ e)
-
   -- equal areas have heard the same ranks, whatever stands behind them
   pub canonical-apart-behind : Setting run → (H₁ H₂ : ℕ → Bool) (tail₁ tail₂ : List ℕ)
       → canonical run H₁ ++ tail₁ ≡ canonical run H₂ ++ tail₂ → (s : ℕ) → s < ranks (run .old) → H₁ s ≡ H₂ s

@@ -278,9 +278,9 @@ fn part_rows(name: &str, power: u32, mesh: &[u8]) {
     let library =
         |part: &[u8]| unsafe { vejgodat_check_part(part.as_ptr(), part.len(), table.as_ptr(), table.len(), rank) };
     assert_eq!((library(part), check_part(part, table, rank)), (0, 0));
-    // another byte at the end of the last ghost
+    // a region above the limit in the last ghost
     let last = part.len() - 1;
-    part[last] = 1;
+    part[last] = 16;
     assert_eq!((library(part), check_part(part, table, rank)), (8, 8));
     part[last] = 0;
     let part = &part[..];

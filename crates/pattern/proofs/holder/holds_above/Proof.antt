@@ -4,28 +4,22 @@ use borrow.Author.Needs.{needs}
 use Rattle.pattern.proofs.holder.holds_above.Statement.{statement}
 use Rattle.pattern.proofs.holder.holds_above.Tie as tie
 
--- src/holder.rt:30:9
 ranks-requires : tie.Need-ranks-requires
 ranks-requires c κs = search needs
 
--- src/holder.rt:31:8
 sub-if1 : tie.Need-sub-if1
 sub-if1 c = search needs
 
--- src/holder.rt:32:9
 returns : tie.Need-returns
 unfolding heldAbove
 returns c = rw (← c .before .ranks .ensures .0, le-leb _ _ (c .if1 .taken))
 
--- src/holder.rt:34:16
 add-holds : tie.Need-add-holds
 add-holds c = search needs
 
--- src/holder.rt:34:5
 holds-requires : tie.Need-holds-requires
 holds-requires c κs = search needs
 
--- src/holder.rt:26:1
 returns-2 : tie.Need-returns-2
 unfolding heldAbove
 returns-2 c = rw (← c .before .before .ranks .ensures .0, lt-leb _ _ (c .before .if1 .left)) (c .holds .ensures)

@@ -5,16 +5,13 @@ use native.Mathlib.Omega.{arith}
 use Rattle.pattern.proofs.holder.holds_below.Statement.{statement}
 use Rattle.pattern.proofs.holder.holds_below.Tie as tie
 
--- src/holder.rt:20:9
 returns : tie.Need-returns
 unfolding heldBelow
 returns c = rw (lt-ltb _ _ (c .if1 .taken))
 
--- src/holder.rt:22:5
 holds-requires : tie.Need-holds-requires
 holds-requires c κs = omega (arith, row-fits _ (c .before .before .args .q) (c .before .before .pre .0 .ranksFit) (c .before .before .pre .1))
 
--- src/holder.rt:15:1
 returns-2 : tie.Need-returns-2
 unfolding heldBelow
 returns-2 c = rw (le-ltb _ _ (c .before .if1 .left)) (c .holds .ensures)

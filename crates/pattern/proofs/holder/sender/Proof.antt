@@ -13,19 +13,15 @@ Inv-loop old k q end d₀ d = Walking old k q d
 abbrev μ-loop : tie.MeasureT-loop
 μ-loop old k q end d₀ d = end - d
 
--- src/holder.rt:42:9
 ranks-requires : tie.Need-ranks-requires Inv-loop μ-loop
 ranks-requires c κs = c .before .pre .0 .ranksFit
 
--- src/holder.rt:44:5
 loop-holds : tie.Need-loop-holds Inv-loop μ-loop
 loop-holds c = walk-start _ _ _ (λ i. c .before .shared-slice-known .given i .fits) (c .before .before .pre) _ (omega arith)
 
--- src/holder.rt:45:12
 holds-below-requires : tie.Need-holds-below-requires Inv-loop μ-loop
 holds-below-requires c κs = search needs
 
--- src/holder.rt:46:20
 sub-result : tie.Need-sub-result Inv-loop μ-loop
 sub-result c =
     let shared-slice-known = c .before .before .before .before .before .shared-slice-known in
@@ -36,7 +32,6 @@ sub-result c =
     let holds-below = c .before .holds-below in
     walk-below _ _ _ (λ i. shared-slice-known .given i .fits) pre _ _ (ranks .ensures .0) (loop .inv) (loop-test .taken) (sym (holds-below .ensures) ∙ c .if1 .taken) .0
 
--- src/holder.rt:46:13
 returns : tie.Need-returns Inv-loop μ-loop
 returns c =
     let shared-slice-known = c .before .before .before .before .before .shared-slice-known in
@@ -47,11 +42,9 @@ returns c =
     let holds-below = c .before .holds-below in
     (walk-below _ _ _ (λ i. shared-slice-known .given i .fits) pre _ _ (ranks .ensures .0) (loop .inv) (loop-test .taken) (sym (holds-below .ensures) ∙ c .if1 .taken) .1, omega (arith, ranks-known _ (pre .0 .ranksFit) .high, pre .1))
 
--- src/holder.rt:48:12
 holds-above-requires : tie.Need-holds-above-requires Inv-loop μ-loop
 holds-above-requires c κs = search needs
 
--- src/holder.rt:49:20
 add-result : tie.Need-add-result Inv-loop μ-loop
 add-result c =
     let shared-slice-known = c .before .before .before .before .before .before .before .shared-slice-known in
@@ -64,7 +57,6 @@ add-result c =
     let holds-above = c .before .holds-above in
     omega (arith, walk-above _ _ _ (λ i. shared-slice-known .given i .fits) pre _ _ (ranks .ensures .0) (loop .inv) (loop-test .taken) (sym (holds-below .ensures) ∙ if1 .left) (sym (holds-above .ensures) ∙ c .if2 .taken) .0, ranks .ensures .1 .1)
 
--- src/holder.rt:49:13
 returns-2 : tie.Need-returns-2 Inv-loop μ-loop
 returns-2 c =
     let shared-slice-known = c .before .before .before .before .before .before .before .shared-slice-known in
@@ -77,15 +69,12 @@ returns-2 c =
     let holds-above = c .before .holds-above in
     let w = walk-above _ _ _ (λ i. shared-slice-known .given i .fits) pre _ _ (ranks .ensures .0) (loop .inv) (loop-test .taken) (sym (holds-below .ensures) ∙ if1 .left) (sym (holds-above .ensures) ∙ c .if2 .taken) in (w .1, omega (arith, ranks .ensures .1 .1))
 
--- src/holder.rt:51:9
 add-d : tie.Need-add-d Inv-loop μ-loop
 add-d c = search needs
 
--- src/holder.rt:44:5
 loop-less : tie.Need-loop-less Inv-loop μ-loop
 loop-less c = search needs
 
--- src/holder.rt:44:5
 loop-again : tie.Need-loop-again Inv-loop μ-loop
 loop-again c =
     let shared-slice-known = c .before .before .before .before .before .before .before .shared-slice-known in
@@ -98,7 +87,6 @@ loop-again c =
     let holds-above = c .before .holds-above in
     walk-more _ _ _ (λ i. shared-slice-known .given i .fits) pre _ _ (ranks .ensures .0) (loop .inv) (loop-test .taken) (sym (holds-below .ensures) ∙ if1 .left) (sym (holds-above .ensures) ∙ c .if2 .left)
 
--- src/holder.rt:38:1
 returns-3 : tie.Need-returns-3 Inv-loop μ-loop
 returns-3 c =
     let shared-slice-known = c .before .before .before .shared-slice-known in

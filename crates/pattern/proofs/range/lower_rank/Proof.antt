@@ -14,19 +14,15 @@ Inv-loop t p m₀ m = (m ≤ p) × (lowerRank t m ≡ lowerRank t p)
 abbrev μ-loop : tie.MeasureT-loop
 μ-loop t p m₀ m = m
 
--- src/range.rt:48:5
 loop-holds : tie.Need-loop-holds Inv-loop μ-loop
 loop-holds c = (omega arith, refl)
 
--- src/range.rt:49:9
 sub-m : tie.Need-sub-m Inv-loop μ-loop
 sub-m c = search needs
 
--- src/range.rt:50:12
 has-trees-requires : tie.Need-has-trees-requires Inv-loop μ-loop
 has-trees-requires c κs = omega (arith, row-fits _ (c .before .before .before .args .p) (c .before .before .before .pre .0) (c .before .before .before .pre .1))
 
--- src/range.rt:51:13
 returns : tie.Need-returns Inv-loop μ-loop
 returns c =
     let loop = c .before .before .before .loop in
@@ -34,15 +30,12 @@ returns c =
     let pre = c .before .before .before .before .before .pre in
     (lower-found _ _ _ _ (loop .inv .1) (omega arith) (sym (has-trees .ensures) ∙ c .if1 .taken), omega (arith, ranks-known _ (pre .0) .high))
 
--- src/range.rt:48:5
 loop-less : tie.Need-loop-less Inv-loop μ-loop
 loop-less c = search needs
 
--- src/range.rt:48:5
 loop-again : tie.Need-loop-again Inv-loop μ-loop
 loop-again c = (omega arith, lower-skip _ _ _ _ (c .before .before .before .loop .inv .1) (omega arith) (sym (c .before .has-trees .ensures) ∙ c .if1 .left))
 
--- src/range.rt:43:1
 returns-2 : tie.Need-returns-2 Inv-loop μ-loop
 returns-2 c = (lower-none _ _ _ (c .before .loop .inv .1) (c .loop-test .left), omega arith)
 

@@ -3,15 +3,12 @@ use borrow.Author.Needs.{needs}
 use Rattle.pattern.proofs.range.sends_near.Statement.{statement}
 use Rattle.pattern.proofs.range.sends_near.Tie as tie
 
--- src/range.rt:126:5
 sent-low-requires : tie.Need-sent-low-requires
 sent-low-requires c κs = search needs
 
--- src/range.rt:126:39
 sent-high-requires : tie.Need-sent-high-requires
 sent-high-requires c κs = search needs
 
--- src/range.rt:122:1
 returns : tie.Need-returns
 returns c = sends-tested _ _ _ _ (c .before .before .before .before .pre .pair) _ _ (c .before .sent-low .ensures) (c .sent-high .ensures)
 

@@ -5,27 +5,21 @@ use borrow.Author.Needs.{needs}
 use Rattle.pattern.proofs.range.sends_some.Statement.{statement}
 use Rattle.pattern.proofs.range.sends_some.Tie as tie
 
--- src/range.rt:134:9
 has-trees-requires : tie.Need-has-trees-requires
 has-trees-requires c κs = sender-row (c .before .before .pre)
 
--- src/range.rt:135:9
 returns : tie.Need-returns
 returns c = empty-sends _ _ _ _ (c .before .before .before .before .pre) (sym (c .before .has-trees .ensures) ∙ not-true _ (c .if1 .taken))
 
--- src/range.rt:137:32
 lower-rank-requires : tie.Need-lower-rank-requires
 lower-rank-requires c κs = search needs
 
--- src/range.rt:137:52
 upper-rank-requires : tie.Need-upper-rank-requires
 upper-rank-requires c κs = search needs
 
--- src/range.rt:137:5
 sends-near-requires : tie.Need-sends-near-requires
 sends-near-requires c κs = search needs
 
--- src/range.rt:130:1
 returns-2 : tie.Need-returns-2
 returns-2 c = search needs
 

@@ -6,31 +6,24 @@ use borrow.Author.Needs.{needs}
 use Rattle.pattern.proofs.range.sent.Statement.{statement}
 use Rattle.pattern.proofs.range.sent.Tie as tie
 
--- src/range.rt:107:9
 has-trees-requires : tie.Need-has-trees-requires
 has-trees-requires c κs = sender-row (c .before .before .pre)
 
--- src/range.rt:108:9
 returns : tie.Need-returns
 returns c = empty-sent _ _ _ _ (c .before .before .before .before .pre) (sym (c .before .has-trees .ensures) ∙ not-true _ (c .if1 .taken))
 
--- src/range.rt:110:40
 lower-rank-requires : tie.Need-lower-rank-requires
 lower-rank-requires c κs = search needs
 
--- src/range.rt:110:9
 sent-low-requires : tie.Need-sent-low-requires
 sent-low-requires c κs = search needs
 
--- src/range.rt:111:42
 upper-rank-requires : tie.Need-upper-rank-requires
 upper-rank-requires c κs = search needs
 
--- src/range.rt:111:9
 sent-high-requires : tie.Need-sent-high-requires
 sent-high-requires c κs = search needs
 
--- src/range.rt:113:9
 returns-2 : tie.Need-returns-2
 returns-2 c =
     let pre = c .before .before .before .before .before .before .before .before .before .pre in
@@ -38,7 +31,6 @@ returns-2 c =
     let sent-high = c .before .sent-high in
     sent-none _ _ _ _ pre _ _ (sent-low .ensures) (sent-high .ensures) (c .if2 .taken)
 
--- src/range.rt:116:16
 cast-t10 : tie.Need-cast-t10
 cast-t10 c =
     let pre = c .before .before .before .before .before .before .before .before .before .pre in
@@ -46,11 +38,9 @@ cast-t10 c =
     let sent-high = c .before .sent-high in
     omega (arith, sent-fits _ _ _ _ pre _ _ (sent-low .ensures) (sent-high .ensures))
 
--- src/range.rt:117:17
 sub-t11 : tie.Need-sub-t11
 sub-t11 c = search needs
 
--- src/range.rt:117:16
 cast-t12 : tie.Need-cast-t12
 cast-t12 c =
     let pre = c .before .before .before .before .before .before .before .before .before .pre in
@@ -58,7 +48,6 @@ cast-t12 c =
     let sent-high = c .before .sent-high in
     omega (arith, sent-fits _ _ _ _ pre _ _ (sent-low .ensures) (sent-high .ensures))
 
--- src/range.rt:103:1
 returns-3 : tie.Need-returns-3
 returns-3 c =
     let pre = c .before .before .before .before .before .before .before .before .before .pre in

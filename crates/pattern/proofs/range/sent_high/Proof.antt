@@ -7,37 +7,29 @@ use borrow.Author.Needs.{needs}
 use Rattle.pattern.proofs.range.sent_high.Statement.{statement}
 use Rattle.pattern.proofs.range.sent_high.Tie as tie
 
--- src/range.rt:90:23
 end-tree-requires : tie.Need-end-tree-requires
 end-tree-requires c κs = omega (arith, sender-row (c .before .before .pre .0))
 
--- src/range.rt:90:41
 end-tree-requires-2 : tie.Need-end-tree-requires-2
 end-tree-requires-2 c κs = omega (arith, receiver-new-row (c .before .before .before .pre .0))
 
--- src/range.rt:90:9
 smaller-requires : tie.Need-smaller-requires
 smaller-requires c κs = search needs
 
--- src/range.rt:91:8
 add-if1 : tie.Need-add-if1
 add-if1 c =
     let pre = c .before .before .before .before .before .pre in
     omega (arith, pair-small (pre .0), upper-row (pre .0) (pre .1), ranks-known _ (pre .0 .tables .oldRanks))
 
--- src/range.rt:91:20
 add-if1-2 : tie.Need-add-if1-2
 add-if1-2 c = omega (arith, pair-small (c .before .before .before .before .before .pre .0))
 
--- src/range.rt:92:24
 first-tree-requires : tie.Need-first-tree-requires
 first-tree-requires c κs = upper-row (c .before .before .before .before .before .before .pre .0) (c .before .before .before .before .before .before .pre .1)
 
--- src/range.rt:92:9
 smaller-requires-2 : tie.Need-smaller-requires-2
 smaller-requires-2 c κs = search needs
 
--- src/range.rt:92:9
 returns : tie.Need-returns
 unfolding sentHigh
 returns c =
@@ -49,7 +41,6 @@ returns c =
     let if1 = c .before .before .if1 in
     simp (c .smaller2 .ensures, first-tree .ensures, smaller .ensures, end-tree .ensures, end-tree2 .ensures, ← pre .1, lt-ltb _ _ (if1 .taken))
 
--- src/range.rt:86:1
 returns-2 : tie.Need-returns-2
 unfolding sentHigh
 returns-2 c =

@@ -6,42 +6,33 @@ use borrow.Author.Needs.{needs}
 use Rattle.pattern.proofs.range.sent_low.Statement.{statement}
 use Rattle.pattern.proofs.range.sent_low.Tie as tie
 
--- src/range.rt:78:24
 first-tree-requires : tie.Need-first-tree-requires
 first-tree-requires c κs = omega (arith, sender-row (c .before .before .pre .0))
 
--- src/range.rt:78:44
 first-tree-requires-2 : tie.Need-first-tree-requires-2
 first-tree-requires-2 c κs = omega (arith, receiver-new-row (c .before .before .before .pre .0))
 
--- src/range.rt:78:9
 larger-requires : tie.Need-larger-requires
 larger-requires c κs = search needs
 
--- src/range.rt:79:8
 add-if1 : tie.Need-add-if1
 add-if1 c = omega (arith, pair-small (c .before .before .before .before .before .pre .0))
 
--- src/range.rt:79:17
 add-if1-2 : tie.Need-add-if1-2
 add-if1-2 c =
     let pre = c .before .before .before .before .before .pre in
     let args = c .before .before .before .before .before .args in
     omega (arith, pair-small (pre .0), pre .1, lower-le (args .old .now) (args .p))
 
--- src/range.rt:80:33
 entry-requires : tie.Need-entry-requires
 entry-requires c κs = omega (arith, sender-row (c .before .before .before .before .before .before .pre .0))
 
--- src/range.rt:80:23
 magnitude-requires : tie.Need-magnitude-requires
 magnitude-requires c κs = search needs
 
--- src/range.rt:80:9
 larger-requires-2 : tie.Need-larger-requires-2
 larger-requires-2 c κs = search needs
 
--- src/range.rt:80:9
 returns : tie.Need-returns
 unfolding sentLow
 returns c =
@@ -54,7 +45,6 @@ returns c =
     let if1 = c .before .before .before .if1 in
     simp (c .larger2 .ensures, magnitude .ensures, entry .ensures, larger .ensures, first-tree .ensures, first-tree2 .ensures, ← pre .1, le-leb _ _ (if1 .taken))
 
--- src/range.rt:74:1
 returns-2 : tie.Need-returns-2
 unfolding sentLow
 returns-2 c =

@@ -12,23 +12,18 @@ Inv-loop t p end n₀ n = Looking t p n
 abbrev μ-loop : tie.MeasureT-loop
 μ-loop t p end n₀ n = end - n
 
--- src/range.rt:62:9
 ranks-requires : tie.Need-ranks-requires Inv-loop μ-loop
 ranks-requires c κs = c .before .pre .0
 
--- src/range.rt:63:17
 add-n : tie.Need-add-n Inv-loop μ-loop
 add-n c = search needs
 
--- src/range.rt:64:5
 loop-holds : tie.Need-loop-holds Inv-loop μ-loop
 loop-holds c = look-start _ _ (c .before .before .pre .1)
 
--- src/range.rt:65:12
 has-trees-requires : tie.Need-has-trees-requires Inv-loop μ-loop
 has-trees-requires c κs = omega (arith, c .before .before .ranks .ensures .1 .2)
 
--- src/range.rt:66:13
 returns : tie.Need-returns Inv-loop μ-loop
 returns c =
     let ranks = c .before .before .before .before .ranks in
@@ -37,15 +32,12 @@ returns c =
     let has-trees = c .before .has-trees in
     (look-found _ _ _ _ (ranks .ensures .0) (loop .inv) (loop-test .taken) (sym (has-trees .ensures) ∙ c .if1 .taken), omega arith)
 
--- src/range.rt:68:9
 add-n-2 : tie.Need-add-n-2 Inv-loop μ-loop
 add-n-2 c = search needs
 
--- src/range.rt:64:5
 loop-less : tie.Need-loop-less Inv-loop μ-loop
 loop-less c = search needs
 
--- src/range.rt:64:5
 loop-again : tie.Need-loop-again Inv-loop μ-loop
 loop-again c =
     let ranks = c .before .before .before .before .ranks in
@@ -54,7 +46,6 @@ loop-again c =
     let has-trees = c .before .has-trees in
     look-more _ _ _ _ (ranks .ensures .0) (loop .inv) (loop-test .taken) (sym (has-trees .ensures) ∙ c .if1 .left)
 
--- src/range.rt:58:1
 returns-2 : tie.Need-returns-2 Inv-loop μ-loop
 returns-2 c = (look-none _ _ _ _ (c .before .before .ranks .ensures .0) (c .before .loop .inv) (c .loop-test .left), c .before .before .ranks .ensures .1 .1)
 

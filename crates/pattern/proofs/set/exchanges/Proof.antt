@@ -5,20 +5,16 @@ use borrow.Author.Needs.{needs}
 use Rattle.pattern.proofs.set.exchanges.Statement.{statement}
 use Rattle.pattern.proofs.set.exchanges.Tie as tie
 
--- src/set.rt:23:9
 sends-near-requires : tie.Need-sends-near-requires
 sends-near-requires c κs = search needs
 
--- src/set.rt:23:9
 returns : tie.Need-returns
 unfolding exchangesTree
 returns c = rw (c .before .if1 .taken) (c .sends-near .ensures)
 
--- src/set.rt:25:5
 sends-some-requires : tie.Need-sends-some-requires
 sends-some-requires c κs = search needs
 
--- src/set.rt:18:1
 returns-2 : tie.Need-returns-2
 unfolding exchangesTree
 returns-2 c =

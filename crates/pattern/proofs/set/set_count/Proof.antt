@@ -15,24 +15,19 @@ Inv-loop old new rank sending end lower upper count₀ other₀ count other = (o
 abbrev μ-loop : tie.MeasureT-loop
 μ-loop old new rank sending end lower upper count₀ other₀ count other = end - other
 
--- src/set.rt:33:9
 ranks-requires : tie.Need-ranks-requires Inv-loop μ-loop
 ranks-requires c κs = c .before .before .pre .tables .oldRanks
 
--- src/set.rt:34:9
 lower-rank-requires : tie.Need-lower-rank-requires Inv-loop μ-loop
 lower-rank-requires c κs = (c .before .before .before .pre .tables .oldRanks, c .before .before .before .pre .rankBelow)
 
--- src/set.rt:35:9
 upper-rank-requires : tie.Need-upper-rank-requires Inv-loop μ-loop
 upper-rank-requires c κs = (c .before .before .before .before .pre .tables .oldRanks, c .before .before .before .before .pre .rankBelow)
 
--- src/set.rt:38:5
 loop-holds : tie.Need-loop-holds Inv-loop μ-loop
 unfolding countBelow
 loop-holds c = search needs
 
--- src/set.rt:39:13
 exchanges-requires : tie.Need-exchanges-requires Inv-loop μ-loop
 exchanges-requires c κs =
     let pre = c .before .before .before .before .before .before .before .pre in
@@ -41,34 +36,27 @@ exchanges-requires c κs =
     let upper-rank = c .before .before .upper-rank in
     pair-near _ _ pre (ranks .ensures .0) (c .loop-test .taken) (lower-rank .ensures .0) (upper-rank .ensures .0)
 
--- src/set.rt:40:9
 add-other : tie.Need-add-other Inv-loop μ-loop
 add-other c = search needs
 
--- src/set.rt:42:13
 add-count : tie.Need-add-count Inv-loop μ-loop
 add-count c =
     let loop = c .before .before .before .loop in
     let args = c .before .before .before .before .before .before .before .before .before .args in
     omega (arith, count-le (loop .other) (exchangesTree (args .old .now) (args .new .now) (args .rank) (args .sending)))
 
--- src/set.rt:38:5
 loop-less : tie.Need-loop-less Inv-loop μ-loop
 loop-less c = search needs
 
--- src/set.rt:38:5
 loop-again : tie.Need-loop-again Inv-loop μ-loop
 loop-again c = (omega arith, count-one _ _ _ (c .before .before .before .loop .inv .1) (sym (c .before .exchanges .ensures) ∙ c .if1 .taken))
 
--- src/set.rt:38:5
 loop-less-2 : tie.Need-loop-less-2 Inv-loop μ-loop
 loop-less-2 c = search needs
 
--- src/set.rt:38:5
 loop-again-2 : tie.Need-loop-again-2 Inv-loop μ-loop
 loop-again-2 c = (omega arith, count-skip _ _ _ (c .before .before .before .loop .inv .1) (sym (c .before .exchanges .ensures) ∙ c .if1 .left))
 
--- src/set.rt:29:1
 returns : tie.Need-returns Inv-loop μ-loop
 returns c =
     let ranks = c .before .before .before .before .ranks in

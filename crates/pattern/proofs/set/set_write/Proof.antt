@@ -13,23 +13,18 @@ Inv-loop old new rank sending out₀ end lower upper count₀ other₀ out count
 abbrev μ-loop : tie.MeasureT-loop
 μ-loop old new rank sending out₀ end lower upper count₀ other₀ out count other = end - other
 
--- src/set.rt:53:9
 ranks-requires : tie.Need-ranks-requires Inv-loop μ-loop
 ranks-requires c κs = c .before .before .before .pre .rank .tables .oldRanks
 
--- src/set.rt:54:9
 lower-rank-requires : tie.Need-lower-rank-requires Inv-loop μ-loop
 lower-rank-requires c κs = (c .before .before .before .before .pre .rank .tables .oldRanks, c .before .before .before .before .pre .rank .rankBelow)
 
--- src/set.rt:55:9
 upper-rank-requires : tie.Need-upper-rank-requires Inv-loop μ-loop
 upper-rank-requires c κs = (c .before .before .before .before .before .pre .rank .tables .oldRanks, c .before .before .before .before .before .pre .rank .rankBelow)
 
--- src/set.rt:58:5
 loop-holds : tie.Need-loop-holds Inv-loop μ-loop
 loop-holds c = write-start _ _ _ (set-room (c .before .before .before .before .before .before .pre) (c .before .before .ranks .ensures .0))
 
--- src/set.rt:59:13
 exchanges-requires : tie.Need-exchanges-requires Inv-loop μ-loop
 exchanges-requires c κs =
     let pre = c .before .before .before .before .before .before .before .before .pre in
@@ -38,15 +33,12 @@ exchanges-requires c κs =
     let upper-rank = c .before .before .upper-rank in
     pair-near _ _ (pre .rank) (ranks .ensures .0) (c .loop-test .taken) (lower-rank .ensures .0) (upper-rank .ensures .0)
 
--- src/set.rt:60:22
 cast-number : tie.Need-cast-number Inv-loop μ-loop
 cast-number c = search needs
 
--- src/set.rt:61:9
 add-other : tie.Need-add-other Inv-loop μ-loop
 add-other c = search needs
 
--- src/set.rt:63:13
 mul-out : tie.Need-mul-out Inv-loop μ-loop
 mul-out c =
     let pre = c .before .before .before .before .before .before .before .before .before .before .pre in
@@ -54,7 +46,6 @@ mul-out c =
     let loop = c .before .before .before .loop in
     omega (arith, write-count _ _ _ (set-room pre (ranks .ensures .0)) _ _ _ (loop .inv))
 
--- src/set.rt:63:13
 slice-write-out : tie.Need-slice-write-out Inv-loop μ-loop
 slice-write-out c =
     let pre = c .before .before .before .before .before .before .before .before .before .before .pre in
@@ -64,7 +55,6 @@ slice-write-out c =
     let exchanges = c .before .exchanges in
     write-index _ _ _ (set-room pre (ranks .ensures .0)) _ _ _ (loop .inv) (loop-test .taken) (sym (exchanges .ensures) ∙ c .if1 .taken)
 
--- src/set.rt:64:13
 add-count : tie.Need-add-count Inv-loop μ-loop
 add-count c =
     let pre = c .before .before .before .before .before .before .before .before .before .before .pre in
@@ -72,11 +62,9 @@ add-count c =
     let loop = c .before .before .before .loop in
     omega (arith, write-count _ _ _ (set-room pre (ranks .ensures .0)) _ _ _ (loop .inv))
 
--- src/set.rt:58:5
 loop-less : tie.Need-loop-less Inv-loop μ-loop
 loop-less c = search needs
 
--- src/set.rt:58:5
 loop-again : tie.Need-loop-again Inv-loop μ-loop
 loop-again c =
     let pre = c .before .before .before .before .before .before .before .before .before .before .pre in
@@ -86,11 +74,9 @@ loop-again c =
     let exchanges = c .before .exchanges in
     write-more _ _ _ (set-room pre (ranks .ensures .0)) _ _ _ (loop .inv) (loop-test .taken) (sym (exchanges .ensures) ∙ c .if1 .taken)
 
--- src/set.rt:58:5
 loop-less-2 : tie.Need-loop-less-2 Inv-loop μ-loop
 loop-less-2 c = search needs
 
--- src/set.rt:58:5
 loop-again-2 : tie.Need-loop-again-2 Inv-loop μ-loop
 loop-again-2 c =
     let pre = c .before .before .before .before .before .before .before .before .before .before .pre in
@@ -100,7 +86,6 @@ loop-again-2 c =
     let exchanges = c .before .exchanges in
     write-skip _ _ _ (set-room pre (ranks .ensures .0)) _ _ _ (loop .inv) (loop-test .taken) (sym (exchanges .ensures) ∙ c .if1 .left)
 
--- src/set.rt:49:1
 same-length : tie.Need-same-length Inv-loop μ-loop
 same-length c =
     let pre = c .before .before .before .before .before .before .before .before .pre in
@@ -108,7 +93,6 @@ same-length c =
     let loop = c .before .loop in
     write-length _ _ _ (set-room pre (ranks .ensures .0)) _ _ _ (loop .inv)
 
--- src/set.rt:49:1
 returns : tie.Need-returns Inv-loop μ-loop
 returns c =
     let ranks = c .before .before .before .before .ranks in

@@ -16,7 +16,7 @@ use Rattle.records.proofs.Shapes.{shapes, count-six, corners-none}
 use Rattle.records.proofs.Forms.{form-shape, face-six, count-faces-of}
 use Rattle.mesh.specs.Link.{orientationOk, sameCorners, answered, linkOk}
 use Rattle.mesh.specs.Mesh.{faceSound, treeSound}
-use Rattle.mesh.specs.Means.{cornersFit, cornersByDimension, answeredByDimension, linkBetween, linkByDimension, faceByDimension, treeByDimension}
+use Rattle.mesh.specs.Means.{cornersFit, cornersByDimension, answeredThere, answeredByDimension, linkBetween, linkByDimension, faceByDimension, treeByDimension}
 
 -- ---- corners
 
@@ -29,9 +29,15 @@ hexahedra-fit : (o f g : ℕ) → f < 6 → g < 6 → ltb o 4 ≡ cornersFit o 2
 unfolding cornersFit
 hexahedra-fit o f g hf hg = rw (hexahedron-four f hf, hexahedron-four g hg) (sym (and-true (ltb o 4)))
 
-pub both-hexahedra : (o s f other g : ℕ) → (eqb s 2 && eqb other 2) ≡ true → (f < 6) × (g < 6) → ltb o 4 ≡ cornersFit o s f other g
-both-hexahedra o s f other g e h =
-    rw (eqb-true s 2 (and-fst (eqb s 2) (eqb other 2) e), eqb-true other 2 (and-snd (eqb s 2) (eqb other 2) e)) (hexahedra-fit o f g (h .0) (h .1))
+-- two trees of one shape
+one-shape : (n o s f other g : ℕ) → (eqb s other && eqb s n) ≡ true → cornersFit o n f n g ≡ cornersFit o s f other g
+one-shape n o s f other g e =
+    let same : s ≡ other = eqb-true s other (and-fst (eqb s other) (eqb s n) e) in
+    let is : s ≡ n = eqb-true s n (and-snd (eqb s other) (eqb s n) e) in
+    rw (sym same, is)
+
+pub both-hexahedra : (o s f other g : ℕ) → (eqb s other && eqb s 2) ≡ true → (f < 6) × (g < 6) → ltb o 4 ≡ cornersFit o s f other g
+both-hexahedra o s f other g e h = hexahedra-fit o f g (h .0) (h .1) ∙ one-shape 2 o s f other g e
 
 -- every face of a tetrahedron has 3, and it has four
 tetrahedron-three : (f : ℕ) → corners 3 f ≡ cond (ltb f 4) 3 0
@@ -41,7 +47,7 @@ tetrahedron-three f = refl
 none-below : (o : ℕ) → ltb o 0 ≡ false
 none-below o = le-ltb o 0 (omega arith)
 
-and-false : (b : Bool) → (b && false) ≡ false
+pub and-false : (b : Bool) → (b && false) ≡ false
 and-false true = refl
 and-false false = refl
 
@@ -54,9 +60,8 @@ tetrahedra-fit : (o f g : ℕ) → (ltb o 3 && (ltb f 4 && ltb g 4)) ≡ corners
 unfolding cornersFit
 tetrahedra-fit o f g = rw (tetrahedron-three f, tetrahedron-three g) (two-tests o (ltb f 4) (ltb g 4))
 
-pub both-tetrahedra : (o s f other g : ℕ) → (eqb s 3 && eqb other 3) ≡ true → (ltb o 3 && (ltb f 4 && ltb g 4)) ≡ cornersFit o s f other g
-both-tetrahedra o s f other g e =
-    rw (eqb-true s 3 (and-fst (eqb s 3) (eqb other 3) e), eqb-true other 3 (and-snd (eqb s 3) (eqb other 3) e)) (tetrahedra-fit o f g)
+pub both-tetrahedra : (o s f other g : ℕ) → (eqb s other && eqb s 3) ≡ true → (ltb o 3 && (ltb f 4 && ltb g 4)) ≡ cornersFit o s f other g
+both-tetrahedra o s f other g e = tetrahedra-fit o f g ∙ one-shape 3 o s f other g e
 
 -- ---- codes
 
@@ -91,7 +96,7 @@ module _ (r s : List ℕ) (f : ℕ) (face : f < faceCount (shapeOf r)) where
   corners-by-dimension = refl
 
   answered-by-dimension : (k : ℕ) → dimensionOf (shapeOf s) ≡ dimensionOf (shapeOf r) → answeredByDimension (dimensionOf (shapeOf r)) k r f s ≡ answered k r f s
-  unfolding answeredByDimension answered orientationOf faceOf facesOf
+  unfolding answeredByDimension answeredThere answered orientationOf faceOf facesOf
   answered-by-dimension k e =
       let b : ℕ = codeOf s (faceOf r f) in
       let below : f < facesOf r = omega (arith, count-faces-of r) in

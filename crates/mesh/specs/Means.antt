@@ -16,10 +16,12 @@ cornersFit orientation s f other there = ltb orientation (corners s f) && eqb (c
 unfoldable pub cornersByDimension : ℕ → List ℕ → ℕ → List ℕ → Bool
 cornersByDimension d r f s = cornersFit (codeOf r f / facesIn d) (shapeOf r) f (shapeOf s) (codeOf r f % facesIn d)
 
--- the neighbour's link leads back, its code the own one with f for the neighbour's face
+-- the link of the neighbour s on its face g leads back to k, its code is the own one, c, with f for g
+unfoldable pub answeredThere : ℕ → ℕ → ℕ → List ℕ → ℕ → Bool
+answeredThere k c f s g = eqb (neighbourOf s g) k && eqb (codeOf s g + g) (c + f)
+
 unfoldable pub answeredByDimension : ℕ → ℕ → List ℕ → ℕ → List ℕ → Bool
-answeredByDimension d k r f s =
-    eqb (neighbourOf s (codeOf r f % facesIn d)) k && eqb (codeOf s (codeOf r f % facesIn d) + codeOf r f % facesIn d) (codeOf r f + f)
+answeredByDimension d k r f s = answeredThere k (codeOf r f) f s (codeOf r f % facesIn d)
 
 -- the rule of a link between two records; the neighbour's link leads back to this number, as it stands there
 unfoldable pub linkBetween : ℕ → List ℕ → ℕ → List ℕ → Bool

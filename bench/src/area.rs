@@ -1,9 +1,11 @@
-//! Delivering a message, closing an area, and a whole repartition. The fast version trusts: it makes no check.
+//! Opening an area, delivering a message, closing, and a whole repartition. The versions here trust and make no check;
+//! checking.rs has those that do.
 use crate::fast::{number, FACES};
 use crate::library::Length;
+use crate::checking::{close_checked, deliver_checked, open_checked, words};
 use crate::message::{build_message, library_build, moved};
 use crate::part::{cut_part, put, quarters, range, Set, GHOST, HEADER, TREE};
-use crate::{brick, now, tangle};
+use crate::{bricks, floor, floor_row, now, repeats, tangle, Read};
 use std::hint::black_box;
 
 extern "C" {
@@ -22,46 +24,46 @@ extern "C" {
     fn vejgodat_close_area(area: *const u8, area_len: usize, out: *mut u8, out_len: usize) -> Length;
 }
 
-fn library_open([old, new]: [&[u8]; 2], rank: u32, out: &mut [u8]) -> Length {
+pub fn library_open([old, new]: [&[u8]; 2], rank: u32, out: &mut [u8]) -> Length {
     let (a, b) = ((old.as_ptr(), old.len()), (new.as_ptr(), new.len()));
     unsafe { vejgodat_open_area(a.0, a.1, b.0, b.1, rank, 3, 1, out.as_mut_ptr(), out.len()) }
 }
 
-fn library_deliver(area: &mut [u8], message: &[u8]) -> u32 {
+pub fn library_deliver(area: &mut [u8], message: &[u8]) -> u32 {
     unsafe { vejgodat_deliver(area.as_mut_ptr(), area.len(), message.as_ptr(), message.len()) }
 }
 
-fn library_close(area: &[u8], out: &mut [u8]) -> Length {
+pub fn library_close(area: &[u8], out: &mut [u8]) -> Length {
     unsafe { vejgodat_close_area(area.as_ptr(), area.len(), out.as_mut_ptr(), out.len()) }
 }
 
 /// The fresh area for epoch 1 and dimension 3.
-fn open([old, new]: [&[u8]; 2], rank: u32, out: &mut [u8]) -> usize {
+pub fn open([old, new]: [&[u8]; 2], rank: u32, out: &mut [u8]) -> usize {
     let (first, end) = range(new, rank);
     let count = end - first;
     let trees = number(new, new.len() - 8);
-    let words = [1, 3, trees, old.len() as u32 / 8 - 1, rank, count, 0, 0];
-    for (at, word) in words.into_iter().enumerate() {
+    let header = [1, 3, trees, old.len() as u32 / 8 - 1, rank, count, 0, 0];
+    for (at, word) in header.into_iter().enumerate() {
         put(out, 4 * at, word);
     }
     let words_at = HEADER + 2 * old.len();
     out[HEADER..HEADER + old.len()].copy_from_slice(old);
     out[HEADER + old.len()..words_at].copy_from_slice(new);
-    let length = words_at + 128 + (TREE + 6 * GHOST) * count as usize;
+    let length = words_at + 8 * words(old.len() / 8 - 1) + (TREE + 6 * GHOST) * count as usize;
     out[words_at..length].fill(0);
     length
 }
 
 /// The new table, and where heard words, tree slots and ghost slots begin.
-fn places(area: &[u8]) -> (&[u8], usize, usize, usize) {
+pub fn places(area: &[u8]) -> (&[u8], usize, usize, usize) {
     let table = 8 * (number(area, 12) as usize + 1);
     let words_at = HEADER + 2 * table;
-    let trees_at = words_at + 128;
+    let trees_at = words_at + 8 * words(table / 8 - 1);
     (&area[HEADER + table..words_at], words_at, trees_at, trees_at + TREE * number(area, 20) as usize)
 }
 
 /// Any message of the area that wasn't delivered yet.
-fn deliver(area: &mut [u8], message: &[u8]) {
+pub fn deliver(area: &mut [u8], message: &[u8]) {
     let (new, words_at, trees_at, ghosts_at) = places(area);
     let (first, _) = range(new, number(area, 16));
     let (trees, ghosts) = (number(message, 24) as usize, number(message, 28) as usize);
@@ -88,7 +90,7 @@ fn deliver(area: &mut [u8], message: &[u8]) {
 }
 
 /// The part of an area with all its messages.
-fn close(area: &[u8], out: &mut [u8]) -> usize {
+pub fn close(area: &[u8], out: &mut [u8]) -> usize {
     let (new, _, trees_at, ghosts_at) = places(area);
     let rank = number(area, 16);
     let (first, end) = range(new, rank);
@@ -118,9 +120,13 @@ fn close(area: &[u8], out: &mut [u8]) -> usize {
 }
 
 /// The shortest time of each version in nanoseconds; what it needs is made before, untimed.
-fn times<T>(repeats: usize, mut prepare: impl FnMut() -> T, mut versions: [&mut dyn FnMut(&mut T); 3]) -> [f64; 3] {
-    let mut best = [f64::INFINITY; 3];
-    for _ in 0..repeats {
+pub fn times<T, const N: usize>(
+    wanted: usize,
+    mut prepare: impl FnMut() -> T,
+    mut versions: [&mut dyn FnMut(&mut T); N],
+) -> [f64; N] {
+    let mut best = [f64::INFINITY; N];
+    for _ in 0..repeats(wanted) {
         for (version, best) in versions.iter_mut().zip(&mut best) {
             let mut given = prepare();
             let began = now();
@@ -131,93 +137,96 @@ fn times<T>(repeats: usize, mut prepare: impl FnMut() -> T, mut versions: [&mut 
     best
 }
 
-fn row(name: &str, trees: usize, [library, trusting, copy]: [f64; 3]) {
-    let [per_second, each] = [trees as f64 / library * 1e3, library / trees as f64];
-    let [to_trusting, to_copy] = [library / trusting, library / copy];
-    println!("| {name} | {:.2} | {each:.3} | {per_second:.2} | {to_trusting:.2} | {to_copy:.2} |", library / 1_000.0);
+/// What the checks of an area name: its tables and words, the cores of its tree slots, its ghost slots.
+pub fn area_reads(area: &[u8]) -> [Read<'_>; 3] {
+    let (_, _, trees_at, ghosts_at) = places(area);
+    [Read::All(&area[..trees_at]), Read::Cores(&area[trees_at..ghosts_at]), Read::All(&area[ghosts_at..])]
 }
 
-/// Rank 2 of four: it keeps 57 % of its trees and gets as many new ones from rank 1, which sends the rest to itself.
-fn area_rows(name: &str, power: u32, mesh: &[u8]) {
-    let (old, new) = (quarters(1 << power), moved(1 << power));
-    let (tables, rank) = ([&old[..], &new[..]], 2);
-    let mut parts = Vec::new();
-    for p in [1, 2] {
-        let mut part = vec![0; 2 * mesh.len()];
-        let length = cut_part::<false>(mesh, &old, p, &mut part).unwrap();
-        part.truncate(length);
-        parts.push(part);
-    }
+/// The rows of one rank that gets trees from the rank before: `what` says which. The parts are those of that rank and its own.
+pub fn rank_rows(what: &str, tables: [&[u8]; 2], rank: u32, parts: [&[u8]; 2], expected: &[u8], wanted: usize) {
+    let (lower, [old, new]) = (rank - 1, tables);
     let mut messages = Vec::new();
-    for p in [1, 2] {
-        let part = &parts[p as usize - 1];
+    for (p, part) in [lower, rank].into_iter().zip(parts) {
         let mut message = vec![0; 2 * part.len()];
         let length = build_message::<false>(part, tables, [p, rank], 1, &mut message).unwrap();
         message.truncate(length);
         messages.push(message);
     }
-    let mut fresh = vec![0; 8 * mesh.len()];
-    let length = library_open(tables, rank, &mut fresh).length as usize;
-    let mut other = fresh.clone();
-    assert_eq!(open(tables, rank, &mut other), length);
-    assert!(fresh == other, "the same area");
-    fresh.truncate(length);
+    let count = number(expected, 20) as usize;
+    let size = HEADER + 2 * old.len() + 8 * words(old.len() / 8 - 1) + (TREE + 6 * GHOST) * count;
+    let mut fresh = vec![0; size];
+    assert_eq!(library_open(tables, rank, &mut fresh).length as usize, size);
+    let [mut a, mut b, mut c, mut d] = [(); 4].map(|()| vec![1; size]);
+    assert_eq!(open(tables, rank, &mut a), size);
+    assert_eq!(open_checked(tables, rank, 3, &mut b), Ok(size));
+    assert!(fresh == a && fresh == b, "the same area");
+    let all = times(
+        wanted,
+        || (),
+        [
+            &mut |()| _ = black_box(library_open(black_box(tables), rank, &mut a)),
+            &mut |()| _ = black_box(open(black_box(tables), rank, &mut b)),
+            &mut |()| _ = black_box(open_checked(black_box(tables), rank, 3, &mut c)),
+            &mut |()| floor(&[Read::All(black_box(old)), Read::All(black_box(new))], &mut d),
+        ],
+    );
+    floor_row(&format!("open an area for {what}"), Some(count), all);
 
-    let repeats = ((1 << 24) >> power).max(8);
-    let trees = number(&messages[0], 24) as usize;
-    let (mut a, mut b) = (fresh.clone(), fresh.clone());
+    let (mut a, mut b, mut c) = (fresh.clone(), fresh.clone(), fresh.clone());
     for message in &messages {
-        assert_eq!(library_deliver(&mut a, message), 0);
+        assert_eq!((library_deliver(&mut a, message), deliver_checked(&mut c, message)), (0, 0));
         deliver(&mut b, message);
-        assert!(a == b, "the same area");
+        assert!(a == b && a == c, "the same area");
     }
+    assert_eq!((library_deliver(&mut a, &messages[0]), deliver_checked(&mut c, &messages[0])), (15, 15));
     let full = a;
     // the second message, so that ghosts are merged
     let mut half = fresh.clone();
     deliver(&mut half, &messages[1]);
     let message = &messages[0][..];
+    let trees = number(message, 24) as usize;
+    let (own, others) = message[HEADER..].split_at(TREE * trees);
     let mut plain = vec![0; message.len()];
     let all = times(
-        repeats,
+        wanted,
         || half.clone(),
         [
             &mut |area: &mut Vec<u8>| _ = black_box(library_deliver(area, black_box(message))),
             &mut |area: &mut Vec<u8>| deliver(black_box(area), black_box(message)),
-            &mut |_| black_box(&mut plain).copy_from_slice(black_box(message)),
+            &mut |area: &mut Vec<u8>| _ = black_box(deliver_checked(area, black_box(message))),
+            &mut |area: &mut Vec<u8>| {
+                floor(&area_reads(black_box(area)), &mut []);
+                floor(&[Read::Cores(black_box(own)), Read::All(black_box(others))], &mut plain);
+            },
         ],
     );
-    row(&format!("deliver {trees} of 2^{power} {name}, {} ghosts", number(message, 28)), trees, all);
+    floor_row(&format!("deliver {trees} for {what}, {} ghosts", number(message, 28)), Some(trees), all);
 
-    let trees = number(&full, 20) as usize;
-    let mut a = vec![0; 2 * full.len()];
-    let mut b = a.clone();
+    let [mut a, mut b, mut c] = [(); 3].map(|()| vec![0; expected.len()]);
     let got = library_close(&full, &mut a);
     assert_eq!((got.refusal, got.length as usize), (0, close(&full, &mut b)));
-    assert!(a == b, "the same part");
-    let mut expected = vec![0; 2 * full.len()];
-    assert_eq!(cut_part::<false>(mesh, &new, rank, &mut expected), Ok(got.length as usize));
-    assert!(a == expected, "the part of the mesh");
-    let length = got.length as usize;
+    assert_eq!(close_checked(&full, &mut c), Ok(expected.len()));
+    assert!(a == b && a == c && a == expected, "the part of the mesh");
     let full = &full[..];
-    let mut plain = vec![0; length];
+    let mut plain = expected.to_vec();
     let all = times(
-        repeats,
+        wanted,
         || (),
         [
             &mut |()| _ = black_box(library_close(black_box(full), &mut a)),
             &mut |()| _ = black_box(close(black_box(full), &mut b)),
-            &mut |()| black_box(&mut plain).copy_from_slice(black_box(&expected[..length])),
+            &mut |()| _ = black_box(close_checked(black_box(full), &mut c)),
+            &mut |()| floor(&area_reads(black_box(full)), &mut plain),
         ],
     );
-    row(&format!("close {trees} of 2^{power} {name}, {} ghosts", number(&expected, 24)), trees, all);
+    floor_row(&format!("close {what}, {} ghosts", number(expected, 24)), Some(count), all);
 
-    // what one process does: two messages built, the area opened, two delivered, closed
-    let part = &parts[1][..];
-    let ends = [[2, 2], [2, 3]];
-    let mut area = fresh.clone();
-    let mut message = vec![0; 2 * part.len()];
-    let mut other_area = fresh.clone();
-    let mut other_message = message.clone();
+    // what one process does: its messages built, the area opened, two delivered, closed
+    let part = parts[1];
+    let ends = [[rank, rank], [rank, rank + 1]];
+    let (mut area, mut other_area) = (fresh.clone(), fresh);
+    let (mut message, mut other_message) = (vec![0; 2 * part.len()], vec![0; 2 * part.len()]);
     let mut whole = || {
         for ends in ends {
             assert_eq!(library_build(part, tables, ends, &mut message).refusal, 0);
@@ -226,7 +235,7 @@ fn area_rows(name: &str, power: u32, mesh: &[u8]) {
         for message in &messages {
             assert_eq!(library_deliver(&mut area, message), 0);
         }
-        assert_eq!(library_close(&area, &mut a).length as usize, length);
+        assert_eq!(library_close(&area, &mut a).length as usize, expected.len());
     };
     let mut trusting = || {
         for ends in ends {
@@ -236,27 +245,44 @@ fn area_rows(name: &str, power: u32, mesh: &[u8]) {
         for message in &messages {
             deliver(&mut other_area, message);
         }
-        assert_eq!(close(&other_area, &mut b), length);
+        assert_eq!(close(&other_area, &mut b), expected.len());
     };
-    let all = times(
-        repeats,
-        || (),
-        [&mut |()| whole(), &mut |()| trusting(), &mut |()| {
-            black_box(&mut plain).copy_from_slice(black_box(&expected[..length]))
-        }],
-    );
-    assert!(a == b && a == expected, "the same part");
-    row(&format!("whole repartition, 43 % to the next, {trees} of 2^{power} {name}"), trees, all);
+    let (mut third_area, mut third_message) = (vec![0; size], vec![0; 2 * part.len()]);
+    let mut checking = || {
+        for ends in ends {
+            build_message::<true>(part, tables, ends, 1, &mut third_message).unwrap();
+        }
+        open_checked(tables, rank, 3, &mut third_area).unwrap();
+        for message in &messages {
+            assert_eq!(deliver_checked(&mut third_area, message), 0);
+        }
+        assert_eq!(close_checked(&third_area, &mut c), Ok(expected.len()));
+    };
+    let all = times(wanted, || (), [&mut |()| whole(), &mut |()| trusting(), &mut |()| checking()]);
+    assert!(a == b && a == c && a == expected, "the same part");
+    crate::row(&format!("whole repartition of {what}"), Some(count), all);
+}
+
+/// Rank 2 of four: it keeps 57 % of its trees and gets as many new ones from rank 1, which sends the rest to itself.
+fn area_rows(name: &str, power: u32, mesh: &[u8]) {
+    let (old, new) = (quarters(1 << power), moved(1 << power));
+    let cut = |table: &[u8], p: u32| {
+        let mut part = vec![0; 2 * mesh.len()];
+        let length = cut_part::<false>(mesh, table, p, &mut part).unwrap();
+        part.truncate(length);
+        part
+    };
+    let (parts, expected) = ([cut(&old, 1), cut(&old, 2)], cut(&new, 2));
+    let what = format!("{} of 2^{power} {name}", number(&expected, 20));
+    let wanted = ((1 << 24) >> power).max(8);
+    rank_rows(&what, [&old, &new], 2, [&parts[0], &parts[1]], &expected, wanted);
 }
 
 pub fn rows() {
-    println!();
-    println!(
-        "| call | library, µs | ns per tree | million trees a second | ratio to trusting | ratio to a plain copy |"
-    );
-    println!("|---|---:|---:|---:|---:|---:|");
-    for powers in [[4, 5, 5], [4, 6, 6], [6, 6, 6], [6, 7, 7]] {
-        area_rows("hexahedra, a brick", powers.iter().sum(), &brick(powers));
+    for (power, mesh) in bricks() {
+        area_rows("hexahedra, a brick", power, &mesh);
     }
-    area_rows("tetrahedra, random links", 16, &tangle(16));
+    for power in [14, 16] {
+        area_rows("tetrahedra, random links", power, &tangle(power));
+    }
 }

@@ -18,10 +18,13 @@ macro_rules! groups {
     };
 }
 
+mod checking;
+
 groups! {
     part
     message
     area
+    ranks
 }
 
 const RANKS: i64 = 1_024;
@@ -37,10 +40,24 @@ fn now() -> f64 {
     time[0] as f64 * 1e9 + time[1] as f64
 }
 
+/// Whether only the smaller meshes are wanted, with fewer repeats: `bench/run --quick`.
+pub fn quick() -> bool {
+    std::env::args().any(|word| word == "--quick")
+}
+
+/// The repeats of a row, fewer where it is to be quick.
+pub fn repeats(wanted: usize) -> usize {
+    if quick() {
+        (wanted / 32).max(3)
+    } else {
+        wanted
+    }
+}
+
 /// The shortest time of one call in nanoseconds, of each version, taken in turn.
-fn times(repeats: usize, calls: usize, mut versions: [&mut dyn FnMut(); 3]) -> [f64; 3] {
-    let mut best = [f64::INFINITY; 3];
-    for _ in 0..repeats {
+fn times<const N: usize>(wanted: usize, calls: usize, mut versions: [&mut dyn FnMut(); N]) -> [f64; N] {
+    let mut best = [f64::INFINITY; N];
+    for _ in 0..repeats(wanted) {
         for (version, best) in versions.iter_mut().zip(&mut best) {
             let began = now();
             for _ in 0..calls {
@@ -52,10 +69,38 @@ fn times(repeats: usize, calls: usize, mut versions: [&mut dyn FnMut(); 3]) -> [
     best
 }
 
-fn row(name: &str, trees: Option<usize>, [library, trusting, checking]: [f64; 3]) {
+/// What is read for the floor: all bytes, or the 40 core bytes of each tree record.
+pub enum Read<'a> {
+    All(&'a [u8]),
+    Cores(&'a [u8]),
+}
+
+/// The floor: every byte that the checks name read once by wide loads, every byte of the answer written once.
+fn floor(reads: &[Read], out: &mut [u8]) {
+    let words = |bytes: &[u8]| bytes.as_chunks::<8>().0.iter().fold(0, |all, word| all ^ u64::from_le_bytes(*word));
+    let mut all = 0;
+    for read in reads {
+        all ^= match read {
+            Read::All(bytes) => words(bytes),
+            Read::Cores(bytes) => bytes.as_chunks::<64>().0.iter().fold(0, |all, record| all ^ words(&record[..40])),
+        };
+    }
+    black_box(out).fill(black_box(all) as u8 & 1);
+}
+
+fn print_row(name: &str, trees: Option<usize>, [library, trusting, checking]: [f64; 3], floor: Option<f64>) {
     let each = trees.map_or(String::new(), |trees| format!("{:.3}", library / trees as f64));
     let (to_trusting, to_checking) = (library / trusting, library / checking);
-    println!("| {name} | {:.2} | {each} | {to_trusting:.2} | {to_checking:.2} |", library / 1_000.0);
+    let to_floor = floor.map_or(String::new(), |floor| format!("{:.1}", library / floor));
+    println!("| {name} | {:.2} | {each} | {to_trusting:.2} | {to_checking:.2} | {to_floor} |", library / 1_000.0);
+}
+
+fn row(name: &str, trees: Option<usize>, all: [f64; 3]) {
+    print_row(name, trees, all, None);
+}
+
+fn floor_row(name: &str, trees: Option<usize>, [library, trusting, checking, floor]: [f64; 4]) {
+    print_row(name, trees, [library, trusting, checking], Some(floor));
 }
 
 fn bytes_of(entries: impl Iterator<Item = i64>) -> Vec<u8> {
@@ -87,9 +132,10 @@ fn table_check() {
             &mut || _ = black_box(library(black_box(table))),
             &mut || _ = black_box(fast::check_table(black_box(table))),
             &mut || _ = black_box(fast::check_table(black_box(table))),
+            &mut || floor(&[Read::All(black_box(table))], &mut []),
         ],
     );
-    row("table check, P = 1,024", None, all);
+    floor_row("table check, P = 1,024", None, all);
 }
 
 fn from_leaves(power: u32) {
@@ -105,6 +151,8 @@ fn from_leaves(power: u32) {
     assert_eq!(fast::table_from_leaves::<false>(RANKS as u32, leaves, &mut b), Ok(a.len()));
     assert_eq!(fast::table_from_leaves::<true>(RANKS as u32, leaves, &mut c), Ok(a.len()));
     assert!(a == b && a == c, "the same table");
+    let bytes: Vec<u8> = leaves.iter().flat_map(|count| count.to_le_bytes()).collect();
+    let mut d = a.clone();
     let all = times(
         (1 << 28) / trees,
         1,
@@ -112,9 +160,10 @@ fn from_leaves(power: u32) {
             &mut || _ = black_box(library(black_box(leaves), &mut a)),
             &mut || _ = black_box(fast::table_from_leaves::<false>(RANKS as u32, black_box(leaves), &mut b)),
             &mut || _ = black_box(fast::table_from_leaves::<true>(RANKS as u32, black_box(leaves), &mut c)),
+            &mut || floor(&[Read::All(black_box(&bytes))], &mut d),
         ],
     );
-    row(&format!("table from 2^{power} leaf counts, P = 1,024"), Some(trees), all);
+    floor_row(&format!("table from 2^{power} leaf counts, P = 1,024"), Some(trees), all);
 }
 
 fn send_set(name: &str, old: &[u8], new: &[u8], rank: u32) {
@@ -128,6 +177,7 @@ fn send_set(name: &str, old: &[u8], new: &[u8], rank: u32) {
     assert_eq!(fast::send_set::<false>(old, new, rank, &mut b), Ok(got.count as usize));
     assert_eq!(fast::send_set::<true>(old, new, rank, &mut c), Ok(got.count as usize));
     assert!(a == b && a == c, "the same set");
+    let mut d = vec![0; 4 * got.count as usize];
     let all = times(
         5_000,
         10,
@@ -135,9 +185,10 @@ fn send_set(name: &str, old: &[u8], new: &[u8], rank: u32) {
             &mut || _ = black_box(library(black_box(old), black_box(new), &mut a)),
             &mut || _ = black_box(fast::send_set::<false>(black_box(old), black_box(new), rank, &mut b)),
             &mut || _ = black_box(fast::send_set::<true>(black_box(old), black_box(new), rank, &mut c)),
+            &mut || floor(&[Read::All(black_box(old)), Read::All(black_box(new))], &mut d),
         ],
     );
-    row(&format!("send set of {} ranks, P = 1,024, {name}", got.count), None, all);
+    floor_row(&format!("send set of {} ranks, P = 1,024, {name}", got.count), None, all);
 }
 
 /// A mesh of trees of one shape, with the link of each face: neighbour, its face, orientation.
@@ -211,28 +262,45 @@ fn mesh_check(name: &str, power: u32, mut mesh: Vec<u8>) {
             &mut || _ = black_box(library(black_box(mesh))),
             &mut || _ = black_box(fast::check_mesh(black_box(mesh))),
             &mut || _ = black_box(fast::check_mesh(black_box(mesh))),
+            &mut || floor(&[Read::Cores(black_box(&mesh[8..]))], &mut []),
         ],
     );
     // there is one version, timed twice
-    let [library, one, again] = all;
-    row(&format!("check of a mesh of 2^{power} {name}"), Some(1 << power), [library, one.min(again), one.min(again)]);
+    let [library, one, again, least] = all;
+    let best = one.min(again);
+    floor_row(&format!("check of a mesh of 2^{power} {name}"), Some(1 << power), [library, best, best, least]);
+}
+
+/// The powers of two of the meshes' sizes.
+fn powers() -> &'static [u32] {
+    if quick() {
+        &[14, 16]
+    } else {
+        &[14, 16, 18, 20]
+    }
+}
+
+/// The bricks, each with the power of two of its size.
+fn bricks() -> impl Iterator<Item = (u32, Vec<u8>)> {
+    let all = [[4, 5, 5], [4, 6, 6], [6, 6, 6], [6, 7, 7]];
+    all.into_iter().take(powers().len()).map(|powers| (powers.iter().sum(), brick(powers)))
 }
 
 fn main() {
-    println!("| call | library, µs | ns per tree | ratio to trusting | ratio to checking |");
-    println!("|---|---:|---:|---:|---:|");
+    println!("| call | library, µs | ns per tree | ratio to trusting | ratio to checking | ratio to the floor |");
+    println!("|---|---:|---:|---:|---:|---:|");
     table_check();
-    for power in [14, 16, 18, 20] {
+    for &power in powers() {
         from_leaves(power);
     }
     // shares that move a little; all trees from one rank to all
     send_set("a middle rank", &large_table(0), &large_table(400), 512);
     let on_first = bytes_of((0..=RANKS).map(|p| if p == 0 { 0 } else { RANKS * 1_024 }));
     send_set("rank 0 had all", &on_first, &large_table(0), 0);
-    for powers in [[4, 5, 5], [4, 6, 6], [6, 6, 6], [6, 7, 7]] {
-        mesh_check("hexahedra, a brick", powers.iter().sum(), brick(powers));
+    for (power, mesh) in bricks() {
+        mesh_check("hexahedra, a brick", power, mesh);
     }
-    for power in [14, 16, 18, 20] {
+    for &power in powers() {
         mesh_check("tetrahedra, random links", power, tangle(power));
     }
     group_rows();

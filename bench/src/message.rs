@@ -1,8 +1,8 @@
 //! Building a message.
 use crate::fast::{self, check_table, number, FACES};
 use crate::library::Length;
-use crate::part::{check_part, cut_part, put, quarters, range, Set, GHOST, HEADER, TREE};
-use crate::{brick, bytes_of, row, tangle, times};
+use crate::part::{check_part, cut_part, part_reads, put, quarters, range, Set, GHOST, HEADER, TREE};
+use crate::{bricks, bytes_of, floor, floor_row, powers, tangle, times};
 use std::hint::black_box;
 
 extern "C" {
@@ -45,6 +45,30 @@ fn sent(old: &[u8], new: &[u8], p: u32, q: u32) -> (u32, u32) {
         }
     }
     (first.max(new_first), end.min(new_end))
+}
+
+/// Visit the ranks that send q a tree, ascending, each with its first tree and one past the last. Linear in the ranks.
+pub fn senders(old: &[u8], new: &[u8], q: u32, mut visit: impl FnMut(u32, u32, u32)) {
+    let (new_first, new_end) = range(new, q);
+    let (mut lower, mut here): (Option<u32>, Option<u32>) = (None, None);
+    let ranks = old.len() as u32 / 8 - 1;
+    let with_trees = (0..ranks).filter(|&p| range(old, p).0 < range(old, p).1);
+    for next in with_trees.map(Some).chain([None]) {
+        if let Some(p) = here {
+            let (mut first, mut end) = range(old, p);
+            if lower.is_some_and(|lower| 2 * q <= lower + p) {
+                first = fast::entry(old, p as usize).unsigned_abs() as u32;
+            }
+            if let Some(upper) = next.filter(|upper| upper + p < 2 * q) {
+                end = end.min(range(old, upper).0);
+            }
+            let (from, to) = (first.max(new_first), end.min(new_end));
+            if from < to {
+                visit(p, from, to);
+            }
+        }
+        (lower, here) = (here, next);
+    }
 }
 
 /// The length written, or the refusal. The trusting one takes valid tables, a sound part, a tree and a long buffer.
@@ -172,6 +196,7 @@ fn message_row(name: &str, power: u32, mesh: &[u8]) {
     assert!(a == b && a == c, "the same message");
     let trees = number(&a, 24) as usize;
     let name = format!("message of {trees} of 2^{power} {name}, {} ghosts", number(&a, 28));
+    let mut d = vec![0; got.length as usize];
     let all = times(
         (1 << 26) >> power,
         1,
@@ -179,16 +204,17 @@ fn message_row(name: &str, power: u32, mesh: &[u8]) {
             &mut || _ = black_box(library_build(black_box(part), tables, ends, &mut a)),
             &mut || _ = black_box(build_message::<false>(black_box(part), tables, ends, 1, &mut b)),
             &mut || _ = black_box(build_message::<true>(black_box(part), tables, ends, 1, &mut c)),
+            &mut || floor(&part_reads(black_box(part)), &mut d),
         ],
     );
-    row(&name, Some(trees), all);
+    floor_row(&name, Some(trees), all);
 }
 
 pub fn rows() {
-    for powers in [[4, 5, 5], [4, 6, 6], [6, 6, 6], [6, 7, 7]] {
-        message_row("hexahedra, a brick", powers.iter().sum(), &brick(powers));
+    for (power, mesh) in bricks() {
+        message_row("hexahedra, a brick", power, &mesh);
     }
-    for power in [14, 16, 18, 20] {
+    for &power in powers() {
         message_row("tetrahedra, random links", power, &tangle(power));
     }
 }

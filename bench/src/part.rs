@@ -1,7 +1,7 @@
 //! Cutting a part and checking one.
 use crate::fast::{self, check_mesh, check_table, number, CORNERS, FACES, MAX_TREES};
 use crate::library::Length;
-use crate::{brick, bytes_of, row, tangle, times};
+use crate::{bricks, bytes_of, floor, floor_row, powers, tangle, times, Read};
 use std::hint::black_box;
 
 extern "C" {
@@ -263,6 +263,7 @@ fn part_rows(name: &str, power: u32, mesh: &[u8]) {
     assert_eq!(cut_part::<false>(mesh, table, rank, &mut b), Ok(got.length as usize));
     assert_eq!(cut_part::<true>(mesh, table, rank, &mut c), Ok(got.length as usize));
     assert!(a == b && a == c, "the same part");
+    let mut d = vec![0; got.length as usize];
     let all = times(
         (1 << 24) >> power,
         1,
@@ -270,9 +271,10 @@ fn part_rows(name: &str, power: u32, mesh: &[u8]) {
             &mut || _ = black_box(library(black_box(mesh), &mut a)),
             &mut || _ = black_box(cut_part::<false>(black_box(mesh), table, rank, &mut b)),
             &mut || _ = black_box(cut_part::<true>(black_box(mesh), table, rank, &mut c)),
+            &mut || floor(&[Read::Cores(black_box(&mesh[8..]))], &mut d),
         ],
     );
-    row(&format!("cut a quarter of 2^{power} {name}"), Some(1 << power), all);
+    floor_row(&format!("cut a quarter of 2^{power} {name}"), Some(1 << power), all);
 
     let part = &mut a[..got.length as usize];
     let library =
@@ -284,25 +286,33 @@ fn part_rows(name: &str, power: u32, mesh: &[u8]) {
     assert_eq!((library(part), check_part(part, table, rank)), (8, 8));
     part[last] = 0;
     let part = &part[..];
-    let [library, one, again] = times(
+    let [library, one, again, least] = times(
         (1 << 26) >> power,
         1,
         [
             &mut || _ = black_box(library(black_box(part))),
             &mut || _ = black_box(check_part(black_box(part), table, rank)),
             &mut || _ = black_box(check_part(black_box(part), table, rank)),
+            &mut || floor(&part_reads(black_box(part)), &mut []),
         ],
     );
     // there is one version, timed twice
     let best = one.min(again);
-    row(&format!("check of that part, {} ghosts", number(part, 24)), Some(1 << (power - 2)), [library, best, best]);
+    let name = format!("check of that part, {} ghosts", number(part, 24));
+    floor_row(&name, Some(1 << (power - 2)), [library, best, best, least]);
+}
+
+/// What the checks of a part name: the cores of its trees, and its ghosts.
+pub fn part_reads(part: &[u8]) -> [Read<'_>; 2] {
+    let (own, ghosts) = part[HEADER..].split_at(TREE * number(part, 20) as usize);
+    [Read::Cores(own), Read::All(ghosts)]
 }
 
 pub fn rows() {
-    for powers in [[4, 5, 5], [4, 6, 6], [6, 6, 6], [6, 7, 7]] {
-        part_rows("hexahedra, a brick", powers.iter().sum(), &brick(powers));
+    for (power, mesh) in bricks() {
+        part_rows("hexahedra, a brick", power, &mesh);
     }
-    for power in [14, 16, 18, 20] {
+    for &power in powers() {
         part_rows("tetrahedra, random links", power, &tangle(power));
     }
 }

@@ -6,10 +6,10 @@ use mathlib.Core.Bool.{Bool, true, false, _&&_}
 use mathlib.Core.List.{List}
 use lib.Dec.{leb, ltb, eqb}
 use lib.ListN.{length, take, drop}
-use borrow.Author.Tests.{ltb-true, leb-true, eqb-true, le-leb, lt-leb, eq-eqb}
+use borrow.Author.Tests.{ltb-true, leb-true, leb-false, eqb-true, le-leb, lt-leb, eq-eqb}
 use Rattle.encoding.specs.Numbers.{u32At}
 use Rattle.encoding.specs.Pieces.{piece, Bytes}
-use Rattle.encoding.proofs.Below.{and-fst, and-snd}
+use Rattle.encoding.proofs.Below.{either, and-fst, and-snd}
 use Rattle.encoding.proofs.Pieces.{piece-length, bytes-piece}
 use Rattle.offsets.specs.Limits.{maxRanks, rankCountOk}
 use Rattle.offsets.specs.Table.{ranks, ranksOk, valid, trees, treeCount}
@@ -34,10 +34,29 @@ module _ (a : List ℕ) (off P : ℕ) (ok : rankCountOk P ≡ true) (fits : off 
 
 -- ---- how long an area is
 
+-- up to 1,024 ranks there are 16 words of heard senders
+pub few-words : (P : ℕ) → P ≤ 1024 → heardWords P ≡ 16
+unfolding heardWords
+few-words P h = rw (le-leb P 1024 h)
+
+-- above there are 256
+pub many-words : (P : ℕ) → 1024 < P → heardWords P ≡ 256
+unfolding heardWords
+many-words P h = rw (lt-leb P 1024 h)
+
 -- the words have a bit for each rank
 pub words-enough : (P : ℕ) → P ≤ maxRanks → P ≤ 64 * heardWords P
-unfolding heardWords
-words-enough P h = omega arith
+words-enough P h =
+    either (leb P 1024)
+    (λ e. let l : P ≤ 1024 = leb-true P 1024 e in omega (arith, few-words P l))
+    (λ e. let l : 1024 < P = leb-false P 1024 e in omega (arith, many-words P l))
+
+-- and there are at most 256
+pub word-below : (P w : ℕ) → w < heardWords P → w < 256
+word-below P w h =
+    either (leb P 1024)
+    (λ e. omega (arith, few-words P (leb-true P 1024 e)))
+    (λ e. omega (arith, many-words P (leb-false P 1024 e)))
 
 pub words-place-is : (P : ℕ) → wordsPlace P ≡ tablesEnd P
 unfolding wordsPlace newPlace

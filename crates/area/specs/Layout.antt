@@ -2,6 +2,7 @@
 use Prim.Native.Nat.{ℕ, zero, suc, _+_, _-_, _*_, _^_}
 use mathlib.Core.Bool.{Bool, cond}
 use mathlib.Core.List.{List, [], _++_}
+use lib.Dec.{leb}
 use lib.ListN.{replicate}
 use Rattle.encoding.specs.Below.{sumBelow}
 use Rattle.encoding.specs.Header.{eightBytes}
@@ -13,9 +14,9 @@ use Rattle.records.specs.Record.{coreSize, treeSize}
 abbrev pub areaHeader : ℕ
 areaHeader = 32
 
--- how many words of 64 bits hold the heard senders of P ranks
+-- how many words of 64 bits hold the heard senders of P ranks: 16 up to 1,024 ranks, 256 above
 unfoldable pub heardWords : ℕ → ℕ
-heardWords P = 16
+heardWords P = cond (leb P 1024) 16 256
 
 -- how many ghost slots an area of n trees with F faces has
 unfoldable pub ghostBound : ℕ → ℕ → ℕ

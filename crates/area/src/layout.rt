@@ -8,12 +8,18 @@ ghost use Rattle.records.specs.Shape.{facesIn};
 ghost use Rattle.area.specs.Layout.{areaHeader, heardWords, ghostBound, newPlace, wordsPlace, slotsPlace, ghostSlotsPlace, areaSize};
 ghost use Rattle.area.specs.Means.{tablesEnd, wordsEnd};
 
+// Up to so many ranks an area has 16 words.
+const FEW_RANKS: usize = 1024;
+
 // How many words of 64 bits hold the heard senders.
 pub fn heard_words(ranks: usize) -> usize
     requires { ⌜ ranks ≤ maxRanks ⌝ }
     ensures { λ r. ⌜ (r ≡ heardWords ranks) × (r ≤ maxRanks) ⌝ }
 {
-    16
+    if ranks <= FEW_RANKS {
+        return 16;
+    }
+    256
 }
 
 pub fn new_place(ranks: usize) -> usize

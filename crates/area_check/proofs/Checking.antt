@@ -8,9 +8,10 @@ use lib.Dec.{leb, ltb, eqb}
 use lib.ListN.{length, take, drop}
 use borrow.Author.Tests.{lt-ltb, le-ltb, le-leb, lt-leb, ne-eqb}
 use Rattle.encoding.specs.Below.{allBelow}
+use Rattle.encoding.specs.Numbers.{u64At}
 use Rattle.encoding.specs.Pieces.{piece}
 use Rattle.encoding.specs.Words.{allZero}
-use Rattle.encoding.proofs.Below.{all-same, all-fails, all-to}
+use Rattle.encoding.proofs.Below.{all-intro, all-same, all-fails, all-to}
 use Rattle.offsets.specs.Limits.{maxTrees}
 use Rattle.offsets.specs.Table.{firstTree, endTree}
 use Rattle.offsets.proofs.Tables.{trees-high}
@@ -20,13 +21,14 @@ use Rattle.pattern.proofs.Sets.{gets-sends}
 use Rattle.records.specs.Record.{coreSize, treeSize, numberOf, inForm}
 use Rattle.records.specs.Shape.{facesIn}
 use Rattle.message.specs.Layout.{afterLast}
-use Rattle.area.specs.Layout.{heardWords, ghostBound, slotsPlace, ghostSlotsPlace}
+use Rattle.area.specs.Layout.{heardWords, ghostBound, wordsPlace, slotsPlace, ghostSlotsPlace}
 use Rattle.area.specs.Area.{areaDimension, areaK, areaP, areaRank, areaCount, areaGhosts, areaOld, areaNew, areaFirst, areaHeaderSound, heard, bitSound, treeSlotSound, ghostHeldSound, areaBound, ghostSlotSound, areaSound}
 use Rattle.area.specs.Means.{HeaderHolds, Tabled, fromFirst, fromCount, fromPlace, coreAt}
-use Rattle.area_check.specs.Means.{slotHeld, rangeSound, ghostHeldAt}
+use Rattle.area_check.specs.Means.{wordSound, slotHeld, rangeSound, ghostHeldAt}
 use Rattle.area.proofs.Headers.{ghosts-place-is}
 use Rattle.area.proofs.Ranges.{range-trees, from-within}
-use Rattle.area_check.proofs.Slots.{ranges-slots, ghost-held-is, ghosts-split}
+use Rattle.area.proofs.Tabled.{word-silent}
+use Rattle.area_check.proofs.Slots.{rows, ranges-slots, ghost-held-is, ghosts-split}
 
 -- ---- the heard senders
 
@@ -47,16 +49,34 @@ module _ {a old new : List ℕ} (t : Tabled a old new) where
           let g = gets-sends (areaOld a) (areaNew a) (t .header .tables) s (areaRank a) (omega (arith, t .header .ranksAre)) (omega (arith, t .header .ranksAre, t .header .rankBelow)) in
           q ∙ rw (← is-h, ok, lt-ltb s (areaP a) (omega arith), g, e, t .isOld, t .isNew)
 
+-- the bits of one word
+module _ (a : List ℕ) (w : ℕ) where
+  pub word-none : {P at v : ℕ} → P ≡ areaP a → at ≡ wordsPlace P → v ≡ u64At a (at + 8 * w) → v ≡ 0 → true ≡ wordSound a w
+  unfolding wordSound bitSound
+  word-none p e r z = sym (all-intro 64 (λ b. bitSound a (64 * w + b)) (λ b l. rw (word-silent a w b p e r z l)))
+
+  pub word-fail : (b : ℕ) {r : Bool} → b < 64 → r ≡ bitSound a (64 * w + b) → r ≡ false → false ≡ wordSound a w
+  unfolding wordSound
+  word-fail b l e f = sym (all-fails 64 (λ c. bitSound a (64 * w + c)) b l (sym e ∙ f))
+
+  pub word-pass : {b : ℕ} → b ≤ 64 → 64 ≤ b → allBelow b (λ c. bitSound a (64 * w + c)) ≡ true → true ≡ wordSound a w
+  unfolding wordSound
+  word-pass {b} l m e = sym (all-to 64 (λ c. bitSound a (64 * w + c)) b l m e)
+
 -- all bits of the words
 module _ (a : List ℕ) {P words : ℕ} (is-P : P ≡ areaP a) (is-words : words ≡ heardWords P) where
-  bits-end : 64 * words ≡ 64 * heardWords (areaP a)
-  bits-end = rw (is-words, is-P)
+  words-are : words ≡ heardWords (areaP a)
+  words-are = is-words ∙ ap heardWords is-P
 
-  pub bits-fail : {s : ℕ} → s < 64 * words → bitSound a s ≡ false → false ≡ allBelow (64 * heardWords (areaP a)) (bitSound a)
-  bits-fail {s} l f = sym (all-fails (64 * heardWords (areaP a)) (bitSound a) s (omega (arith, bits-end)) f)
+  words-bits : allBelow (heardWords (areaP a)) (wordSound a) ≡ allBelow (64 * heardWords (areaP a)) (bitSound a)
+  unfolding wordSound
+  words-bits = sym (rows 64 (heardWords (areaP a)) (bitSound a))
 
-  pub bits-pass : {s : ℕ} → s ≤ 64 * words → 64 * words ≤ s → allBelow s (bitSound a) ≡ true → true ≡ allBelow (64 * heardWords (areaP a)) (bitSound a)
-  bits-pass {s} l m e = sym (all-to (64 * heardWords (areaP a)) (bitSound a) s (omega (arith, bits-end)) (omega (arith, bits-end)) e)
+  pub bits-fail : {w : ℕ} → w < words → wordSound a w ≡ false → false ≡ allBelow (64 * heardWords (areaP a)) (bitSound a)
+  bits-fail {w} l f = sym (all-fails (heardWords (areaP a)) (wordSound a) w (omega (arith, words-are)) f) ∙ words-bits
+
+  pub bits-pass : {w : ℕ} → w ≤ words → words ≤ w → allBelow w (wordSound a) ≡ true → true ≡ allBelow (64 * heardWords (areaP a)) (bitSound a)
+  bits-pass {w} l m e = sym (all-to (heardWords (areaP a)) (wordSound a) w (omega (arith, words-are)) (omega (arith, words-are)) e) ∙ words-bits
 
 -- ---- the tree slots
 

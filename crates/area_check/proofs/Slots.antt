@@ -30,7 +30,7 @@ use Rattle.area_check.specs.Means.{slotHeld, rangeSound, ghostHeldAt}
 -- ---- zeros in a row
 
 -- all of n rows of the same size
-rows : (size n : ℕ) (f : ℕ → Bool) → allBelow (size * n) f ≡ allBelow n (λ j. allBelow size (λ i. f (size * j + i)))
+pub rows : (size n : ℕ) (f : ℕ → Bool) → allBelow (size * n) f ≡ allBelow n (λ j. allBelow size (λ i. f (size * j + i)))
 unfolding allBelow
 rows size zero f = rw mul-zero
 rows size (suc n) f = rw (mul-suc, all-add (size * n) size f, rows size n f)

@@ -1,4 +1,4 @@
--- Means, no part of what is promised: the tests of slots as the code makes them.
+-- Means, no part of what is promised: the tests of words and slots as the code makes them.
 use Prim.Native.Nat.{ℕ, _+_, _*_}
 use mathlib.Core.Bool.{Bool, true, cond, not, _&&_}
 use mathlib.Core.List.{List}
@@ -8,8 +8,12 @@ use Rattle.encoding.specs.Pieces.{piece}
 use Rattle.encoding.specs.Words.{allZero}
 use Rattle.records.specs.Record.{coreSize, treeSize, numberOf, inForm}
 use Rattle.message.specs.Layout.{afterLast}
-use Rattle.area.specs.Area.{heard}
+use Rattle.area.specs.Area.{heard, bitSound}
 use Rattle.area.specs.Means.{fromFirst, fromCount, fromPlace, coreAt}
+
+-- the bits of word w are set only for ranks of the receive set
+unfoldable pub wordSound : List ℕ → ℕ → Bool
+wordSound a w = allBelow 64 (λ b. bitSound a (64 * w + b))
 
 -- the record at byte `at` is in form and has number k
 unfoldable pub slotHeld : List ℕ → ℕ → ℕ → Bool

@@ -11,7 +11,7 @@ ghost use Rattle.message.specs.Layout.{afterLast};
 ghost use Rattle.area.specs.Layout.{heardWords};
 ghost use Rattle.area.specs.Area.{areaP, areaCount, areaGhosts, bitSound, treeSlotSound, areaBound, ghostSlotSound, areaSound};
 ghost use Rattle.area.specs.Means.{Tabled, coreAt};
-ghost use Rattle.area_check.specs.Means.{slotHeld, rangeSound, ghostHeldAt};
+ghost use Rattle.area_check.specs.Means.{wordSound, slotHeld, rangeSound, ghostHeldAt};
 use area::layout::ghost_bound;
 use area::layout::ghost_slots_place;
 use area::layout::heard_words;
@@ -44,17 +44,36 @@ fn bit_sound(area: &[u8], old: &[u8], new: &[u8], s: usize) -> bool
     pattern::range::sends_some(old, new, s, rank(area))
 }
 
+// The bits of word w; most words are zero.
+fn word_sound(area: &[u8], old: &[u8], new: &[u8], w: usize) -> bool
+    requires { ⌜ Tabled (now area) (now old) (now new) × (w < heardWords (areaP (now area))) ⌝ }
+    ensures { λ r. ⌜ r ≡ wordSound (now (area .entry)) w ⌝ }
+{
+    let at = words_place(ranks(area)) + 8 * w;
+    if encoding::bytes::read_u64(area, at) == 0 {
+        return true;
+    }
+    let mut b = 0;
+    while b < 64 {
+        if !bit_sound(area, old, new, 64 * w + b) {
+            return false;
+        }
+        b += 1;
+    }
+    true
+}
+
 fn bits_sound(area: &[u8], old: &[u8], new: &[u8]) -> bool
     requires { ⌜ Tabled (now area) (now old) (now new) ⌝ }
     ensures { λ r. ⌜ r ≡ allBelow (64 * heardWords (areaP (now (area .entry)))) (bitSound (now (area .entry))) ⌝ }
 {
-    let end = 64 * heard_words(ranks(area));
-    let mut s = 0;
-    while s < end {
-        if !bit_sound(area, old, new, s) {
+    let end = heard_words(ranks(area));
+    let mut w = 0;
+    while w < end {
+        if !word_sound(area, old, new, w) {
             return false;
         }
-        s += 1;
+        w += 1;
     }
     true
 }

@@ -15,6 +15,7 @@ use Rattle.encoding.specs.Pieces.{piece}
 use Rattle.encoding.proofs.Below.{tests, either, clash, and-fst, and-intro, below-suc, all-intro, count-same, count-le, kept-length, kept-found, kept-ascends}
 use Rattle.encoding.proofs.Numbers.{bytes-length, value-bytes}
 use Rattle.encoding.proofs.Pieces.{piece-length}
+use Rattle.offsets.specs.Limits.{maxRanks}
 use Rattle.offsets.specs.Table.{ranks, trees, holds}
 use Rattle.offsets.proofs.Tables.{ranks-high, trees-high}
 use Rattle.records.specs.Shape.{dimensionOf, faceCount}
@@ -234,7 +235,7 @@ module _ (core : ℕ → List ℕ) (old new : List ℕ) (hand : ℕ → Bool) (t
     few-trees : trees old ≤ 1048576
     few-trees = trees-high old (T .oldBytes) (T .oldRanks) (T .oldValid)
 
-    few-ranks : ranks old ≤ 1024
+    few-ranks : ranks old ≤ maxRanks
     few-ranks = ranks-high old (T .oldBytes) (T .oldRanks) (T .oldValid)
 
     few-sent : n ≤ 1048576

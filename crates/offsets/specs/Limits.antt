@@ -4,7 +4,7 @@ use mathlib.Core.Bool.{Bool, _&&_}
 use lib.Dec.{leb}
 
 abbrev pub maxRanks : ℕ
-maxRanks = 1024
+maxRanks = 16384
 
 abbrev pub maxTrees : ℕ
 maxTrees = 1048576

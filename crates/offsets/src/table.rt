@@ -10,7 +10,7 @@ ghost use Rattle.offsets.specs.Calls.{rangeRefused};
 ghost use Rattle.offsets.specs.Means.{entryOk, entryOkAt};
 use crate::Range;
 
-pub const MAX_RANKS: usize = 1024;
+pub const MAX_RANKS: usize = 16384;
 
 pub const MAX_TREES: u64 = 1048576;
 

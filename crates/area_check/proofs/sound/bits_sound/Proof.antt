@@ -2,7 +2,7 @@ use Rattle.area_check.proofs.Checking.{bits-fail, bits-pass}
 use Rattle.encoding.proofs.Below.{all-more}
 use Rattle.encoding.specs.Below.{allBelow}
 use Rattle.area.specs.Layout.{heardWords}
-use Rattle.area.specs.Area.{bitSound}
+use Rattle.area_check.specs.Means.{wordSound}
 use borrow.Author.Tests.{not-true, not-false}
 use native.Mathlib.Omega.{arith}
 use mathlib.Core.Bool.{true}
@@ -13,10 +13,10 @@ use Rattle.area_check.proofs.sound.bits_sound.Statement.{statement}
 use Rattle.area_check.proofs.sound.bits_sound.Tie as tie
 
 abbrev Inv-loop : tie.InvT-loop
-Inv-loop area old new end s₀ s = (s ≤ end) × (allBelow s (bitSound area) ≡ true)
+Inv-loop area old new end w₀ w = (w ≤ end) × (allBelow w (wordSound area) ≡ true)
 
 abbrev μ-loop : tie.MeasureT-loop
-μ-loop area old new end s₀ s = end - s
+μ-loop area old new end w₀ w = end - w
 
 ranks-requires : tie.Need-ranks-requires Inv-loop μ-loop
 ranks-requires c κs = search needs
@@ -24,15 +24,12 @@ ranks-requires c κs = search needs
 heard-words-requires : tie.Need-heard-words-requires Inv-loop μ-loop
 heard-words-requires c κs = search needs
 
-mul-end : tie.Need-mul-end Inv-loop μ-loop
-mul-end c = search needs
-
 loop-holds : tie.Need-loop-holds Inv-loop μ-loop
 unfolding allBelow
 loop-holds c = search needs
 
-bit-sound-requires : tie.Need-bit-sound-requires Inv-loop μ-loop
-bit-sound-requires c κs =
+word-sound-requires : tie.Need-word-sound-requires Inv-loop μ-loop
+word-sound-requires c κs =
     let pre = c .before .before .before .before .before .before .before .pre in
     let ranks = c .before .before .before .ranks in
     let heard-words = c .before .before .heard-words in
@@ -43,17 +40,17 @@ returns c =
     let ranks = c .before .before .before .before .before .ranks in
     let heard-words = c .before .before .before .before .heard-words in
     let loop-test = c .before .before .loop-test in
-    let bit-sound = c .before .bit-sound in
-    bits-fail _ (ranks .ensures) (heard-words .ensures .0) (loop-test .taken) (sym (bit-sound .ensures) ∙ not-true _ (c .if1 .taken))
+    let word-sound = c .before .word-sound in
+    bits-fail _ (ranks .ensures) (heard-words .ensures .0) (loop-test .taken) (sym (word-sound .ensures) ∙ not-true _ (c .if1 .taken))
 
-add-s : tie.Need-add-s Inv-loop μ-loop
-add-s c = search needs
+add-w : tie.Need-add-w Inv-loop μ-loop
+add-w c = search needs
 
 loop-less : tie.Need-loop-less Inv-loop μ-loop
 loop-less c = search needs
 
 loop-again : tie.Need-loop-again Inv-loop μ-loop
-loop-again c = (omega arith, all-more _ _ (c .before .before .before .loop .inv .1) (sym (c .before .bit-sound .ensures) ∙ not-false _ (c .if1 .left)))
+loop-again c = (omega arith, all-more _ _ (c .before .before .before .loop .inv .1) (sym (c .before .word-sound .ensures) ∙ not-false _ (c .if1 .left)))
 
 returns-2 : tie.Need-returns-2 Inv-loop μ-loop
 returns-2 c =
@@ -70,11 +67,10 @@ bits-sound-spec =
     μ-loop
     ranks-requires
     heard-words-requires
-    mul-end
     loop-holds
-    bit-sound-requires
+    word-sound-requires
     returns
-    add-s
+    add-w
     loop-less
     loop-again
     returns-2)

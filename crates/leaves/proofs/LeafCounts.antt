@@ -264,6 +264,16 @@ module _ {ls : List ℕ} {lo k s : ℕ} (w : Walking ls lo k s) where
   pub walk-more : s < lo → Walking ls lo (k + 1) (s + getD ls k 0)
   walk-more h = record { ok = w .ok; within = w .within; passed = omega (arith, walk-before h); begins = omega (arith, w .begins, start-more ls k) }
 
+  pub walk-within : k ≤ length ls
+  walk-within = omega (arith, w .passed, before-le ls (w .ok) lo)
+
+  -- on to tree j, n leaves further, which begins before lo
+  pub walk-on : (n j : ℕ) → leafStart ls k + n ≡ leafStart ls j → j ≤ length ls → s + n < lo → Walking ls lo j (s + n)
+  walk-on n j e h l =
+      let passed : j ≤ treesBefore ls lo =
+      either (ltb j (treesBefore ls lo)) (λ t. omega tests) (λ t. absurd (omega (arith, e, w .begins, later ls (w .ok) lo j (omega tests) h (w .within)))) in
+      record { ok = w .ok; within = w .within; passed = passed; begins = omega (arith, e, w .begins) }
+
   -- a walk that has come to lo
   pub walk-done : lo ≤ s → k ≡ treesBefore ls lo
   walk-done h =

@@ -1,6 +1,6 @@
 // Sums of leaf counts over blocks of 256 trees.
 use crate::counts::leaves_ok;
-use crate::counts::wide;
+use crate::counts::sum;
 ghost use mathlib.Core.Path.{_≡_};
 ghost use mathlib.Core.Bool.{true, _&&_};
 ghost use Prim.Native.Nat.{_+_, _*_, _≤_, _<_};
@@ -25,14 +25,8 @@ fn block_sum(leaves: &[u32], b: usize) -> u64
     requires { ⌜ (leavesOk (now leaves) ≡ true) × (256 * b < length (now leaves)) ⌝ }
     ensures { λ r. ⌜ r ≡ blockSum (now (leaves .entry)) b ⌝ }
 {
-    let mut i = 256 * b;
-    let to = block_end(leaves.len(), i);
-    let mut n: u64 = 0;
-    while i < to {
-        n += wide(leaves[i]);
-        i += 1;
-    }
-    n
+    let from = 256 * b;
+    sum(leaves, from, block_end(leaves.len(), from))
 }
 
 fn sums_ok(leaves: &[u32], sums: &[u64]) -> bool

@@ -2,8 +2,9 @@
 use offsets::table::tree_count_ok;
 ghost use mathlib.Core.Path.{_≡_};
 ghost use mathlib.Core.Bool.{true};
-ghost use Prim.Native.Nat.{_≤_, _<_, _^_};
-ghost use Rattle.leaves.specs.Leaves.{leavesOk, leafTotal};
+ghost use Prim.Native.Nat.{_+_, _≤_, _<_, _^_};
+ghost use lib.ListN.{length};
+ghost use Rattle.leaves.specs.Leaves.{leavesOk, leafStart, leafTotal};
 ghost use Rattle.leaves.specs.Means.{countOk};
 
 pub fn wide(x: u32) -> u64
@@ -18,6 +19,7 @@ fn count_ok(x: u32) -> bool
     (1 <= x) & (x <= 16777216)
 }
 
+// All counts are looked at, whatever the first ones are: without an early end the loop goes by wide loads.
 pub fn leaves_ok(leaves: &[u32]) -> bool
     ensures { λ r. ⌜ r ≡ leavesOk (now (leaves .entry)) ⌝ }
 {
@@ -25,14 +27,27 @@ pub fn leaves_ok(leaves: &[u32]) -> bool
     if !tree_count_ok(k as u64) {
         return false;
     }
+    let mut ok = true;
     let mut i = 0;
     while i < k {
-        if !count_ok(leaves[i]) {
-            return false;
-        }
+        ok = ok & count_ok(leaves[i]);
         i += 1;
     }
-    true
+    ok
+}
+
+// The leaves of the trees from one up to, but without, another.
+pub fn sum(leaves: &[u32], from: usize, to: usize) -> u64
+    requires { ⌜ (leavesOk (now leaves) ≡ true) × (from ≤ to) × (to ≤ length (now leaves)) ⌝ }
+    ensures { λ r. ⌜ leafStart (now (leaves .entry)) from + r ≡ leafStart (now (leaves .entry)) to ⌝ }
+{
+    let mut n: u64 = 0;
+    let mut i = from;
+    while i < to {
+        n += wide(leaves[i]);
+        i += 1;
+    }
+    n
 }
 
 // N.
@@ -40,11 +55,5 @@ pub fn total(leaves: &[u32]) -> u64
     requires { ⌜ leavesOk (now leaves) ≡ true ⌝ }
     ensures { λ r. ⌜ (r ≡ leafTotal (now (leaves .entry))) × (r ≤ 2 ^ 44) ⌝ }
 {
-    let mut n: u64 = 0;
-    let mut i = 0;
-    while i < leaves.len() {
-        n += wide(leaves[i]);
-        i += 1;
-    }
-    n
+    sum(leaves, 0, leaves.len())
 }

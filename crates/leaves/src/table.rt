@@ -1,4 +1,5 @@
 // Writing the table by a walk over the trees.
+use crate::counts::sum;
 use crate::counts::wide;
 use crate::shares::cut;
 use encoding::bytes::write_u64;
@@ -16,13 +17,32 @@ pub struct Walk {
     pub start: u64,
 }
 
+// On by 16 trees at a time, while the next one begins before leaf lo: their sum goes by wide loads.
+fn stride(leaves: &[u32], tree: usize, start: u64, lo: u64) -> Walk
+    requires { ⌜ Walking (now leaves) lo tree start ⌝ }
+    ensures { λ r. ⌜ Walking (now (leaves .entry)) lo (r .tree) (r .start) ⌝ }
+{
+    let mut k = tree;
+    let mut s = start;
+    while 16 <= leaves.len() - k {
+        let n = sum(leaves, k, k + 16);
+        if lo <= s + n {
+            return Walk { tree: k, start: s };
+        }
+        s += n;
+        k += 16;
+    }
+    Walk { tree: k, start: s }
+}
+
 // On to the first tree that begins at leaf lo or later, or past the last tree.
 fn advance(leaves: &[u32], tree: usize, start: u64, lo: u64) -> Walk
     requires { ⌜ Walking (now leaves) lo tree start ⌝ }
     ensures { λ r. ⌜ (r .tree ≡ treesBefore (now (leaves .entry)) lo) × (r .start ≡ leafStart (now (leaves .entry)) (r .tree)) ⌝ }
 {
-    let mut k = tree;
-    let mut s = start;
+    let near = stride(leaves, tree, start, lo);
+    let mut k = near.tree;
+    let mut s = near.start;
     while s < lo {
         s += wide(leaves[k]);
         k += 1;

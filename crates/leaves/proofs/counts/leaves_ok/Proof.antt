@@ -1,22 +1,27 @@
 use Rattle.leaves.specs.Means.{countOk}
 use Rattle.leaves.specs.Leaves.{leavesOk}
-use Rattle.encoding.proofs.Below.{all-more, all-fails, all-to}
 use Rattle.encoding.specs.Below.{allBelow}
 use borrow.Author.Tests.{not-true, not-false}
 use native.Mathlib.Omega.{arith}
-use mathlib.Core.Bool.{true, and-false}
+use native.Mathlib.Numerals.{add-one}
+use mathlib.Core.Bool.{Bool, _&&_}
 use mathlib.Core.Path.{_≡_, sym, _∙_, refl}
-use lib.ListN.{getD}
-use Prim.Native.Nat.{_≤_, _-_}
+use lib.ListN.{getD, length}
+use Prim.Native.Nat.{ℕ, _≤_, _-_, _+_}
 use borrow.Author.Needs.{needs}
 use Rattle.leaves.proofs.counts.leaves_ok.Statement.{statement}
 use Rattle.leaves.proofs.counts.leaves_ok.Tie as tie
 
+-- one count more
+one-more : (i : ℕ) (f : ℕ → Bool) {ok next : Bool} → ok ≡ allBelow i f → next ≡ f i → (ok && next) ≡ allBelow (i + 1) f
+unfolding allBelow
+one-more i f e h = rw (add-one, e, h)
+
 abbrev Inv-loop : tie.InvT-loop
-Inv-loop leaves k i₀ i = (i ≤ k) × (allBelow i (λ j. countOk (getD leaves j 0)) ≡ true)
+Inv-loop leaves k ok₀ i₀ ok i = (i ≤ k) × (ok ≡ allBelow i (λ j. countOk (getD leaves j 0)))
 
 abbrev μ-loop : tie.MeasureT-loop
-μ-loop leaves k i₀ i = k - i
+μ-loop leaves k ok₀ i₀ ok i = k - i
 
 tree-count-ok-requires : tie.Need-tree-count-ok-requires Inv-loop μ-loop
 tree-count-ok-requires c κs = search needs
@@ -38,14 +43,6 @@ shared-slice-read-count-ok c = search needs
 count-ok-requires : tie.Need-count-ok-requires Inv-loop μ-loop
 count-ok-requires c κs = search needs
 
-returns-2 : tie.Need-returns-2 Inv-loop μ-loop
-unfolding leavesOk
-returns-2 c =
-    let loop = c .before .before .before .before .loop in
-    let loop-test = c .before .before .before .loop-test in
-    let count-ok = c .before .count-ok in
-    rw (all-fails _ _ (loop .i) (loop-test .taken) (sym (count-ok .ensures) ∙ not-true _ (c .if2 .taken)), and-false)
-
 add-i : tie.Need-add-i Inv-loop μ-loop
 add-i c = search needs
 
@@ -53,15 +50,16 @@ loop-less : tie.Need-loop-less Inv-loop μ-loop
 loop-less c = search needs
 
 loop-again : tie.Need-loop-again Inv-loop μ-loop
-loop-again c = (omega arith, all-more _ _ (c .before .before .before .before .loop .inv .1) (sym (c .before .count-ok .ensures) ∙ not-false _ (c .if2 .left)))
+loop-again c = (omega arith, one-more _ _ (c .before .before .before .loop .inv .1) (c .count-ok .ensures))
 
-returns-3 : tie.Need-returns-3 Inv-loop μ-loop
+returns-2 : tie.Need-returns-2 Inv-loop μ-loop
 unfolding leavesOk
-returns-3 c =
+returns-2 c =
+    let loop = c .before .loop in
     let tree-count-ok = c .before .before .before .tree-count-ok in
     let if1 = c .before .before .if1 in
-    let loop = c .before .loop in
-    rw (sym (tree-count-ok .ensures) ∙ not-false _ (if1 .left), all-to _ _ (loop .i) (loop .inv .0) (c .loop-test .left) (loop .inv .1))
+    let e : loop .i ≡ length (c .before .before .before .before .before .args .leaves .now) = omega arith in
+    rw (sym (tree-count-ok .ensures) ∙ not-false _ (if1 .left), sym e) (loop .inv .1)
 
 pub leaves-ok-spec : {M : Type 1} → statement M
 leaves-ok-spec =
@@ -75,8 +73,7 @@ leaves-ok-spec =
     mul-count-ok
     shared-slice-read-count-ok
     count-ok-requires
-    returns-2
     add-i
     loop-less
     loop-again
-    returns-3)
+    returns-2)

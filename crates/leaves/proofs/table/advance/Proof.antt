@@ -13,8 +13,11 @@ Inv-loop leaves tree start lo k₀ s₀ k s = Walking leaves lo k s
 abbrev μ-loop : tie.MeasureT-loop
 μ-loop leaves tree start lo k₀ s₀ k s = length leaves - k
 
+stride-requires : tie.Need-stride-requires Inv-loop μ-loop
+stride-requires c κs = search needs
+
 loop-holds : tie.Need-loop-holds Inv-loop μ-loop
-loop-holds c = c .before .pre
+loop-holds c = c .stride .ensures
 
 mul-wide : tie.Need-mul-wide Inv-loop μ-loop
 mul-wide c = omega (arith, walk-at (c .before .loop .inv) (c .loop-test .taken))
@@ -46,6 +49,7 @@ advance-spec =
     (tie.spec
     Inv-loop
     μ-loop
+    stride-requires
     loop-holds
     mul-wide
     shared-slice-read-wide

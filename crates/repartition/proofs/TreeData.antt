@@ -237,9 +237,11 @@ module _ (a b : List ℕ) (test : ℕ → Bool) (same : PartsDiffer test a b) wh
       refused-same : (refused ≡ 0 → ⊥) → writeAnswer (refusal ma) ma out ≡ writeAnswer (refusal mb) mb out
       unfolding writeAnswer lengthAnswer written
       refused-same declined =
-          rw (first-stays (buildChecks b old new p q) (check (leb (length ma) (length out)) 22 ∷ []) declined,
-          first-stays (buildChecks b old new p q) (check (leb (length mb) (length out)) 22 ∷ []) declined,
-          ne-eqb refused 0 declined)
+          rw (
+            first-stays (buildChecks b old new p q) (check (leb (length ma) (length out)) 22 ∷ []) declined,
+            first-stays (buildChecks b old new p q) (check (leb (length mb) (length out)) 22 ∷ []) declined,
+            ne-eqb refused 0 declined,
+          )
 
       length-only : length ma ≡ length mb → writeAnswer (refusal ma) ma out .0 ≡ writeAnswer (refusal mb) mb out .0
       unfolding writeAnswer
@@ -275,9 +277,10 @@ data-unread a b same =
 
 pub unsent-hidden : UnsentHidden
 unsent-hidden a b old new p q bo bn same =
-    let test : ℕ → Bool = λ k. not (sends old new p q k) in
-    (message-length-same a b test same old new p q bo bn,
-    λ epoch out. build-same a b test same old new p q bo bn epoch out (messages epoch))
+    let test : ℕ → Bool = λ k. not (sends old new p q k) in (
+      message-length-same a b test same old new p q bo bn,
+      λ epoch out. build-same a b test same old new p q bo bn epoch out (messages epoch),
+    )
   where
     messages : (epoch : ℕ) → firstFailed (buildChecks b old new p q) ≡ 0 → partMessage a old new p q epoch ≡ partMessage b old new p q epoch
     messages epoch e =

@@ -44,7 +44,7 @@ use Rattle.repartition.specs.Lists.{Call, deliver, close, AllBuilt, open
 use Rattle.repartition.specs.Demand.{size, heardBy, bytesAfter, closeAfter}
 use Rattle.repartition.proofs.Canonical.{slotHeard, ghostHeard, ghostsHeard, canonical}
 use Rattle.repartition.proofs.Demand.{state-after, answers-are, close-is, demand-3}
-use Rattle.repartition.specs.TreeData.{dataAt, dataOf, SameBut, PartsDiffer, MeshesDiffer, UnsentHidden, DataUnread, withMesh, SameAfter, OutsideHidden}
+use Rattle.repartition.specs.TreeData.{dataAt, dataOf, SameBut, PartsDiffer, MeshesDiffer, unsent, UnsentHidden, DataUnread, withMesh, outsideNew, SameAfter, OutsideHidden}
 
 -- ---- bytes that may differ
 
@@ -276,15 +276,16 @@ data-unread a b same =
     }
 
 pub unsent-hidden : UnsentHidden
+unfolding unsent
 unsent-hidden a b old new p q bo bn same =
-    let test : ℕ → Bool = λ k. not (sends old new p q k) in (
+    let test : ℕ → Bool = unsent old new p q in (
       message-length-same a b test same old new p q bo bn,
       λ epoch out. build-same a b test same old new p q bo bn epoch out (messages epoch),
     )
   where
     messages : (epoch : ℕ) → firstFailed (buildChecks b old new p q) ≡ 0 → partMessage a old new p q epoch ≡ partMessage b old new p q epoch
     messages epoch e =
-        let test : ℕ → Bool = λ k. not (sends old new p q k) in
+        let test : ℕ → Bool = unsent old new p q in
         let w : Passed b old new p q = checks-passed b old new p q bo bn e in
         let T = w .tables in
         let header = header-same a b test same in
@@ -300,9 +301,9 @@ unsent-hidden a b old new p q bo bn same =
 
 -- ---- areas
 
-module _ (run : Run) (mesh : List ℕ) (same : MeshesDiffer (λ k. not (holds (run .new) (run .rank) k)) (run .mesh) mesh) where
+module _ (run : Run) (mesh : List ℕ) (same : MeshesDiffer (outsideNew run) (run .mesh) mesh) where
   abbrev hidden : ℕ → Bool
-  hidden k = not (holds (run .new) (run .rank) k)
+  hidden = outsideNew run
 
   abbrev other : Run
   other = withMesh run mesh
@@ -322,7 +323,7 @@ module _ (run : Run) (mesh : List ℕ) (same : MeshesDiffer (λ k. not (holds (r
 
   -- and so is the record of each tree of the new range
   record-is : (i : ℕ) → i < treeCount (run .new) (run .rank) → meshRecord (run .mesh) (firstTree (run .new) (run .rank) + i) ≡ meshRecord mesh (firstTree (run .new) (run .rank) + i)
-  unfolding meshRecord holds treeCount
+  unfolding meshRecord outsideNew holds treeCount
   record-is i h =
       let k : ℕ = firstTree (run .new) (run .rank) + i in
       let low : ℕ = firstTree (run .new) (run .rank) in

@@ -45,10 +45,14 @@ MeshesDiffer test a b = SameBut (dataOf meshHeader 0 (meshTrees a) test) a b
 
 -- ---- parts
 
+-- p doesn't send tree k to q
+unfoldable pub unsent : List ℕ → List ℕ → ℕ → ℕ → ℕ → Bool
+unsent old new p q k = not (sends old new p q k)
+
 -- Two parts that differ only in the data of trees that p doesn't send to q: the message to q, its length and any refusal are the same for both, whatever the tables, ranks, epoch and buffer. Both may be any bytes: what isn't sound for the old table and p is refused alike.
 abbrev pub UnsentHidden : Type 0
 UnsentHidden =
-    (a b old new : List ℕ) (p q : ℕ) → Bytes old → Bytes new → PartsDiffer (λ k. not (sends old new p q k)) a b
+    (a b old new : List ℕ) (p q : ℕ) → Bytes old → Bytes new → PartsDiffer (unsent old new p q) a b
     → (messageLengthOf a old new p q ≡ messageLengthOf b old new p q)
     × ((epoch : ℕ) (out : List ℕ) → buildMessageOf a old new p q epoch out ≡ buildMessageOf b old new p q epoch out)
 
@@ -71,6 +75,10 @@ DataUnread = (a b : List ℕ) → PartsDiffer (λ k. true) a b → SameAnswers a
 abbrev pub withMesh : Run → List ℕ → Run
 withMesh run mesh = record { mesh = mesh; old = run .old; new = run .new; rank = run .rank; epoch = run .epoch }
 
+-- tree k is outside the rank's new range
+unfoldable pub outsideNew : Run → ℕ → Bool
+outsideNew run k = not (holds (run .new) (run .rank) k)
+
 -- what is the same in two runs after a list of calls, each on a buffer of its own: the list's deliveries name senders and receivers, and bring what each sender builds from its part of the run's mesh
 pub record SameAfter (run other : Run) (b c : List ℕ) (cs : List Call) : Type 0 where
   -- the answer of the open call
@@ -87,5 +95,5 @@ pub record SameAfter (run other : Run) (b c : List ℕ) (cs : List Call) : Type 
 -- Two sound meshes that differ only in the data of trees outside the rank's new range: after every list of calls as in demand 3 all this is the same. Messages to other ranks may differ; they get 13 in both.
 abbrev pub OutsideHidden : Type 0
 OutsideHidden =
-    (run : Run) (mesh : List ℕ) → Setting run → Setting (withMesh run mesh) → MeshesDiffer (λ k. not (holds (run .new) (run .rank) k)) (run .mesh) mesh
+    (run : Run) (mesh : List ℕ) → Setting run → Setting (withMesh run mesh) → MeshesDiffer (outsideNew run) (run .mesh) mesh
     → (b c : List ℕ) → size run ≤ length b → size run ≤ length c → (cs : List Call) → AllBuilt run cs → SameAfter run (withMesh run mesh) b c cs

@@ -137,7 +137,8 @@ fn unsent_refused(run: &mut Run) {
                 if random.chance(64) {
                     spoilt.truncate(random.below(spoilt.len() as u64) as usize);
                 }
-                tables = if random.chance(128) { Tables::new(&spoilt, &case.new) } else { Tables::new(&case.old, &spoilt) };
+                tables =
+                    if random.chance(128) { Tables::new(&spoilt, &case.new) } else { Tables::new(&case.old, &spoilt) };
             }
         }
         // what p sends q under the call's own tables and ranks

@@ -44,7 +44,7 @@ use Rattle.repartition.specs.Lists.{Call, deliver, close, AllBuilt, open
 use Rattle.repartition.specs.Demand.{size, heardBy, bytesAfter, closeAfter}
 use Rattle.repartition.proofs.Canonical.{slotHeard, ghostHeard, ghostsHeard, canonical}
 use Rattle.repartition.proofs.Demand.{state-after, answers-are, close-is, demand-3}
-use Rattle.repartition.specs.TreeData.{dataAt, dataOf, SameBut, PartsDiffer, MeshesDiffer, unsent, UnsentHidden, DataUnread, withMesh, outsideNew, SameAfter, OutsideHidden}
+use Rattle.repartition.specs.TreeData.{dataPlace, dataAt, dataOf, SameBut, PartsDiffer, MeshesDiffer, unsent, UnsentHidden, DataUnread, withMesh, outsideNew, SameAfter, OutsideHidden}
 
 -- ---- bytes that may differ
 
@@ -58,10 +58,10 @@ piece-agree a b l off n same =
     ext-getD 0 (piece a off n) (piece b off n) (piece-long a b l off n)
     (λ i h. let k : i < n = omega (arith, piece-most a off n) in piece-at a off n i k ∙ same i k ∙ sym (piece-at b off n i k))
 
-data-range : (start u i : ℕ) → dataAt start u i ≡ true → (start + treeSize * u + coreSize ≤ i) × (i < start + treeSize * u + treeSize)
+data-range : (start u i : ℕ) → dataAt start u i ≡ true → (start + treeSize * u + dataPlace ≤ i) × (i < start + treeSize * u + treeSize)
 unfolding dataAt
 data-range start u i e =
-    let low : Bool = leb (start + treeSize * u + coreSize) i in
+    let low : Bool = leb (start + treeSize * u + dataPlace) i in
     let high : Bool = ltb i (start + treeSize * u + treeSize) in
     (leb-true _ _ (and-fst low high e), ltb-true _ _ (and-snd low high e))
 

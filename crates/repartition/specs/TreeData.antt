@@ -23,9 +23,13 @@ use Rattle.repartition.specs.Demand.{size, bytesAfter, closeAfter}
 
 -- ---- bytes that may differ
 
--- byte i is tree data, bytes 40 to 63, of record t of the tree records that begin at byte start
+-- where the tree data begins in a tree record: behind the core
+abbrev pub dataPlace : ℕ
+dataPlace = coreSize
+
+-- byte i is tree data of record t of the tree records that begin at byte start
 unfoldable pub dataAt : ℕ → ℕ → ℕ → Bool
-dataAt start t i = leb (start + treeSize * t + coreSize) i && ltb i (start + treeSize * t + treeSize)
+dataAt start t i = leb (start + treeSize * t + dataPlace) i && ltb i (start + treeSize * t + treeSize)
 
 -- byte i is data of one of the n trees from tree first on, their records from byte start on, that passes a test
 unfoldable pub dataOf : ℕ → ℕ → ℕ → (ℕ → Bool) → ℕ → Bool

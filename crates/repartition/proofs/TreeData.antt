@@ -9,12 +9,13 @@ use lib.Dec.{leb, ltb, eqb}
 use lib.ListN.{length, getD, take, drop, length-take, length-drop}
 use lib.Seq.{ext-getD}
 use borrow.Author.Tests.{ltb-true, leb-true, eqb-true, ne-eqb, eq-eqb, le-leb, lt-ltb}
-use Rattle.encoding.specs.Pieces.{piece, Bytes}
-use Rattle.encoding.proofs.Below.{either, clash, and-fst, and-snd, and-intro, any-none, count-same}
+use Rattle.encoding.specs.Pieces.{piece, splice, Bytes}
+use Rattle.encoding.proofs.Below.{either, clash, and-fst, and-snd, and-intro, any-intro, any-none, count-same}
 use Rattle.encoding.specs.Numbers.{leAt}
-use Rattle.encoding.proofs.Pieces.{piece-most, piece-at}
+use Rattle.encoding.proofs.Pieces.{piece-most, piece-at, length-splice}
 use Rattle.records.specs.Record.{coreSize, treeSize, regionLimit, regionOf}
 use Rattle.records.proofs.Forms.{at-agree}
+use Rattle.records.proofs.Rows.{splice-get}
 use Rattle.encoding.specs.Answer.{lengthAnswer, written, writeAnswer}
 use Rattle.encoding.specs.Refusal.{Check, check, firstFailed}
 use Rattle.offsets.specs.Table.{ranks, ranksOk, trees, valid, firstTree, endTree, treeCount, holds}
@@ -433,3 +434,27 @@ outside-hidden run mesh S S' same b c long-b long-c cs built =
       same-answers = answers-is run mesh same S S' cs built b long-b c long-c;
       same-part = close-same run mesh same S S' cs built b long-b c long-c;
     }
+
+-- ---- the hypotheses are met
+
+-- a buffer with any other data in a tree that passes differs only there
+module _ (start first n : ℕ) (test : ℕ → Bool) (a d : List ℕ) (t : ℕ) (below : t < n) (passes : test (first + t) ≡ true) (long : length d ≡ 24) (fits : start + treeSize * t + treeSize ≤ length a) where
+  abbrev place : ℕ
+  place = start + treeSize * t + dataPlace
+
+  hidden-there : (i : ℕ) → place ≤ i → i < place + length d → dataOf start first n test i ≡ true
+  unfolding dataOf dataAt
+  hidden-there i low high =
+      let here : dataAt start t i ≡ true = and-intro (leb place i) (ltb i (start + treeSize * t + treeSize)) (le-leb place i low) (lt-ltb i (start + treeSize * t + treeSize) (omega arith)) in
+      any-intro n (λ u. test (first + u) && dataAt start u i) t below (and-intro (test (first + t)) (dataAt start t i) passes here)
+
+  pub data-written : SameBut (dataOf start first n test) a (splice a place d)
+  data-written =
+      record {
+        same-length = sym (length-splice a place d (omega arith));
+        same-bytes = λ i h.
+            sym (splice-get a place d i (omega arith)
+            ∙ either (leb place i && ltb i (place + length d))
+            (λ t. clash (hidden-there i (leb-true place i (and-fst (leb place i) _ t)) (ltb-true i (place + length d) (and-snd (leb place i) _ t))) h)
+            (λ t. rw t));
+      }

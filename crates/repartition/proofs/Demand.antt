@@ -163,7 +163,7 @@ module _ (run : Run) (S : Setting run) where
         (λ r br ne. goes-in run S r (run .rank) br k t ∙ either (ghostGoes (meshCore (run .mesh)) (run .old) (run .new) (λ k. ltb k (meshTrees (run .mesh))) (meshRecord (run .mesh)) r (run .rank) k) (λ e. absurd (ne (w .4 r e))) (λ e. e))
 
     -- a close after the list
-    close-is : (out : List ℕ) → closeAfter run b cs out ≡ writeAnswer (cond (allDue run H) (cond (leb (length (newPart run)) (length out)) 0 22) 20) (newPart run) out
+    pub close-is : (out : List ℕ) → closeAfter run b cs out ≡ writeAnswer (cond (allDue run H) (cond (leb (length (newPart run)) (length out)) 0 22) 20) (newPart run) out
     close-is out =
         ap (λ (a : List ℕ). closeOf a out) (state-after b long cs built)
         ∙ close-step run S H (drop (size run) b) (receive-all cs built nobody (nobody-receive run)) out

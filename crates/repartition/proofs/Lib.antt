@@ -16,3 +16,4 @@ pub mod Examples
 pub mod Promises
 pub mod Refusals
 pub mod Regions
+pub mod TreeData

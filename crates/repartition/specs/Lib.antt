@@ -7,3 +7,4 @@ pub mod Promises
 pub mod Refusals
 pub mod Examples
 pub mod Regions
+pub mod TreeData

@@ -49,6 +49,7 @@ groups! {
     area
     refinement
     regions
+    tree_data
     refusals
     nearest
 }

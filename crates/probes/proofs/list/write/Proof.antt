@@ -1,0 +1,85 @@
+use Rattle.probes.proofs.Listing.{left-within, none-left, list-room, list-box, listed}
+use Rattle.probes.specs.Probes.{meets}
+use Rattle.pattern.proofs.Laws.{Writing, write-start, write-length, write-index, write-more, write-skip}
+use Rattle.part.specs.Part.{partCount}
+use native.Mathlib.Omega.{arith}
+use Prim.Native.Nat.{_-_}
+use borrow.Author.Needs.{needs}
+use Rattle.probes.proofs.list.write.Statement.{statement}
+use Rattle.probes.proofs.list.write.Tie as tie
+use Rattle.probes.proofs.list.write.Reads as reads
+use Rattle.probes.proofs.list.write.Lts as lts
+use Rattle.probes.proofs.boxes.meets.Reads as meets-reads
+
+abbrev Inv-loop : tie.InvT-loop
+Inv-loop part probe met out₀ end count₀ i₀ out count i = Writing (meets probe part) (partCount part) out₀ out count i
+
+abbrev μ-loop : tie.MeasureT-loop
+μ-loop part probe met out₀ end count₀ i₀ out count i = partCount part - i
+
+-- src/list.rt:49:5
+loop-holds : tie.Need-loop-holds Inv-loop μ-loop
+loop-holds c = write-start _ _ _ (list-room _ _ _ _ (c .before .before .pre))
+
+-- src/list.rt:51:9
+add-i : tie.Need-add-i Inv-loop μ-loop
+add-i c = search needs
+
+-- src/list.rt:52:12
+meets-requires : tie.Need-meets-requires Inv-loop μ-loop
+meets-requires c κs = search needs
+
+-- src/list.rt:53:13
+mul-out : tie.Need-mul-out Inv-loop μ-loop
+mul-out c = search needs
+
+-- src/list.rt:53:13
+slice-write-out : tie.Need-slice-write-out Inv-loop μ-loop
+slice-write-out c = search needs
+
+-- src/list.rt:54:13
+add-count : tie.Need-add-count Inv-loop μ-loop
+add-count c = search needs
+
+-- src/list.rt:49:5
+loop-less : tie.Need-loop-less Inv-loop μ-loop
+loop-less c = search needs
+
+-- src/list.rt:49:5
+loop-again : tie.Need-loop-again Inv-loop μ-loop
+loop-again c = search needs
+
+-- src/list.rt:49:5
+loop-less-2 : tie.Need-loop-less-2 Inv-loop μ-loop
+loop-less-2 c = search needs
+
+-- src/list.rt:49:5
+loop-again-2 : tie.Need-loop-again-2 Inv-loop μ-loop
+loop-again-2 c = search needs
+
+-- src/list.rt:42:1
+same-length : tie.Need-same-length Inv-loop μ-loop
+same-length c = search needs
+
+-- src/list.rt:42:1
+returns : tie.Need-returns Inv-loop μ-loop
+returns c = search needs
+
+pub write-spec : {M : Type 1} → statement M
+write-spec =
+    tie.close
+    (tie.spec
+    Inv-loop
+    μ-loop
+    loop-holds
+    add-i
+    meets-requires
+    mul-out
+    slice-write-out
+    add-count
+    loop-less
+    loop-again
+    loop-less-2
+    loop-again-2
+    same-length
+    returns)

@@ -1,0 +1,90 @@
+use borrow.Author.Needs.{needs}
+use Rattle.probes.proofs.trees_near.Statement.{statement}
+use Rattle.probes.proofs.trees_near.Tie as tie
+use Rattle.probes.proofs.trees_near.Reads as reads
+use Rattle.probes.proofs.trees_near.Lts as lts
+use Rattle.part_check.proofs.check_part.Reads as check-part-reads
+use Rattle.probes.proofs.boxes.probe_ok.Reads as probe-ok-reads
+use Rattle.probes.proofs.list.survey.Reads as survey-reads
+use Rattle.probes.proofs.list.write.Reads as write-reads
+use Rattle.probes.proofs.refused.Reads as refused-reads
+
+-- src/lib.rt:32:9
+check-part-requires : tie.Need-check-part-requires
+check-part-requires c κs = search needs
+
+-- src/lib.rt:34:9
+refused-requires : tie.Need-refused-requires
+refused-requires c κs = search needs
+
+-- src/lib.rt:34:9
+returns : tie.Need-returns
+returns c = ?
+
+-- src/lib.rt:36:9
+probe-ok-requires : tie.Need-probe-ok-requires
+probe-ok-requires c κs = search needs
+
+-- src/lib.rt:37:9
+refused-requires-2 : tie.Need-refused-requires-2
+refused-requires-2 c κs = search needs
+
+-- src/lib.rt:37:9
+returns-2 : tie.Need-returns-2
+returns-2 c = ?
+
+-- src/lib.rt:39:9
+survey-requires : tie.Need-survey-requires
+survey-requires c κs = ?
+
+-- src/lib.rt:41:9
+refused-requires-3 : tie.Need-refused-requires-3
+refused-requires-3 c κs = search needs
+
+-- src/lib.rt:41:9
+returns-3 : tie.Need-returns-3
+returns-3 c = ?
+
+-- src/lib.rt:44:21
+cast-if4 : tie.Need-cast-if4
+cast-if4 c = search needs
+
+-- src/lib.rt:45:9
+refused-requires-4 : tie.Need-refused-requires-4
+refused-requires-4 c κs = search needs
+
+-- src/lib.rt:45:9
+returns-4 : tie.Need-returns-4
+returns-4 c = ?
+
+-- src/lib.rt:47:5
+write-requires : tie.Need-write-requires
+write-requires c κs = ?
+
+-- src/lib.rt:29:1
+same-length : tie.Need-same-length
+same-length c = search needs
+
+-- src/lib.rt:29:1
+returns-5 : tie.Need-returns-5
+returns-5 c = ?
+
+pub trees-near-spec : {M : Type 1} → statement M
+trees-near-spec =
+    tie.close
+    (tie.spec
+    check-part-requires
+    refused-requires
+    returns
+    probe-ok-requires
+    refused-requires-2
+    returns-2
+    survey-requires
+    refused-requires-3
+    returns-3
+    cast-if4
+    refused-requires-4
+    returns-4
+    write-requires
+    same-length
+    returns-5)

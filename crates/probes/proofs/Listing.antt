@@ -5,13 +5,14 @@ use mathlib.Core.Path.{_≡_, refl, sym, ap, _∙_}
 use mathlib.Core.Bool.{Bool, true, false}
 use mathlib.Core.List.{List, append-nil}
 use lib.Dec.{ltb}
-use lib.ListN.{length}
+use lib.ListN.{length, set}
 use Rattle.encoding.specs.Below.{allBelow, countBelow, keptBelow}
-use Rattle.encoding.specs.Pieces.{splice}
+use Rattle.encoding.specs.Pieces.{Bytes, splice}
 use Rattle.encoding.proofs.Below.{tests, either, all-more, all-fails, all-to, all-at, count-le, count-mono, count-lt, kept-length}
+use Rattle.encoding.proofs.Numbers.{at-bound}
 use Rattle.part.specs.Layout.{treePlace}
 use Rattle.part.specs.Part.{partCount}
-use Rattle.pattern.proofs.Laws.{Writing, count-one, count-skip}
+use Rattle.pattern.proofs.Laws.{Writing, count-one, count-skip, write-start, write-length, write-more, write-skip}
 use Rattle.probes.specs.declared.Probe.{Probe}
 use Rattle.probes.specs.declared.list.Seen.{Seen}
 use Rattle.probes.specs.Probes.{boxOk, boxesOk, meets, treesMet}
@@ -101,6 +102,28 @@ module _ (part : List ℕ) (probe : Probe) (met : ℕ) (start : List ℕ) (ready
   unfolding boxesOk
   list-box i h = record { tree = has-tree part probe (ready .surveyed) i h; sound = all-at (partCount part) (boxOk part) (ready .boxes) i h }
 
-  pub listed : {out : List ℕ} → out ≡ splice start 0 (keptBelow (partCount part) (meets probe part)) → out ≡ splice start 0 (treesMet part probe)
-  unfolding treesMet
-  listed e = e
+  pub list-start : Writing (meets probe part) (partCount part) start start 0 0
+  list-start = write-start (meets probe part) (partCount part) start list-room
+
+  module _ {out : List ℕ} {count i : ℕ} (w : Writing (meets probe part) (partCount part) start out count i) where
+    pub list-within : count < met → i < partCount part
+    list-within h = left-within (meets probe part) (partCount part) start w (omega (arith, ready .counted))
+
+    pub list-length : length out ≡ length start
+    list-length = write-length (meets probe part) (partCount part) start list-room out count i w
+
+    pub list-done : met ≤ count → out ≡ splice start 0 (treesMet part probe)
+    unfolding treesMet
+    list-done h = none-left (meets probe part) (partCount part) start w (omega (arith, ready .counted))
+
+    module _ (h : count < met) {here : Bool} (is : here ≡ meets probe part i) where
+      pub list-more : here ≡ true → Writing (meets probe part) (partCount part) start (set out count i) (count + 1) (i + 1)
+      list-more e = write-more (meets probe part) (partCount part) start list-room out count i w (list-within h) (sym is ∙ e)
+
+      pub list-skip : here ≡ false → Writing (meets probe part) (partCount part) start out count (i + 1)
+      list-skip e = write-skip (meets probe part) (partCount part) start list-room out count i w (list-within h) (sym is ∙ e)
+
+-- a local index is a u32
+pub trees-small : (part : List ℕ) → Bytes part → partCount part < 4294967296
+unfolding partCount
+trees-small part b = at-bound 4 part 20 b

@@ -1,6 +1,6 @@
-use Rattle.probes.proofs.Listing.{left-within, none-left, list-room, list-box, listed}
+use Rattle.probes.proofs.Listing.{list-box, list-start, list-within, list-length, list-done, list-more, list-skip, trees-small}
 use Rattle.probes.specs.Probes.{meets}
-use Rattle.pattern.proofs.Laws.{Writing, write-start, write-length, write-index, write-more, write-skip}
+use Rattle.pattern.proofs.Laws.{Writing}
 use Rattle.part.specs.Part.{partCount}
 use native.Mathlib.Omega.{arith}
 use Prim.Native.Nat.{_-_}
@@ -19,15 +19,15 @@ abbrev μ-loop : tie.MeasureT-loop
 
 -- src/list.rt:49:5
 loop-holds : tie.Need-loop-holds Inv-loop μ-loop
-loop-holds c = write-start _ _ _ (list-room _ _ _ _ (c .before .before .pre))
+loop-holds c = list-start _ _ _ _ (c .before .before .pre)
 
 -- src/list.rt:51:9
 add-i : tie.Need-add-i Inv-loop μ-loop
-add-i c = search needs
+add-i c = omega (arith, list-within _ _ _ _ (c .before .before .before .before .pre) (c .before .loop .inv) (c .loop-test .taken), trees-small (c .before .before .before .before .args .part .now) (λ i. c .before .before .before .shared-slice-known .given i .fits))
 
 -- src/list.rt:52:12
 meets-requires : tie.Need-meets-requires Inv-loop μ-loop
-meets-requires c κs = search needs
+meets-requires c κs = (list-box _ _ _ _ (c .before .before .before .before .pre) _ (list-within _ _ _ _ (c .before .before .before .before .pre) (c .before .loop .inv) (c .loop-test .taken)), c .before .before .before .before .pre .surveyed .probe-sound)
 
 -- src/list.rt:53:13
 mul-out : tie.Need-mul-out Inv-loop μ-loop
@@ -35,7 +35,7 @@ mul-out c = search needs
 
 -- src/list.rt:53:13
 slice-write-out : tie.Need-slice-write-out Inv-loop μ-loop
-slice-write-out c = search needs
+slice-write-out c = omega (arith, c .before .before .before .before .before .before .pre .room, c .before .before .loop-test .taken, list-length _ _ _ _ (c .before .before .before .before .before .before .pre) (c .before .before .before .loop .inv))
 
 -- src/list.rt:54:13
 add-count : tie.Need-add-count Inv-loop μ-loop
@@ -43,27 +43,27 @@ add-count c = search needs
 
 -- src/list.rt:49:5
 loop-less : tie.Need-loop-less Inv-loop μ-loop
-loop-less c = search needs
+loop-less c = omega (arith, list-within _ _ _ _ (c .before .before .before .before .before .before .pre) (c .before .before .before .loop .inv) (c .before .before .loop-test .taken))
 
 -- src/list.rt:49:5
 loop-again : tie.Need-loop-again Inv-loop μ-loop
-loop-again c = search needs
+loop-again c = list-more _ _ _ _ (c .before .before .before .before .before .before .pre) (c .before .before .before .loop .inv) (c .before .before .loop-test .taken) (c .before .meets .ensures) (c .if1 .taken)
 
 -- src/list.rt:49:5
 loop-less-2 : tie.Need-loop-less-2 Inv-loop μ-loop
-loop-less-2 c = search needs
+loop-less-2 c = omega (arith, list-within _ _ _ _ (c .before .before .before .before .before .before .pre) (c .before .before .before .loop .inv) (c .before .before .loop-test .taken))
 
 -- src/list.rt:49:5
 loop-again-2 : tie.Need-loop-again-2 Inv-loop μ-loop
-loop-again-2 c = search needs
+loop-again-2 c = list-skip _ _ _ _ (c .before .before .before .before .before .before .pre) (c .before .before .before .loop .inv) (c .before .before .loop-test .taken) (c .before .meets .ensures) (c .if1 .left)
 
 -- src/list.rt:42:1
 same-length : tie.Need-same-length Inv-loop μ-loop
-same-length c = search needs
+same-length c = list-length _ _ _ _ (c .before .before .before .before .pre) (c .before .loop .inv)
 
 -- src/list.rt:42:1
 returns : tie.Need-returns Inv-loop μ-loop
-returns c = search needs
+returns c = list-done _ _ _ _ (c .before .before .before .before .pre) (c .before .loop .inv) (c .loop-test .left)
 
 pub write-spec : {M : Type 1} → statement M
 write-spec =

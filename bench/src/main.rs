@@ -20,6 +20,7 @@ macro_rules! groups {
 
 groups! {
     part
+    probes
     message
     area
 }

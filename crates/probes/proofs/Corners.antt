@@ -9,7 +9,7 @@ use lib.Ieee.{Float, binary32, isNan, le, lt, nanBits, ofBits}
 use borrow.Author.Tests.{ltb-true}
 use Rattle.encoding.proofs.Below.{tests, either, and-fst, and-snd, all-at}
 use Rattle.probes.specs.declared.Probe.{Probe}
-use Rattle.probes.specs.declared.Probe.the-variants.{Point, Below, Between}
+use Rattle.probes.specs.declared.Probe.the-variants.{Point, HalfSpace, Slab}
 use Rattle.probes.specs.Probes.{boxNumber, low, high, axisOk, boxOk, probeOk, meets}
 use Rattle.probes.specs.Means.{boxBits}
 use Rattle.probes.proofs.Floats.{bits-float}
@@ -72,31 +72,31 @@ module _ {probe : Probe} {x y z : Float} (e : probe ≡ Point x y z) where
   unfolding meets
   point-meets part i a b c d f g = rw (e, a, b, c, d, f, g)
 
-module _ {probe : Probe} {axis : ℕ} {limit : Float} (e : probe ≡ Below axis limit) where
-  pub below-ok : {a : Bool} → a ≡ not (isNan limit) → (ltb axis 3 && a) ≡ probeOk probe
+module _ {probe : Probe} {axis : ℕ} {limit : Float} (e : probe ≡ HalfSpace axis limit) where
+  pub half-ok : {a : Bool} → a ≡ not (isNan limit) → (ltb axis 3 && a) ≡ probeOk probe
   unfolding probeOk
-  below-ok p = rw (e, p)
+  half-ok p = rw (e, p)
 
-  pub below-axis : probeOk probe ≡ true → axis < 3
+  pub half-axis : probeOk probe ≡ true → axis < 3
   unfolding probeOk
-  below-axis ok = ltb-true axis 3 (and-fst (ltb axis 3) (not (isNan limit)) (rw e at ok))
+  half-axis ok = ltb-true axis 3 (and-fst (ltb axis 3) (not (isNan limit)) (rw e at ok))
 
-  pub below-meets : (part : List ℕ) (i : ℕ) {l : Float} → l ≡ low part i axis → le l limit ≡ meets probe part i
+  pub half-meets : (part : List ℕ) (i : ℕ) {l : Float} → l ≡ low part i axis → le l limit ≡ meets probe part i
   unfolding meets
-  below-meets part i p = rw (e, p)
+  half-meets part i p = rw (e, p)
 
-module _ {probe : Probe} {axis : ℕ} {lower upper : Float} (e : probe ≡ Between axis lower upper) where
-  pub between-ok : {a b : Bool} → a ≡ not (isNan lower) → b ≡ not (isNan upper) → (ltb axis 3 && a && b && not (lt upper lower)) ≡ probeOk probe
+module _ {probe : Probe} {axis : ℕ} {lower upper : Float} (e : probe ≡ Slab axis lower upper) where
+  pub slab-ok : {a b : Bool} → a ≡ not (isNan lower) → b ≡ not (isNan upper) → (ltb axis 3 && a && b && not (lt upper lower)) ≡ probeOk probe
   unfolding probeOk
-  between-ok p q = rw (e, p, q)
+  slab-ok p q = rw (e, p, q)
 
-  pub between-axis : probeOk probe ≡ true → axis < 3
+  pub slab-axis : probeOk probe ≡ true → axis < 3
   unfolding probeOk
-  between-axis ok =
+  slab-axis ok =
       ltb-true axis 3
       (and-fst (ltb axis 3) (not (isNan lower))
       (and-fst (ltb axis 3 && not (isNan lower)) (not (isNan upper)) (and-fst (ltb axis 3 && not (isNan lower) && not (isNan upper)) (not (lt upper lower)) (rw e at ok))))
 
-  pub between-meets : (part : List ℕ) (i : ℕ) {l h : Float} → l ≡ low part i axis → h ≡ high part i axis → (le l upper && le lower h) ≡ meets probe part i
+  pub slab-meets : (part : List ℕ) (i : ℕ) {l h : Float} → l ≡ low part i axis → h ≡ high part i axis → (le l upper && le lower h) ≡ meets probe part i
   unfolding meets
-  between-meets part i p q = rw (e, p, q)
+  slab-meets part i p q = rw (e, p, q)

@@ -10,7 +10,7 @@ use Rattle.records.specs.Record.{coreSize}
 use Rattle.part.specs.Layout.{treePlace}
 use Rattle.part.specs.Part.{partCount}
 use Rattle.probes.specs.declared.Probe.{Probe}
-use Rattle.probes.specs.declared.Probe.the-variants.{Point, Below, Between}
+use Rattle.probes.specs.declared.Probe.the-variants.{Point, HalfSpace, Slab}
 
 -- the tree data of tree i is six f32: number k of them
 unfoldable pub boxNumber : List ℕ → ℕ → ℕ → Float
@@ -36,15 +36,15 @@ boxesOk part = allBelow (partCount part) (boxOk part)
 -- 31: a probe has no NaN, no axis above 2 and no lower limit above its upper
 unfoldable pub probeOk : Probe → Bool
 probeOk (Point x y z) = not (isNan x) && not (isNan y) && not (isNan z)
-probeOk (Below axis limit) = ltb axis 3 && not (isNan limit)
-probeOk (Between axis lower upper) = ltb axis 3 && not (isNan lower) && not (isNan upper) && not (lt upper lower)
+probeOk (HalfSpace axis limit) = ltb axis 3 && not (isNan limit)
+probeOk (Slab axis lower upper) = ltb axis 3 && not (isNan lower) && not (isNan upper) && not (lt upper lower)
 
 -- low ≤ value ≤ high on all axes; low ≤ limit; low ≤ upper limit and lower limit ≤ high
 unfoldable pub meets : Probe → List ℕ → ℕ → Bool
 meets (Point x y z) part i =
     le (low part i 0) x && le x (high part i 0) && le (low part i 1) y && le y (high part i 1) && le (low part i 2) z && le z (high part i 2)
-meets (Below axis limit) part i = le (low part i axis) limit
-meets (Between axis lower upper) part i = le (low part i axis) upper && le lower (high part i axis)
+meets (HalfSpace axis limit) part i = le (low part i axis) limit
+meets (Slab axis lower upper) part i = le (low part i axis) upper && le lower (high part i axis)
 
 -- the local indices of all trees met, ascending, each once
 unfoldable pub treesMet : List ℕ → Probe → List ℕ

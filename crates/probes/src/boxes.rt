@@ -64,8 +64,8 @@ pub fn probe_ok(probe: Probe) -> bool
 {
     match probe {
         Probe::Point(x, y, z) => float_ok(x) & float_ok(y) & float_ok(z),
-        Probe::Below(axis, limit) => (axis < 3) & float_ok(limit),
-        Probe::Between(axis, lower, upper) => {
+        Probe::HalfSpace(axis, limit) => (axis < 3) & float_ok(limit),
+        Probe::Slab(axis, lower, upper) => {
             (axis < 3) & float_ok(lower) & float_ok(upper) & !(upper < lower)
         }
     }
@@ -85,8 +85,8 @@ pub fn meets(part: &[u8], tree: LocalIndex, probe: Probe) -> bool
                 & (number_of(part, tree, 2) <= z)
                 & (z <= number_of(part, tree, 5))
         }
-        Probe::Below(axis, limit) => number_of(part, tree, axis) <= limit,
-        Probe::Between(axis, lower, upper) => {
+        Probe::HalfSpace(axis, limit) => number_of(part, tree, axis) <= limit,
+        Probe::Slab(axis, lower, upper) => {
             (number_of(part, tree, axis) <= upper) & (lower <= number_of(part, tree, 3 + axis))
         }
     }

@@ -8,8 +8,8 @@ mod list;
 // A point, a half space below a limit on an axis, or a slab between two limits on an axis, the lower one first.
 pub enum Probe {
     Point(f32, f32, f32),
-    Below(u32, f32),
-    Between(u32, f32, f32),
+    HalfSpace(u32, f32),
+    Slab(u32, f32, f32),
 }
 
 // How many trees are listed. When refused, `refusal` is the number of the first check that failed and the rest is 0.

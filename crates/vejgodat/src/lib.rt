@@ -336,9 +336,9 @@ pub extern "C" fn vejgodat_trees_below(
     limit: f32,
     out: &mut [u32],
 ) -> Listed
-    ensures { λ r. ⌜ (r, now (out .exit)) ≡ treesNear (now (part .entry)) (now (table .entry)) rank (Probe.Below axis limit) (now (out .entry)) ⌝ }
+    ensures { λ r. ⌜ (r, now (out .exit)) ≡ treesNear (now (part .entry)) (now (table .entry)) rank (Probe.HalfSpace axis limit) (now (out .entry)) ⌝ }
 {
-    probes::trees_near(part, table, rank, Probe::Below(axis, limit), out)
+    probes::trees_near(part, table, rank, Probe::HalfSpace(axis, limit), out)
 }
 
 #[no_mangle]
@@ -351,7 +351,7 @@ pub extern "C" fn vejgodat_trees_between(
     upper: f32,
     out: &mut [u32],
 ) -> Listed
-    ensures { λ r. ⌜ (r, now (out .exit)) ≡ treesNear (now (part .entry)) (now (table .entry)) rank (Probe.Between axis lower upper) (now (out .entry)) ⌝ }
+    ensures { λ r. ⌜ (r, now (out .exit)) ≡ treesNear (now (part .entry)) (now (table .entry)) rank (Probe.Slab axis lower upper) (now (out .entry)) ⌝ }
 {
-    probes::trees_near(part, table, rank, Probe::Between(axis, lower, upper), out)
+    probes::trees_near(part, table, rank, Probe::Slab(axis, lower, upper), out)
 }

@@ -1,4 +1,4 @@
-use Rattle.probes.proofs.Corners.{point-meets, below-axis, below-meets, between-axis, between-meets}
+use Rattle.probes.proofs.Corners.{point-meets, half-axis, half-meets, slab-axis, slab-meets}
 use native.Mathlib.Omega.{arith}
 use borrow.Author.Needs.{needs}
 use Rattle.probes.proofs.boxes.meets.Statement.{statement}
@@ -41,7 +41,7 @@ enum-known-probe-2 c = search needs
 
 -- src/boxes.rt:88:38
 number-of-requires-7 : tie.Need-number-of-requires-7
-number-of-requires-7 c κs = (c .before .before .before .before .pre .0, omega (arith, below-axis (c .before .probe2 .given .1) (c .before .before .before .before .pre .1)))
+number-of-requires-7 c κs = (c .before .before .before .before .pre .0, omega (arith, half-axis (c .before .probe2 .given .1) (c .before .before .before .before .pre .1)))
 
 -- src/boxes.rt:89:24
 enum-known-probe-3 : tie.Need-enum-known-probe-3
@@ -49,15 +49,15 @@ enum-known-probe-3 c = search needs
 
 -- src/boxes.rt:90:14
 number-of-requires-8 : tie.Need-number-of-requires-8
-number-of-requires-8 c κs = (c .before .before .before .before .pre .0, omega (arith, between-axis (c .before .probe3 .given .1) (c .before .before .before .before .pre .1)))
+number-of-requires-8 c κs = (c .before .before .before .before .pre .0, omega (arith, slab-axis (c .before .probe3 .given .1) (c .before .before .before .before .pre .1)))
 
 -- src/boxes.rt:90:86
 add-number-of : tie.Need-add-number-of
-add-number-of c = omega (arith, between-axis (c .before .before .probe3 .given .1) (c .before .before .before .before .before .pre .1))
+add-number-of c = omega (arith, slab-axis (c .before .before .probe3 .given .1) (c .before .before .before .before .before .pre .1))
 
 -- src/boxes.rt:90:64
 number-of-requires-9 : tie.Need-number-of-requires-9
-number-of-requires-9 c κs = (c .before .before .before .before .before .pre .0, omega (arith, between-axis (c .before .before .probe3 .given .1) (c .before .before .before .before .before .pre .1)))
+number-of-requires-9 c κs = (c .before .before .before .before .before .pre .0, omega (arith, slab-axis (c .before .before .probe3 .given .1) (c .before .before .before .before .before .pre .1)))
 
 -- src/boxes.rt:75:1
 returns : tie.Need-returns
@@ -65,11 +65,11 @@ returns c = point-meets (c .before .before .before .before .before .before .befo
 
 -- src/boxes.rt:75:1
 returns-2 : tie.Need-returns-2
-returns-2 c = below-meets (c .before .before .probe2 .given .1) _ _ (c .number-of7 .ensures)
+returns-2 c = half-meets (c .before .before .probe2 .given .1) _ _ (c .number-of7 .ensures)
 
 -- src/boxes.rt:75:1
 returns-3 : tie.Need-returns-3
-returns-3 c = between-meets (c .before .before .before .probe3 .given .1) _ _ (c .before .number-of8 .ensures) (c .number-of9 .ensures)
+returns-3 c = slab-meets (c .before .before .before .probe3 .given .1) _ _ (c .before .number-of8 .ensures) (c .number-of9 .ensures)
 
 pub meets-spec : {M : Type 1} → statement M
 meets-spec =

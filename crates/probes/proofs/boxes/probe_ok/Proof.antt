@@ -1,4 +1,4 @@
-use Rattle.probes.proofs.Corners.{point-ok, below-ok, between-ok}
+use Rattle.probes.proofs.Corners.{point-ok, half-ok, slab-ok}
 use borrow.Author.Needs.{needs}
 use Rattle.probes.proofs.boxes.probe_ok.Statement.{statement}
 use Rattle.probes.proofs.boxes.probe_ok.Tie as tie
@@ -48,11 +48,11 @@ returns c = point-ok (c .before .before .before .before .probe .given .1) (c .be
 
 -- src/boxes.rt:62:1
 returns-2 : tie.Need-returns-2
-returns-2 c = below-ok (c .before .before .probe2 .given .1) (c .float-ok4 .ensures)
+returns-2 c = half-ok (c .before .before .probe2 .given .1) (c .float-ok4 .ensures)
 
 -- src/boxes.rt:62:1
 returns-3 : tie.Need-returns-3
-returns-3 c = between-ok (c .before .before .before .probe3 .given .1) (c .before .float-ok5 .ensures) (c .float-ok6 .ensures)
+returns-3 c = slab-ok (c .before .before .before .probe3 .given .1) (c .before .float-ok5 .ensures) (c .float-ok6 .ensures)
 
 pub probe-ok-spec : {M : Type 1} → statement M
 probe-ok-spec =

@@ -1512,7 +1512,7 @@ vejgodat_length     vejgodat_table_from_blocks (uint32_t ranks,
  * of 32 bits, little-endian: the low corner on axes 0, 1 and 2, then the high
  * corner, in dimension 2 too. Ghosts have no box. All comparisons are those of
  * the floats themselves: -0 equals 0, and infinities are values like others.
- * No other call reads the tree data.
+ * No other call looks into the tree data.
  *
  * The three calls differ in the probe alone.
  * @{ */

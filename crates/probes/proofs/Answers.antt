@@ -1,9 +1,9 @@
 -- The checks of the call in their order, and what it answers.
-use Prim.Native.Nat.{ℕ, _+_, _*_, _≤_, _<_}
+use Prim.Native.Nat.{ℕ, _≤_, _<_}
 use native.Mathlib.Omega.{arith}
 use mathlib.Core.Path.{_≡_, refl, sym, ap, _∙_}
 use mathlib.Core.Bool.{Bool, true, false, cond}
-use mathlib.Core.List.{List, [], _∷_, _++_}
+use mathlib.Core.List.{List, [], _∷_}
 use lib.Dec.{ltb, leb}
 use lib.ListN.{length}
 use borrow.Author.Tests.{le-leb, lt-leb, ne-eqb}
@@ -13,7 +13,6 @@ use Rattle.encoding.specs.Pieces.{splice}
 use Rattle.encoding.specs.Refusal.{Check, check, firstFailed}
 use Rattle.encoding.proofs.Below.{clash, kept-length}
 use Rattle.offsets.specs.Table.{ranks, ranksOk, valid}
-use Rattle.part.specs.Layout.{treePlace}
 use Rattle.part.specs.Part.{partCount, partSound}
 use Rattle.part.specs.Checks.{rankChecks}
 use Rattle.part_check.specs.Calls.{partRefusal}

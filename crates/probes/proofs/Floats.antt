@@ -1,7 +1,7 @@
 -- Which floats are no NaN, by their bits and by comparison with themselves.
 use Prim.Native.Nat.{ℕ, _%_}
 use mathlib.Core.Path.{_≡_, refl, sym, ap, _∙_}
-use mathlib.Core.Bool.{Bool, true, false, not}
+use mathlib.Core.Bool.{Bool, true, not}
 use lib.Dec.{T, ltb}
 use lib.Ieee.{Float, nan, inf, fin, binary32, isNan, nanBits, ne, ofBits}
 use lib.Ieee.Bits.{nanBits-is, nanBits-above}

@@ -1,5 +1,5 @@
 -- Laws of the two passes over the trees.
-use Prim.Native.Nat.{ℕ, zero, suc, _+_, _*_, _≤_, _<_}
+use Prim.Native.Nat.{ℕ, zero, suc, _+_, _≤_, _<_}
 use native.Mathlib.Omega.{arith}
 use mathlib.Core.Path.{_≡_, refl, sym, ap, _∙_}
 use mathlib.Core.Bool.{Bool, true, false}
@@ -8,13 +8,11 @@ use lib.Dec.{ltb}
 use lib.ListN.{length, set}
 use Rattle.encoding.specs.Below.{allBelow, countBelow, keptBelow}
 use Rattle.encoding.specs.Pieces.{Bytes, splice}
-use Rattle.encoding.proofs.Below.{tests, either, all-more, all-fails, all-to, all-at, count-le, count-mono, count-lt, kept-length}
+use Rattle.encoding.proofs.Below.{tests, either, all-more, all-fails, all-at, count-le, count-mono, count-lt, kept-length}
 use Rattle.encoding.proofs.Numbers.{at-bound}
-use Rattle.part.specs.Layout.{treePlace}
 use Rattle.part.specs.Part.{partCount}
 use Rattle.pattern.proofs.Laws.{Writing, count-one, count-skip, write-start, write-length, write-more, write-skip}
 use Rattle.probes.specs.declared.Probe.{Probe}
-use Rattle.probes.specs.declared.list.Seen.{Seen}
 use Rattle.probes.specs.Probes.{boxOk, boxesOk, meets, treesMet}
 use Rattle.probes.specs.Means.{HasTree, HasBox, Surveyable, surveyOf, Listable}
 

@@ -1,17 +1,17 @@
 -- What the list of an accepted call holds, that n entries suffice, and that both zeros are compared alike.
-use Prim.Native.Nat.{ℕ, zero, suc, _+_, _*_, _≤_, _<_}
+use Prim.Native.Nat.{ℕ, zero, _+_, _*_, _≤_, _<_}
 use native.Mathlib.Omega.{arith}
 use mathlib.Core.Path.{_≡_, refl, sym, ap, _∙_}
-use mathlib.Core.Bool.{Bool, true, false, cond, not, _&&_, _||_}
+use mathlib.Core.Bool.{Bool, true, false, cond, _&&_, _||_}
 use mathlib.Core.List.{List}
 use lib.Dec.{ltb, leb, eqb}
-use lib.IntN.{ℤ, pos}
+use lib.IntN.{pos}
 use lib.Ieee.{Float, nan, inf, fin, up, down, below, level, binary32, le, lt, eq, ofBits, ofFields, odd}
 use lib.ListN.{length, getD, take}
 use lib.Seq.{getD-take}
 use borrow.Author.Tests.{eqb-true, leb-true, le-leb, le-ltb}
 use Rattle.encoding.specs.Answer.{written}
-use Rattle.encoding.specs.Below.{countBelow, keptBelow, member}
+use Rattle.encoding.specs.Below.{member}
 use Rattle.encoding.specs.Pieces.{splice}
 use Rattle.encoding.specs.Refusal.{firstFailed}
 use Rattle.encoding.proofs.Below.{either, clash, count-le, kept-length, kept-member, kept-ascends}

@@ -1,33 +1,22 @@
-use mathlib.Core.Path.{_∙_}
 use borrow.Author.Needs.{needs}
 use Rattle.probes.proofs.boxes.bits_of.Statement.{statement}
 use Rattle.probes.proofs.boxes.bits_of.Tie as tie
-use Rattle.probes.proofs.boxes.bits_of.Reads as reads
-use Rattle.probes.proofs.boxes.bits_of.Lts as lts
-use Rattle.encoding.proofs.bytes.read_u32.Reads as read-u32-reads
-use Rattle.part.proofs.layout.tree_at.Reads as tree-at-reads
 
--- src/boxes.rt:24:37
 tree-at-requires : tie.Need-tree-at-requires
 tree-at-requires c κs = search needs
 
--- src/boxes.rt:24:59
 mul-read-u32 : tie.Need-mul-read-u32
 mul-read-u32 c = search needs
 
--- src/boxes.rt:24:54
 add-read-u32 : tie.Need-add-read-u32
 add-read-u32 c = search needs
 
--- src/boxes.rt:24:37
 add-read-u32-2 : tie.Need-add-read-u32-2
 add-read-u32-2 c = search needs
 
--- src/boxes.rt:24:5
 read-u32-requires : tie.Need-read-u32-requires
 read-u32-requires c κs = search needs
 
--- src/boxes.rt:20:1
 returns : tie.Need-returns
 returns c = rw (← c .before .tree-at .ensures) (c .read-u32 .ensures)
 

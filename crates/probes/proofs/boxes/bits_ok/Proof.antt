@@ -1,10 +1,7 @@
 use Rattle.probes.proofs.Floats.{bits-number}
 use Rattle.probes.proofs.boxes.bits_ok.Statement.{statement}
 use Rattle.probes.proofs.boxes.bits_ok.Tie as tie
-use Rattle.probes.proofs.boxes.bits_ok.Reads as reads
-use Rattle.probes.proofs.boxes.bits_ok.Lts as lts
 
--- src/boxes.rt:13:1
 returns : tie.Need-returns
 returns c = bits-number _
 

@@ -2,19 +2,13 @@ use Rattle.probes.proofs.Corners.{box-float, box-read}
 use borrow.Author.Needs.{needs}
 use Rattle.probes.proofs.boxes.number_of.Statement.{statement}
 use Rattle.probes.proofs.boxes.number_of.Tie as tie
-use Rattle.probes.proofs.boxes.number_of.Reads as reads
-use Rattle.probes.proofs.boxes.number_of.Lts as lts
-use Rattle.probes.proofs.boxes.bits_of.Reads as bits-of-reads
 
--- src/boxes.rt:32:20
 bits-of-requires : tie.Need-bits-of-requires
 bits-of-requires c κs = search needs
 
--- src/boxes.rt:32:5
 float-from-bits-result : tie.Need-float-from-bits-result
 float-from-bits-result c = box-float _ _ (c .before .before .pre .0 .sound) _ (c .before .before .pre .1) _ (c .bits-of .ensures)
 
--- src/boxes.rt:28:1
 returns : tie.Need-returns
 returns c = box-read _ _ _ (c .bits-of .ensures)
 

@@ -101,7 +101,16 @@ fn probe_rows(power: u32, mesh: &[u8]) {
     let inside = |corners: [f32; 6]| (0..3).all(|axis| corners[axis] <= at[axis] && at[axis] <= corners[3 + axis]);
     let library = |part: &[u8], out: &mut [u32]| unsafe {
         vejgodat_trees_at_point(
-            part.as_ptr(), part.len(), table.as_ptr(), table.len(), rank, at[0], at[1], at[2], out.as_mut_ptr(), out.len(),
+            part.as_ptr(),
+            part.len(),
+            table.as_ptr(),
+            table.len(),
+            rank,
+            at[0],
+            at[1],
+            at[2],
+            out.as_mut_ptr(),
+            out.len(),
         )
     };
     let got = library(part, &mut a);
@@ -123,7 +132,15 @@ fn probe_rows(power: u32, mesh: &[u8]) {
     let below = |corners: [f32; 6]| corners[1] <= limit;
     let library = |part: &[u8], out: &mut [u32]| unsafe {
         vejgodat_trees_below(
-            part.as_ptr(), part.len(), table.as_ptr(), table.len(), rank, 1, limit, out.as_mut_ptr(), out.len(),
+            part.as_ptr(),
+            part.len(),
+            table.as_ptr(),
+            table.len(),
+            rank,
+            1,
+            limit,
+            out.as_mut_ptr(),
+            out.len(),
         )
     };
     let got = library(part, &mut a);

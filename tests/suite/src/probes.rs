@@ -67,11 +67,11 @@ extern "C" {
 #[derive(Clone, Copy, Debug)]
 enum Probe {
     Point([u32; 3]),
-    Below(u32, u32),
-    Between(u32, u32, u32),
+    HalfSpace(u32, u32),
+    Slab(u32, u32, u32),
 }
 
-use Probe::{Below, Between, Point};
+use Probe::{HalfSpace, Point, Slab};
 
 const ZERO: u32 = 0;
 const MINUS_ZERO: u32 = 0x8000_0000;
@@ -116,13 +116,14 @@ fn standing(bits: u32) -> Option<i64> {
     }
 }
 
-type Slab = [i64; 2];
+/// From the lower to the higher, both included.
+type Span = [i64; 2];
 
 /// What a probe asks of each axis; 31 where it asks nothing sensible.
-fn asked(probe: Probe) -> Answer<[Slab; 3]> {
+fn asked(probe: Probe) -> Answer<[Span; 3]> {
     let all = [i64::MIN, i64::MAX];
     let number = |bits| standing(bits).ok_or(31_u32);
-    let on = |axis: u32, slab: Slab| {
+    let on = |axis: u32, slab: Span| {
         let mut slabs = [all; 3];
         *slabs.get_mut(axis as usize).ok_or(31_u32)? = slab;
         Ok(slabs)
@@ -135,8 +136,8 @@ fn asked(probe: Probe) -> Answer<[Slab; 3]> {
             }
             Ok(slabs)
         }
-        Below(axis, limit) => on(axis, [i64::MIN, number(limit)?]),
-        Between(axis, lower, upper) => {
+        HalfSpace(axis, limit) => on(axis, [i64::MIN, number(limit)?]),
+        Slab(axis, lower, upper) => {
             let slab = [number(lower)?, number(upper)?];
             if slab[0] > slab[1] {
                 return Err(31);
@@ -147,7 +148,7 @@ fn asked(probe: Probe) -> Answer<[Slab; 3]> {
 }
 
 /// The box of each tree, low and high on each axis; 32 where one is none.
-fn boxes(part: &[u8]) -> Answer<Vec<[Slab; 3]>> {
+fn boxes(part: &[u8]) -> Answer<Vec<[Span; 3]>> {
     let trees = part[HEADER..].chunks(TREE).take(number_at(part, 20) as usize);
     trees
         .map(|record| {
@@ -171,7 +172,7 @@ fn near(part: &[u8], table: &[u8], rank: u32, probe: Probe, room: usize) -> Answ
         refusal => return Err(refusal),
     }
     let slabs = asked(probe)?;
-    let meets = |corners: &[Slab; 3]| {
+    let meets = |corners: &[Span; 3]| {
         corners.iter().zip(slabs).all(|(&[low, high], [lower, upper])| low <= upper && lower <= high)
     };
     let met: Vec<u32> = (0..).zip(&boxes(part)?).filter(|(_, corners)| meets(corners)).map(|(tree, _)| tree).collect();
@@ -194,19 +195,45 @@ impl Calls {
                 Point([x, y, z]) => (
                     "trees_at_point",
                     vejgodat_trees_at_point(
-                        part_at, part_len, table_at, table_len, rank, float(x), float(y), float(z), out, out_len,
+                        part_at,
+                        part_len,
+                        table_at,
+                        table_len,
+                        rank,
+                        float(x),
+                        float(y),
+                        float(z),
+                        out,
+                        out_len,
                     ),
                 ),
-                Below(axis, limit) => (
+                HalfSpace(axis, limit) => (
                     "trees_below",
                     vejgodat_trees_below(
-                        part_at, part_len, table_at, table_len, rank, axis, float(limit), out, out_len,
+                        part_at,
+                        part_len,
+                        table_at,
+                        table_len,
+                        rank,
+                        axis,
+                        float(limit),
+                        out,
+                        out_len,
                     ),
                 ),
-                Between(axis, lower, upper) => (
+                Slab(axis, lower, upper) => (
                     "trees_between",
                     vejgodat_trees_between(
-                        part_at, part_len, table_at, table_len, rank, axis, float(lower), float(upper), out, out_len,
+                        part_at,
+                        part_len,
+                        table_at,
+                        table_len,
+                        rank,
+                        axis,
+                        float(lower),
+                        float(upper),
+                        out,
+                        out_len,
                     ),
                 ),
             }
@@ -267,11 +294,11 @@ fn odd_values(run: &mut Run) {
             for &value in &values {
                 let mut point = [ONE, ZERO, MINUS_ZERO];
                 point[axis as usize] = value;
-                for probe in [Point(point), Below(axis, value), Below((axis + 1) % 3, value)] {
+                for probe in [Point(point), HalfSpace(axis, value), HalfSpace((axis + 1) % 3, value)] {
                     met += run.calls.trees_near(&part, &table, 0, probe, &[7]).0.count;
                 }
                 for &upper in &values {
-                    met += run.calls.trees_near(&part, &table, 0, Between(axis, value, upper), &[7]).0.count;
+                    met += run.calls.trees_near(&part, &table, 0, Slab(axis, value, upper), &[7]).0.count;
                 }
             }
         }
@@ -291,11 +318,11 @@ fn some_number(random: &mut Random) -> u32 {
 fn some_probe(random: &mut Random) -> Probe {
     match random.below(3) {
         0 => Point([(); 3].map(|()| some_number(random))),
-        1 => Below(random.number(0, 2), some_number(random)),
+        1 => HalfSpace(random.number(0, 2), some_number(random)),
         _ => {
             let mut limits = [some_number(random), some_number(random)];
             limits.sort_by_key(|&bits| standing(bits));
-            Between(random.number(0, 2), limits[0], limits[1])
+            Slab(random.number(0, 2), limits[0], limits[1])
         }
     }
 }
@@ -308,11 +335,11 @@ fn spoilt_probe(random: &mut Random) -> Probe {
             at[random.below(3) as usize] = nan;
             Point(at)
         }
-        (Below(axis, _), 0) => Below(axis, nan),
-        (Below(_, limit), _) => Below(random.pick(&[3, 4, 255, 256, 1 << 31, u32::MAX]), limit),
-        (Between(axis, _, upper), 0) => Between(axis, nan, upper),
-        (Between(axis, lower, upper), 1) => Between(axis, upper, lower),
-        (Between(_, lower, upper), _) => Between(random.pick(&[3, 6, u32::MAX]), lower, upper),
+        (HalfSpace(axis, _), 0) => HalfSpace(axis, nan),
+        (HalfSpace(_, limit), _) => HalfSpace(random.pick(&[3, 4, 255, 256, 1 << 31, u32::MAX]), limit),
+        (Slab(axis, _, upper), 0) => Slab(axis, nan, upper),
+        (Slab(axis, lower, upper), 1) => Slab(axis, upper, lower),
+        (Slab(_, lower, upper), _) => Slab(random.pick(&[3, 6, u32::MAX]), lower, upper),
     }
 }
 
@@ -373,7 +400,8 @@ fn any_bits(run: &mut Run) {
     run.cases(3_000, |random, calls| {
         let (part, table, rank) = random_part(random);
         let mut bits = || random.next() as u32;
-        for probe in [Point([bits(), bits(), bits()]), Below(bits() % 4, bits()), Between(bits() % 4, bits(), bits())] {
+        for probe in [Point([bits(), bits(), bits()]), HalfSpace(bits() % 4, bits()), Slab(bits() % 4, bits(), bits())]
+        {
             calls.trees_near(&part, &table, rank, probe, &[5; 60]);
         }
     });
@@ -391,12 +419,12 @@ fn slabs(run: &mut Run) {
             list[..got.count as usize].to_vec()
         };
         let point = listed(Point(at));
-        let slabs = [0, 1, 2].map(|axis| listed(Between(axis as u32, at[axis], at[axis])));
+        let slabs = [0, 1, 2].map(|axis| listed(Slab(axis as u32, at[axis], at[axis])));
         let in_all: Vec<u32> =
             slabs[0].iter().copied().filter(|tree| slabs[1].contains(tree) && slabs[2].contains(tree)).collect();
         assert_eq!(point, in_all);
-        let below = listed(Below(1, at[1]));
-        assert_eq!(below, listed(Between(1, MINUS_INFINITY, at[1])));
+        let below = listed(HalfSpace(1, at[1]));
+        assert_eq!(below, listed(Slab(1, MINUS_INFINITY, at[1])));
         met += point.len();
     });
     assert!(met > 100, "{met} trees at points");
@@ -411,16 +439,16 @@ fn by_hand(run: &mut Run) {
     // the side where both meet belongs to both; -0 equals 0
     for zero in [ZERO, MINUS_ZERO] {
         assert_eq!(near(&part, Point([zero, zero, ONE]), 2), (0, vec![0, 1]));
-        assert_eq!(near(&part, Below(0, zero), 5), (0, vec![0, 1]));
-        assert_eq!(near(&part, Between(0, zero, MINUS_ZERO), 2), (0, vec![0, 1]));
+        assert_eq!(near(&part, HalfSpace(0, zero), 5), (0, vec![0, 1]));
+        assert_eq!(near(&part, Slab(0, zero, MINUS_ZERO), 2), (0, vec![0, 1]));
     }
-    assert_eq!(near(&part, Between(0, 1, ONE), 2), (0, vec![1]));
-    assert_eq!(near(&part, Below(0, 0x8000_0001), 1), (0, vec![0]));
-    assert_eq!(near(&part, Below(0, MINUS_INFINITY), 0), (0, vec![]));
+    assert_eq!(near(&part, Slab(0, 1, ONE), 2), (0, vec![1]));
+    assert_eq!(near(&part, HalfSpace(0, 0x8000_0001), 1), (0, vec![0]));
+    assert_eq!(near(&part, HalfSpace(0, MINUS_INFINITY), 0), (0, vec![]));
     assert_eq!(near(&part, Point([MINUS_ONE, ONE, ONE]), 1), (0, vec![0]));
     // one short
-    assert_eq!(near(&part, Below(1, INFINITY), 2), (0, vec![0, 1]));
-    assert_eq!(near(&part, Below(1, INFINITY), 1), (22, vec![]));
+    assert_eq!(near(&part, HalfSpace(1, INFINITY), 2), (0, vec![0, 1]));
+    assert_eq!(near(&part, HalfSpace(1, INFINITY), 1), (22, vec![]));
     // a bad box in the tree that isn't met, and in both corners on each axis
     for corner in 0..6 {
         for (tree, probe) in [(0, Point([ONE; 3])), (1, Point([MINUS_ONE, ONE, ONE]))] {
@@ -429,18 +457,18 @@ fn by_hand(run: &mut Run) {
                 put(&mut part, HEADER + TREE * tree + 40 + 4 * corner, nan);
                 assert_eq!(near(&part, probe, 0), (32, vec![]));
                 // a bad probe comes first
-                assert_eq!(near(&part, Below(3, ZERO), 0), (31, vec![]));
+                assert_eq!(near(&part, HalfSpace(3, ZERO), 0), (31, vec![]));
                 assert_eq!(near(&part, Point([ZERO, ZERO, nan]), 0), (31, vec![]));
-                assert_eq!(near(&part, Between(0, ONE, ZERO), 0), (31, vec![]));
+                assert_eq!(near(&part, Slab(0, ONE, ZERO), 0), (31, vec![]));
             }
         }
     }
     // low above high by the least there is, then equal
     let mut part = part;
     put_box(&mut part, HEADER + TREE, [ONE, ONE, ONE + 1], [ONE; 3]);
-    assert_eq!(near(&part, Below(0, MINUS_ONE), 2), (32, vec![]));
+    assert_eq!(near(&part, HalfSpace(0, MINUS_ONE), 2), (32, vec![]));
     put_box(&mut part, HEADER + TREE, [ONE, ONE, ONE], [ONE; 3]);
-    assert_eq!(near(&part, Below(0, MINUS_ONE), 2), (0, vec![0]));
+    assert_eq!(near(&part, HalfSpace(0, MINUS_ONE), 2), (0, vec![0]));
     assert_eq!(near(&part, Point([ONE; 3]), 2), (0, vec![1]));
 }
 
@@ -450,10 +478,10 @@ fn no_trees(run: &mut Run) {
     assert_eq!(number_at(&part, 20), 0);
     for (probe, refusal) in [
         (Point([ZERO; 3]), 0),
-        (Below(2, INFINITY), 0),
-        (Between(0, ONE, ONE), 0),
-        (Below(3, ZERO), 31),
-        (Between(u32::MAX, ZERO, ZERO), 31),
+        (HalfSpace(2, INFINITY), 0),
+        (Slab(0, ONE, ONE), 0),
+        (HalfSpace(3, ZERO), 31),
+        (Slab(u32::MAX, ZERO, ZERO), 31),
         (Point([ZERO, NANS[0], ZERO]), 31),
     ] {
         for room in [0, 2] {
@@ -474,10 +502,10 @@ fn refusals(run: &mut Run) {
     let probes = [
         (Point([ZERO; 3]), false),
         (Point([ZERO, ZERO, NANS[3]]), true),
-        (Below(2, ONE), false),
-        (Below(3, ONE), true),
-        (Between(1, ZERO, ONE), false),
-        (Between(1, ONE, ZERO), true),
+        (HalfSpace(2, ONE), false),
+        (HalfSpace(3, ONE), true),
+        (Slab(1, ZERO, ONE), false),
+        (Slab(1, ONE, ZERO), true),
     ];
     for (table_given, fails) in kinds().into_iter().chain([(table.clone(), 0)]) {
         for rank in [1, 2, 1_024, u32::MAX] {
@@ -513,7 +541,7 @@ fn each_byte(run: &mut Run) {
         for change in [1, 16, 128, 255] {
             let mut part = part.clone();
             part[at] ^= change;
-            for probe in [Point([ZERO; 3]), Below(0, ZERO), Between(2, ONE, ONE)] {
+            for probe in [Point([ZERO; 3]), HalfSpace(0, ZERO), Slab(2, ONE, ONE)] {
                 let (got, _) = run.calls.trees_near(&part, &table, 1, probe, &[8, 8, 8]);
                 accepted += u32::from(got.refusal == 0);
             }
@@ -534,10 +562,10 @@ fn many_trees(run: &mut Run) {
     let before = vec![u32::MAX; trees];
     for probe in [
         Point([(1_234.0_f32).to_bits(), ONE, ZERO]),
-        Below(0, (99_999.5_f32).to_bits()),
-        Below(0, INFINITY),
-        Between(0, (199_998.0_f32).to_bits(), INFINITY),
-        Between(1, 0x3f80_0001, INFINITY),
+        HalfSpace(0, (99_999.5_f32).to_bits()),
+        HalfSpace(0, INFINITY),
+        Slab(0, (199_998.0_f32).to_bits(), INFINITY),
+        Slab(1, 0x3f80_0001, INFINITY),
     ] {
         run.calls.trees_near(&part, &table, 1, probe, &before);
         run.calls.trees_near(&part, &table, 1, probe, &before[1..]);

@@ -228,7 +228,7 @@
  *
  * Each call checks its input itself and returns a refusal: 0, or the number of
  * the first check that fails. The checks come in the order 2, 30, 3 to 8, 24,
- * 23, 25, 9 to 22, and each is made of all arguments before the next one is
+ * 23, 25, 31, 32, 9 to 22, and each is made of all arguments before the next one is
  * made of any: of two tables, a bad length (2) decides before bad entries (3),
  * whichever of the two has them. The numbers of this header's calls are those
  * of \ref VEJGODAT_OK and the names that follow it, and
@@ -357,10 +357,16 @@ enum
                                      early, has bytes left or goes too deep. */
   VEJGODAT_SHAPE = 24,          /**< A shape has no refinement strings. */
   VEJGODAT_LEAVES = 25,         /**< A tree has too many leaves. */
-  VEJGODAT_WEIGHTS = 30         /**< All weights are 0, or one is above
+  VEJGODAT_WEIGHTS = 30,        /**< All weights are 0, or one is above
                                      \ref VEJGODAT_MAX_WEIGHT. Checked after
                                      \ref VEJGODAT_RANKS (2) and before
                                      \ref VEJGODAT_PARTITION (6). */
+  VEJGODAT_PROBE = 31,          /**< A probe has a NaN, an axis above 2 or a
+                                     lower limit above its upper. Checked after
+                                     \ref VEJGODAT_PART (8) and before
+                                     \ref VEJGODAT_BUFFER (22), as the next. */
+  VEJGODAT_BOX = 32             /**< A tree's box has a NaN or low above
+                                     high. */
 };
 
 /** Say what a refusal means, as part of a sentence without its full stop.
@@ -432,6 +438,11 @@ vejgodat_refusal_text (uint32_t refusal)
     return "a tree has over 16,777,216 leaves";
   case VEJGODAT_WEIGHTS:
     return "all weights are 0, or one is above 65,535";
+  case VEJGODAT_PROBE:
+    return "the probe has a NaN, an axis above 2 or a lower limit above its"
+      " upper";
+  case VEJGODAT_BOX:
+    return "a tree's box has a NaN or low above high";
   default:
     return refusal <= 33 ? "reserved: no call of this version gives it"
       : "no refusal of this library";
@@ -1490,6 +1501,104 @@ vejgodat_length     vejgodat_table_from_blocks (uint32_t ranks,
                                                 size_t sums_len,
                                                 uint8_t * out,
                                                 size_t out_len)
+  VEJGODAT_USE_RESULT;
+
+/** @} */
+
+/** \name Probes
+ *
+ * In a mesh whose tree data are boxes, the trees near a probe can be listed.
+ * The 24 bytes of tree data, at byte 40 of a tree record, are then six floats
+ * of 32 bits, little-endian: the low corner on axes 0, 1 and 2, then the high
+ * corner, in dimension 2 too. Ghosts have no box. All comparisons are those of
+ * the floats themselves: -0 equals 0, and infinities are values like others.
+ * No other call looks into the tree data.
+ *
+ * The three calls differ in the probe alone.
+ * @{ */
+
+/** List the trees whose box has a point: low <= value <= high on all axes.
+ *
+ * Checks, in this order: those of \ref vejgodat_check_part (2, 3, 5, 8);
+ * \ref VEJGODAT_PROBE (31) if \a x, \a y or \a z is a NaN; \ref VEJGODAT_BOX
+ * (32) if the box of a tree of the part, met or not, has a NaN or low above high
+ * on an axis; \ref VEJGODAT_BUFFER (22) if \a out_len is below the number of
+ * trees met; n entries are always enough.
+ * Cost: that of \ref vejgodat_check_part, one pass over the trees, and another
+ * up to the last tree met.
+ *
+ * \param [in] part       Any bytes. Not changed.
+ * \param [in] part_len   The number of its bytes.
+ * \param [in] table      Any bytes. Not changed.
+ * \param [in] table_len  The number of its bytes.
+ * \param [in] rank       A rank; any number.
+ * \param [in] x          The point on axis 0; any float.
+ * \param [in] y          On axis 1; any float.
+ * \param [in] z          On axis 2; any float.
+ * \param [out] out       Its first entries become the local indices of the
+ *                        trees met, ascending; the entries behind them stay.
+ *                        When refused, all of them stay.
+ * \param [in] out_len    The number of entries, not bytes, of \a out.
+ * \return                How many trees are met.
+ */
+vejgodat_count      vejgodat_trees_at_point (const uint8_t * part,
+                                             size_t part_len,
+                                             const uint8_t * table,
+                                             size_t table_len, uint32_t rank,
+                                             float x, float y, float z,
+                                             uint32_t * out, size_t out_len)
+  VEJGODAT_USE_RESULT;
+
+/** List the trees whose box reaches below a limit on an axis: low <= limit.
+ *
+ * Checks and cost: those of \ref vejgodat_trees_at_point;
+ * \ref VEJGODAT_PROBE (31) if \a axis is above 2 or \a limit is a NaN.
+ *
+ * \param [in] part       Any bytes. Not changed.
+ * \param [in] part_len   The number of its bytes.
+ * \param [in] table      Any bytes. Not changed.
+ * \param [in] table_len  The number of its bytes.
+ * \param [in] rank       A rank; any number.
+ * \param [in] axis       The axis; any number.
+ * \param [in] limit      The limit; any float.
+ * \param [out] out       As for \ref vejgodat_trees_at_point.
+ * \param [in] out_len    The number of entries, not bytes, of \a out.
+ * \return                How many trees are met.
+ */
+vejgodat_count      vejgodat_trees_below (const uint8_t * part,
+                                          size_t part_len,
+                                          const uint8_t * table,
+                                          size_t table_len, uint32_t rank,
+                                          uint32_t axis, float limit,
+                                          uint32_t * out, size_t out_len)
+  VEJGODAT_USE_RESULT;
+
+/** List the trees whose box meets a slab between two limits on an axis:
+ * low <= upper and lower <= high.
+ *
+ * Checks and cost: those of \ref vejgodat_trees_at_point;
+ * \ref VEJGODAT_PROBE (31) if \a axis is above 2, a limit is a NaN or
+ * \a lower is above \a upper.
+ *
+ * \param [in] part       Any bytes. Not changed.
+ * \param [in] part_len   The number of its bytes.
+ * \param [in] table      Any bytes. Not changed.
+ * \param [in] table_len  The number of its bytes.
+ * \param [in] rank       A rank; any number.
+ * \param [in] axis       The axis; any number.
+ * \param [in] lower      The lower limit; any float.
+ * \param [in] upper      The upper limit; any float.
+ * \param [out] out       As for \ref vejgodat_trees_at_point.
+ * \param [in] out_len    The number of entries, not bytes, of \a out.
+ * \return                How many trees are met.
+ */
+vejgodat_count      vejgodat_trees_between (const uint8_t * part,
+                                            size_t part_len,
+                                            const uint8_t * table,
+                                            size_t table_len, uint32_t rank,
+                                            uint32_t axis, float lower,
+                                            float upper,
+                                            uint32_t * out, size_t out_len)
   VEJGODAT_USE_RESULT;
 
 /** @} */

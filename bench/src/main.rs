@@ -22,6 +22,7 @@ mod checking;
 
 groups! {
     part
+    probes
     message
     area
     ranks

@@ -124,6 +124,15 @@ TAKE_LENGTH (close_area,
 TAKE (region_counts,
       vejgodat_region_counts (part, part_len, OLD, 0, counts,
                               VEJGODAT_REGIONS))
+TAKE_LENGTH (trees_at_point,
+             vejgodat_trees_at_point (part, part_len, OLD, 0, 0, 0, 0, counts,
+                                      VEJGODAT_REGIONS))
+TAKE_LENGTH (trees_below,
+             vejgodat_trees_below (part, part_len, OLD, 0, 0, 1, counts,
+                                   VEJGODAT_REGIONS))
+TAKE_LENGTH (trees_between,
+             vejgodat_trees_between (part, part_len, OLD, 0, 2, 0, 1, counts,
+                                     VEJGODAT_REGIONS))
 TAKE_LENGTH (table_from_weights,
              vejgodat_table_from_weights (count, 2, leaves, TREES, OLD))
 TAKE_LENGTH (table_from_blocks,
@@ -178,6 +187,7 @@ main (void)
     CALL (area_length), CALL (open_area), CALL (deliver),
     CALL (progress_of), CALL (part_of_area_length), CALL (close_area),
     CALL (region_counts),
+    CALL (trees_at_point), CALL (trees_below), CALL (trees_between),
     CALL (table_from_weights), CALL (table_from_blocks)
   };
   size_t              i, used, base, most = 0;

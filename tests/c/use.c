@@ -732,6 +732,62 @@ regions (void)
   EXPECT (vejgodat_check_mesh (mesh, sizeof mesh) == VEJGODAT_MESH);
 }
 
+/* The three triangles with boxes side by side on axis 0, from 0 to 1, 1 to 2 and 2 to 3. */
+static void
+probes (void)
+{
+  static const int64_t entries[4] = { 0, -1, 2, 3 };
+  static const uint8_t corners[4][4] = {
+    {0, 0, 0, 0}, {0, 0, 0x80, 0x3f}, {0, 0, 0, 0x40}, {0, 0, 0x40, 0x40}
+  };
+  uint8_t             mesh[VEJGODAT_MESH_BYTES (3)], table[32];
+  uint8_t             part[32 + 2 * 64 + 40];
+  uint32_t            out[3] = { 9, 9, 9 };
+  vejgodat_count      answer;
+  float               zero = 0, nan;
+  int                 tree, at;
+
+  put_triangles (mesh);
+  put_table (table, 3, entries);
+  for (tree = 0; tree < 3; ++tree) {
+    for (at = 0; at < 6; ++at) {
+      memcpy (mesh + 8 + 64 * tree + 40 + 4 * at,
+              corners[at == 0 ? tree : at == 3 ? tree + 1 : at / 3], 4);
+    }
+  }
+  EXPECT (vejgodat_cut_part (mesh, sizeof mesh, table, 32, 1, part,
+                             sizeof part).length == sizeof part);
+
+#define PART part, sizeof part, table, 32, 1
+  answer = vejgodat_trees_at_point (PART, 1, 0.5, 1, out, 1);
+  EXPECT (answer.refusal == VEJGODAT_BUFFER && answer.count == 0);
+  answer = vejgodat_trees_at_point (PART, 1, 0.5, 1, out, 3);
+  EXPECT (answer.refusal == VEJGODAT_OK && answer.count == 2);
+  EXPECT (out[0] == 0 && out[1] == 1 && out[2] == 9);
+  answer = vejgodat_trees_at_point (PART, 1, 0.5, 1.5, out, 0);
+  EXPECT (answer.refusal == VEJGODAT_OK && answer.count == 0);
+  answer = vejgodat_trees_below (PART, 0, -zero, out, 2);
+  EXPECT (answer.refusal == VEJGODAT_OK && answer.count == 1);
+  EXPECT (out[0] == 0 && out[1] == 1);
+  answer = vejgodat_trees_below (PART, 3, 0, out, 2);
+  EXPECT (answer.refusal == VEJGODAT_PROBE && answer.count == 0);
+  answer = vejgodat_trees_between (PART, 0, 1.5, 9, out, 2);
+  EXPECT (answer.refusal == VEJGODAT_OK && answer.count == 1);
+  EXPECT (out[0] == 1);
+  answer = vejgodat_trees_between (PART, 0, 9, 1.5, out, 2);
+  EXPECT (answer.refusal == VEJGODAT_PROBE && answer.count == 0);
+
+  /* a box that no probe meets must be sound, too */
+  memset (part + 32 + 64 + 40, 0xff, 4);
+  memcpy (&nan, part + 32 + 64 + 40, 4);
+  answer = vejgodat_trees_below (PART, 0, 0.5, out, 2);
+  EXPECT (answer.refusal == VEJGODAT_BOX && answer.count == 0);
+  answer = vejgodat_trees_at_point (PART, 0, nan, 0, out, 2);
+  EXPECT (answer.refusal == VEJGODAT_PROBE && answer.count == 0);
+  EXPECT (out[0] == 1 && out[1] == 1 && out[2] == 9);
+#undef PART
+}
+
 /* Leaves for ranks of unequal speed. */
 static void
 table_from_weights (void)
@@ -815,6 +871,7 @@ main (void)
   areas ();
   refinements ();
   regions ();
+  probes ();
   table_from_weights ();
   table_from_blocks ();
   return wrong == 0 ? 0 : 1;

@@ -17,6 +17,7 @@ ghost use Rattle.part_neighbour.specs.Neighbour.{flatAnswer};
 ghost use Rattle.refinement.specs.Calls.{countLeaves, leafCounts};
 ghost use Rattle.pattern.specs.Calls.{senderOf, treesSent, sendSetOf, receiveSetOf};
 ghost use Rattle.regions.specs.Calls.{regionCountsOf};
+ghost use Rattle.probes.specs.Calls.{treesNear};
 use area_open::Progress;
 use encoding::answer::Length;
 use lookup::Found;
@@ -24,6 +25,8 @@ use offsets::Range;
 use part_neighbour::link::NeighbourAnswer;
 use pattern::Ranks;
 use pattern::SenderAnswer;
+use probes::Listed;
+use probes::Probe;
 use records::index::GlobalIndex;
 use records::index::LocalIndex;
 use refinement::Count;
@@ -307,4 +310,48 @@ pub extern "C" fn vejgodat_table_from_blocks(
     ensures { λ r. ⌜ (r, now (out .exit)) ≡ tableFromBlocks ranks (now (leaves .entry)) (now (sums .entry)) (now (out .entry)) ⌝ }
 {
     leaves::table_from_blocks(ranks, leaves, sums, out)
+}
+
+#[no_mangle]
+pub extern "C" fn vejgodat_trees_at_point(
+    part: &[u8],
+    table: &[u8],
+    rank: u32,
+    x: f32,
+    y: f32,
+    z: f32,
+    out: &mut [u32],
+) -> Listed
+    ensures { λ r. ⌜ (r, now (out .exit)) ≡ treesNear (now (part .entry)) (now (table .entry)) rank (Probe.Point x y z) (now (out .entry)) ⌝ }
+{
+    probes::trees_near(part, table, rank, Probe::Point(x, y, z), out)
+}
+
+#[no_mangle]
+pub extern "C" fn vejgodat_trees_below(
+    part: &[u8],
+    table: &[u8],
+    rank: u32,
+    axis: u32,
+    limit: f32,
+    out: &mut [u32],
+) -> Listed
+    ensures { λ r. ⌜ (r, now (out .exit)) ≡ treesNear (now (part .entry)) (now (table .entry)) rank (Probe.HalfSpace axis limit) (now (out .entry)) ⌝ }
+{
+    probes::trees_near(part, table, rank, Probe::HalfSpace(axis, limit), out)
+}
+
+#[no_mangle]
+pub extern "C" fn vejgodat_trees_between(
+    part: &[u8],
+    table: &[u8],
+    rank: u32,
+    axis: u32,
+    lower: f32,
+    upper: f32,
+    out: &mut [u32],
+) -> Listed
+    ensures { λ r. ⌜ (r, now (out .exit)) ≡ treesNear (now (part .entry)) (now (table .entry)) rank (Probe.Slab axis lower upper) (now (out .entry)) ⌝ }
+{
+    probes::trees_near(part, table, rank, Probe::Slab(axis, lower, upper), out)
 }

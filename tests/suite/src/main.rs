@@ -50,6 +50,7 @@ groups! {
     refinement
     regions
     tree_data
+    probes
     refusals
     nearest
 }

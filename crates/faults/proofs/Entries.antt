@@ -1,18 +1,17 @@
 -- What the search finds at an entry of a table is the kind there.
-use Prim.Native.Nat.{ℕ, _+_, _*_, _≤_, _<_}
+use Prim.Native.Nat.{ℕ, _+_, _≤_, _<_}
 use native.Mathlib.Omega.{arith}
 use mathlib.Core.Path.{_≡_, refl, sym, ap, _∙_}
-use mathlib.Core.Bool.{Bool, true, false, cond, not, _&&_, _||_}
+use mathlib.Core.Bool.{Bool, true, false, not, _&&_, _||_}
 use mathlib.Core.List.{List}
 use lib.Dec.{eqb, leb, ltb}
 use lib.ListN.{length}
-use borrow.Author.Tests.{eqb-true, leb-true, leb-false, le-leb, lt-leb, lt-ltb, le-ltb, eq-eqb, ne-eqb}
+use borrow.Author.Tests.{eqb-true, leb-true, leb-false, le-leb, lt-leb, lt-ltb, le-ltb}
 use Rattle.encoding.specs.Refusal.{firstFailed}
-use Rattle.encoding.proofs.Below.{either, and-fst, clash}
+use Rattle.encoding.proofs.Below.{and-fst, clash}
 use Rattle.offsets.specs.Limits.{treeCountOk}
 use Rattle.offsets.specs.Table.{tableLength, ranks, ranksOk, entry, trees, negative, magnitude, firstOf, firstTree, endTree}
 use Rattle.faults.specs.declared.answer.Fault.{Fault}
-use Rattle.faults.specs.declared.answer.Wrong.{Wrong}
 use Rattle.faults.specs.Answer.{wrong, noFault, faultAt, firstFault}
 use Rattle.faults.specs.Table.{entryKind, entryWrong}
 use Rattle.faults.proofs.Firsts.{guard-fails, guard-holds, quiet, quiet-to, first-read, first-none}

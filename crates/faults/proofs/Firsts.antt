@@ -1,11 +1,10 @@
 -- Laws of the first place and the first face that are wrong.
 use Prim.Native.Nat.{ℕ, _+_, _≤_, _<_}
-use native.Mathlib.Omega.{arith}
 use mathlib.Core.Path.{_≡_, refl, sym, ap, _∙_}
-use mathlib.Core.Bool.{Bool, true, false, cond, not, _&&_, _||_}
+use mathlib.Core.Bool.{Bool, true, false, not, _&&_, _||_}
 use lib.Dec.{eqb}
-use borrow.Author.Tests.{eqb-true, eqb-false, eq-eqb, ne-eqb}
-use Rattle.encoding.specs.Below.{allBelow, anyBelow, leastBelow}
+use borrow.Author.Tests.{eqb-true, eq-eqb, ne-eqb}
+use Rattle.encoding.specs.Below.{allBelow, leastBelow}
 use Rattle.encoding.proofs.Below.{all-at, all-more, all-to, any-intro, any-none, least-is}
 use Rattle.faults.specs.declared.answer.Fault.{Fault}
 use Rattle.faults.specs.declared.answer.Wrong.{Wrong}

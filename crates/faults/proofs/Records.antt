@@ -2,12 +2,12 @@
 use Prim.Native.Nat.{ℕ, _+_, _*_, _≤_, _<_}
 use native.Mathlib.Omega.{arith}
 use mathlib.Core.Path.{_≡_, refl, sym, _∙_}
-use mathlib.Core.Bool.{Bool, true, false, cond, not, _&&_, _||_}
+use mathlib.Core.Bool.{Bool, true, false, cond, not, _&&_}
 use mathlib.Core.List.{List}
-use lib.Dec.{eqb, leb, ltb}
+use lib.Dec.{eqb, ltb}
 use borrow.Author.Tests.{le-ltb, lt-ltb, eq-eqb, ne-eqb}
 use Rattle.encoding.specs.Refusal.{firstFailed}
-use Rattle.encoding.proofs.Below.{either, clash}
+use Rattle.encoding.proofs.Below.{clash}
 use Rattle.encoding.specs.Pieces.{piece}
 use Rattle.records.specs.Shape.{shapeOk, dimensionOf, faceCount}
 use Rattle.records.specs.Record.{coreSize, treeSize, regionLimit, unused, shapeOf, neighbourOf, codeOf, faceOf, orientationOf, zerosOk, regionOf, regionOk, unusedOk, toItself, boundaryOk}

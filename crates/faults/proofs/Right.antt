@@ -1,14 +1,14 @@
 -- Nothing is wrong with a record exactly where it is in form, in order, of the dimension, and nothing is wrong with its links.
-use Prim.Native.Nat.{ℕ, _+_, _≤_, _<_}
+use Prim.Native.Nat.{ℕ, _≤_, _<_}
 use native.Mathlib.Omega.{arith}
-use mathlib.Core.Path.{_≡_, refl, sym, ap, ap₂, _∙_}
-use mathlib.Core.Bool.{Bool, true, false, cond, not, _&&_}
+use mathlib.Core.Path.{_≡_, refl, sym, ap, _∙_}
+use mathlib.Core.Bool.{Bool, true, false, cond, _&&_}
 use mathlib.Core.List.{List}
-use lib.Dec.{eqb, leb, ltb}
-use borrow.Author.Tests.{ltb-true, ltb-false, le-ltb, lt-ltb, eq-eqb, ne-eqb, eqb-true, eqb-false}
+use lib.Dec.{eqb, ltb}
+use borrow.Author.Tests.{ltb-true, ltb-false, le-ltb, lt-ltb}
 use Rattle.encoding.specs.Below.{allBelow, anyBelow, leastBelow}
 use Rattle.encoding.specs.Refusal.{firstFailed}
-use Rattle.encoding.proofs.Below.{tests, either, clash, iff-eq, and-fst, and-snd, and-intro, all-at, all-intro, all-fails, all-same, any-false, least-lt, least-at}
+use Rattle.encoding.proofs.Below.{either, clash, iff-eq, and-fst, and-snd, and-intro, all-at, all-intro, all-fails, all-same, any-false, least-lt, least-at}
 use Rattle.records.specs.Shape.{shapeOk, dimensionOf, faceCount}
 use Rattle.records.specs.Record.{numberOf, shapeOf, neighbourOf, zerosOk, regionOk, unusedOk, boundaryOk, inForm}
 use Rattle.records.proofs.Shapes.{count-six}
@@ -16,7 +16,7 @@ use Rattle.records.proofs.Forms.{form-intro, form-shape, form-zeros, form-regio
 use Rattle.mesh.specs.Link.{orientationOk, sameCorners, answered, linkOk}
 use Rattle.mesh.specs.Mesh.{faceSound, treeSound}
 use Rattle.mesh.specs.Means.{linkBetween}
-use Rattle.faults.specs.Answer.{wrong, isFault}
+use Rattle.faults.specs.Answer.{isFault}
 use Rattle.faults.specs.Record.{recordKind, faceKind, linkKind, firstFace, recordWrong}
 use Rattle.faults.specs.Mesh.{treeLinkKind, treeFaceKind, treeWrong}
 use Rattle.faults.specs.declared.answer.Wrong.{Wrong}

@@ -1,10 +1,9 @@
 -- What the search over the trees of a whole mesh finds, and the check before it.
-use Prim.Native.Nat.{ℕ, _+_, _*_, _≤_, _<_}
-use native.Mathlib.Omega.{arith}
-use mathlib.Core.Path.{_≡_, refl, sym, ap, _∙_}
-use mathlib.Core.Bool.{Bool, true, false, _&&_}
+use Prim.Native.Nat.{ℕ, _+_, _*_}
+use mathlib.Core.Path.{_≡_, refl, sym, _∙_}
+use mathlib.Core.Bool.{Bool, true, false}
 use mathlib.Core.List.{List}
-use lib.Dec.{eqb, ltb}
+use lib.Dec.{eqb}
 use borrow.Author.Tests.{eq-eqb, ne-eqb}
 use Rattle.encoding.specs.Below.{allBelow}
 use Rattle.encoding.specs.Pieces.{piece}
@@ -13,7 +12,6 @@ use Rattle.encoding.proofs.Below.{and-fst, and-snd, all-same}
 use Rattle.offsets.specs.Table.{ranks, ranksOk}
 use Rattle.records.specs.Record.{coreSize, treeSize, numberOf}
 use Rattle.mesh.specs.Mesh.{meshHeader, meshDimension, meshTrees, meshCore, headerSound, treeSound, meshSound}
-use Rattle.mesh.proofs.Soundness.{header-parts}
 use Rattle.faults.specs.declared.answer.Fault.{Fault}
 use Rattle.faults.specs.declared.answer.Wrong.{Wrong}
 use Rattle.faults.specs.Answer.{wrong, faultRefused, noFault, faultAt, firstFault}
@@ -21,7 +19,7 @@ use Rattle.faults.specs.Table.{entryWrong}
 use Rattle.faults.specs.Record.{recordKind, firstFace, recordWrong}
 use Rattle.faults.specs.Mesh.{treeFaceKind, treeWrong}
 use Rattle.faults.specs.Calls.{faultAnswer, tableFaultOf, meshFaultOf}
-use Rattle.faults.proofs.Firsts.{quiet, quiet-to, first-read, first-none}
+use Rattle.faults.proofs.Firsts.{quiet, first-none}
 use Rattle.faults.proofs.Right.{tree-right}
 
 -- ---- a table

@@ -1,22 +1,21 @@
 -- The fault is what the check answers, and nothing before it is wrong.
-use Prim.Native.Nat.{ℕ, _+_, _≤_, _<_}
-use native.Mathlib.Nat.{le-refl}
+use Prim.Native.Nat.{ℕ, _+_, _<_}
 use native.Mathlib.Omega.{arith}
 use mathlib.Core.Path.{_≡_, refl, sym, ap, _∙_}
 use mathlib.Core.Bool.{Bool, true, false, cond, not, _&&_, _||_}
 use mathlib.Core.List.{List}
 use lib.Dec.{eqb, leb, ltb}
-use borrow.Author.Tests.{eq-eqb, ne-eqb, eqb-true, le-leb, lt-leb, leb-true, lt-ltb, le-ltb, ltb-true}
+use borrow.Author.Tests.{eq-eqb, ne-eqb, eqb-true, le-leb, lt-ltb, ltb-true}
 use Rattle.encoding.specs.Below.{allBelow, anyBelow, leastBelow}
 use Rattle.encoding.specs.Refusal.{firstFailed}
-use Rattle.encoding.proofs.Below.{tests, either, clash, iff-eq, and-fst, and-snd, and-intro, all-at, all-intro, all-fails, any-intro, any-false, least-lt, least-at, least-below}
+use Rattle.encoding.proofs.Below.{tests, either, clash, iff-eq, and-fst, and-snd, and-intro, all-at, all-intro, all-fails, any-false, least-lt, least-at, least-below}
 use Rattle.offsets.specs.Limits.{treeCountOk}
 use Rattle.offsets.specs.Table.{ranks, ranksOk, entry, trees, negative, magnitude, firstTree, endTree, entriesWithin, countsOk, valid}
 use Rattle.offsets.specs.Calls.{tableRefusal}
-use Rattle.mesh.specs.Mesh.{meshDimension, meshTrees, meshCore, headerSound, treeSound, meshSound, meshRefusal}
+use Rattle.mesh.specs.Mesh.{meshDimension, meshTrees, meshCore, headerSound, meshSound, meshRefusal}
 use Rattle.faults.specs.declared.answer.Fault.{Fault}
 use Rattle.faults.specs.declared.answer.Wrong.{Wrong}
-use Rattle.faults.specs.Answer.{wrong, isFault, noFault, faultAt, firstPlace, firstFault}
+use Rattle.faults.specs.Answer.{wrong, isFault, firstPlace, firstFault}
 use Rattle.faults.specs.Table.{entryKind, entryWrong}
 use Rattle.faults.specs.Record.{recordKind, firstFace, recordWrong}
 use Rattle.records.specs.Record.{numberOf}
@@ -210,6 +209,18 @@ table-as-checked = table-checked
 pub table-first : TableFirst
 table-first = table-first-at
 
+-- nothing is wrong at a face before the one that is told
+pub faces-before : (kind : ℕ) (face : ℕ → ℕ) {w : Wrong} → recordWrong kind (firstFace face) ≡ w → (f : ℕ) → f < w .face → face f ≡ 0
+unfolding recordWrong firstFace
+faces-before kind face {w} e f h =
+    either (eqb kind 0)
+    (λ k. either (anyBelow 6 (λ f. isFault (face f)))
+    (λ p.
+    let l : leastBelow 6 (λ f. isFault (face f)) ≡ w .face = ap (λ (x : Wrong). x .face) (rw (k, p) at e) in
+    fault-is (face f) (least-below 6 (λ f. isFault (face f)) f (omega arith)))
+    (λ p. let l : 0 ≡ w .face = ap (λ (x : Wrong). x .face) (rw (k, p) at e) in absurd (omega arith)))
+    (λ k. let l : 0 ≡ w .face = ap (λ (x : Wrong). x .face) (rw k at e) in absurd (omega arith))
+
 -- ---- a whole mesh
 
 module _ (m : List ℕ) where
@@ -222,18 +233,6 @@ module _ (m : List ℕ) where
       either (headerSound m)
       (λ h. rw (h, ← trees-right m refl refl) (first-checked 7 (meshTrees m) place (λ e. omega arith)))
       (λ h. rw h (record { fault = refl; kind = refl }))
-
-  -- nothing is wrong at a face before the one that is told
-  faces-before : (kind : ℕ) (face : ℕ → ℕ) {w : Wrong} → recordWrong kind (firstFace face) ≡ w → (f : ℕ) → f < w .face → face f ≡ 0
-  unfolding recordWrong firstFace
-  faces-before kind face {w} e f h =
-      either (eqb kind 0)
-      (λ k. either (anyBelow 6 (λ f. isFault (face f)))
-      (λ p.
-      let l : leastBelow 6 (λ f. isFault (face f)) ≡ w .face = ap (λ (x : Wrong). x .face) (rw (k, p) at e) in
-      fault-is (face f) (least-below 6 (λ f. isFault (face f)) f (omega arith)))
-      (λ p. let l : 0 ≡ w .face = ap (λ (x : Wrong). x .face) (rw (k, p) at e) in absurd (omega arith)))
-      (λ k. let l : 0 ≡ w .face = ap (λ (x : Wrong). x .face) (rw k at e) in absurd (omega arith))
 
   tree-faces : (k : ℕ) {w : Wrong} → place k ≡ w → (f : ℕ) → f < w .face → treeFaceKind (meshCore m) (meshTrees m) k f ≡ 0
   unfolding treeWrong

@@ -3,6 +3,7 @@
 mod area_model;
 mod calls;
 mod cases;
+mod faults_model;
 mod library;
 mod memory;
 mod mesh_cases;
@@ -49,6 +50,7 @@ groups! {
     area
     refinement
     regions
+    faults
     refusals
     nearest
 }

@@ -35,7 +35,12 @@ first-wrong-requires : tie.Need-first-wrong-requires
 first-wrong-requires c κs = rw (c .trees .ensures) (header-parts _ (sym (c .before .before .before .header-sound .ensures) ∙ not-false _ (c .before .before .if2 .left)) .2)
 
 returns-3 : tie.Need-returns-3
-returns-3 c = mesh-searched _ (c .before .before .dimension .ensures) (c .before .trees .ensures) (sym (c .before .before .before .before .header-sound .ensures) ∙ not-false _ (c .before .before .before .if2 .left)) (c .first-wrong .ensures)
+returns-3 c =
+    let dimension = c .before .before .dimension in
+    let trees = c .before .trees in
+    let header-sound = c .before .before .before .before .header-sound in
+    let if2 = c .before .before .before .if2 in
+    mesh-searched _ (dimension .ensures) (trees .ensures) (sym (header-sound .ensures) ∙ not-false _ (if2 .left)) (c .first-wrong .ensures)
 
 pub mesh-fault-spec : {M : Type 1} → statement M
 mesh-fault-spec =

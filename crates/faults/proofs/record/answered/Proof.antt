@@ -20,7 +20,12 @@ orientation-of-requires-2 c κs = search needs
 
 returns : tie.Need-returns
 unfolding answered
-returns c = simp (← c .before .before .before .before .face-of .ensures .0, ← c .before .before .before .neighbour-of .ensures, ← c .before .before .face-of2 .ensures .0, ← c .before .orientation-of .ensures, ← c .orientation-of2 .ensures)
+returns c =
+    let face-of = c .before .before .before .before .face-of in
+    let neighbour-of = c .before .before .before .neighbour-of in
+    let face-of2 = c .before .before .face-of2 in
+    let orientation-of = c .before .orientation-of in
+    simp (← face-of .ensures .0, ← neighbour-of .ensures, ← face-of2 .ensures .0, ← orientation-of .ensures, ← c .orientation-of2 .ensures)
 
 pub answered-spec : {M : Type 1} → statement M
 answered-spec =

@@ -16,19 +16,41 @@ orientation-of-requires : tie.Need-orientation-of-requires
 orientation-of-requires c κs = search needs
 
 returns : tie.Need-returns
-returns c = boundary-wrong _ _ _ (c .before .before .before .before .before .neighbour-of .ensures) (c .before .before .before .before .has-face .ensures) (c .before .before .before .if1 .taken) (c .before .before .face-of .ensures .0) (c .before .orientation-of .ensures) (c .if2 .taken)
+returns c =
+    let neighbour-of = c .before .before .before .before .before .neighbour-of in
+    let has-face = c .before .before .before .before .has-face in
+    let if1 = c .before .before .before .if1 in
+    let face-of = c .before .before .face-of in
+    let orientation-of = c .before .orientation-of in
+    boundary-wrong _ _ _ (neighbour-of .ensures) (has-face .ensures) (if1 .taken) (face-of .ensures .0) (orientation-of .ensures) (c .if2 .taken)
 
 returns-2 : tie.Need-returns-2
-returns-2 c = boundary-right _ _ _ (c .before .before .before .before .before .neighbour-of .ensures) (c .before .before .before .before .has-face .ensures) (c .before .before .before .if1 .taken) (c .before .before .face-of .ensures .0) (c .before .orientation-of .ensures) (c .if2 .left)
+returns-2 c =
+    let neighbour-of = c .before .before .before .before .before .neighbour-of in
+    let has-face = c .before .before .before .before .has-face in
+    let if1 = c .before .before .before .if1 in
+    let face-of = c .before .before .face-of in
+    let orientation-of = c .before .orientation-of in
+    boundary-right _ _ _ (neighbour-of .ensures) (has-face .ensures) (if1 .taken) (face-of .ensures .0) (orientation-of .ensures) (c .if2 .left)
 
 code-of-requires : tie.Need-code-of-requires
 code-of-requires c κs = search needs
 
 returns-3 : tie.Need-returns-3
-returns-3 c = marked _ _ _ (c .before .before .before .before .neighbour-of .ensures) (c .before .before .before .has-face .ensures) (c .before .before .if1 .left) (c .before .code-of .ensures) (c .if3 .taken)
+returns-3 c =
+    let neighbour-of = c .before .before .before .before .neighbour-of in
+    let has-face = c .before .before .before .has-face in
+    let if1 = c .before .before .if1 in
+    let code-of = c .before .code-of in
+    marked _ _ _ (neighbour-of .ensures) (has-face .ensures) (if1 .left) (code-of .ensures) (c .if3 .taken)
 
 returns-4 : tie.Need-returns-4
-returns-4 c = unmarked _ _ _ (c .before .before .before .before .neighbour-of .ensures) (c .before .before .before .has-face .ensures) (c .before .before .if1 .left) (c .before .code-of .ensures) (c .if3 .left)
+returns-4 c =
+    let neighbour-of = c .before .before .before .before .neighbour-of in
+    let has-face = c .before .before .before .has-face in
+    let if1 = c .before .before .if1 in
+    let code-of = c .before .code-of in
+    unmarked _ _ _ (neighbour-of .ensures) (has-face .ensures) (if1 .left) (code-of .ensures) (c .if3 .left)
 
 pub form-kind-spec : {M : Type 1} → statement M
 form-kind-spec =

@@ -17,18 +17,34 @@ same-corners-requires c κs = search needs
 
 returns-2 : tie.Need-returns-2
 unfolding linkKind firstFailed
-returns-2 c = simp (← c .before .before .before .orientation-ok .ensures, not-false (c .before .before .before .orientation-ok .result) (c .before .before .if1 .left), ← c .before .same-corners .ensures, not-true (c .before .same-corners .result) (c .if2 .taken))
+returns-2 c =
+    let orientation-ok = c .before .before .before .orientation-ok in
+    let if1 = c .before .before .if1 in
+    let same-corners = c .before .same-corners in
+    simp (← orientation-ok .ensures, not-false (orientation-ok .result) (if1 .left), ← same-corners .ensures, not-true (same-corners .result) (c .if2 .taken))
 
 answered-requires : tie.Need-answered-requires
 answered-requires c κs = search needs
 
 returns-3 : tie.Need-returns-3
 unfolding linkKind firstFailed
-returns-3 c = simp (← c .before .before .before .before .before .orientation-ok .ensures, not-false (c .before .before .before .before .before .orientation-ok .result) (c .before .before .before .before .if1 .left), ← c .before .before .before .same-corners .ensures, not-false (c .before .before .before .same-corners .result) (c .before .before .if2 .left), ← c .before .answered .ensures, not-true (c .before .answered .result) (c .if3 .taken))
+returns-3 c =
+    let orientation-ok = c .before .before .before .before .before .orientation-ok in
+    let if1 = c .before .before .before .before .if1 in
+    let same-corners = c .before .before .before .same-corners in
+    let if2 = c .before .before .if2 in
+    let answered = c .before .answered in
+    simp (← orientation-ok .ensures, not-false (orientation-ok .result) (if1 .left), ← same-corners .ensures, not-false (same-corners .result) (if2 .left), ← answered .ensures, not-true (answered .result) (c .if3 .taken))
 
 returns-4 : tie.Need-returns-4
 unfolding linkKind firstFailed
-returns-4 c = simp (← c .before .before .before .before .before .orientation-ok .ensures, not-false (c .before .before .before .before .before .orientation-ok .result) (c .before .before .before .before .if1 .left), ← c .before .before .before .same-corners .ensures, not-false (c .before .before .before .same-corners .result) (c .before .before .if2 .left), ← c .before .answered .ensures, not-false (c .before .answered .result) (c .if3 .left))
+returns-4 c =
+    let orientation-ok = c .before .before .before .before .before .orientation-ok in
+    let if1 = c .before .before .before .before .if1 in
+    let same-corners = c .before .before .before .same-corners in
+    let if2 = c .before .before .if2 in
+    let answered = c .before .answered in
+    simp (← orientation-ok .ensures, not-false (orientation-ok .result) (if1 .left), ← same-corners .ensures, not-false (same-corners .result) (if2 .left), ← answered .ensures, not-false (answered .result) (c .if3 .left))
 
 pub link-kind-spec : {M : Type 1} → statement M
 link-kind-spec =

@@ -20,7 +20,12 @@ corners-requires-2 c κs = search needs
 
 returns : tie.Need-returns
 unfolding sameCorners
-returns c = simp (← c .before .before .before .before .shape-of .ensures, ← c .before .before .shape-of2 .ensures, ← c .before .face-of .ensures .0, ← c .before .before .before .corners .ensures, ← c .corners2 .ensures)
+returns c =
+    let shape-of = c .before .before .before .before .shape-of in
+    let shape-of2 = c .before .before .shape-of2 in
+    let face-of = c .before .face-of in
+    let corners = c .before .before .before .corners in
+    simp (← shape-of .ensures, ← shape-of2 .ensures, ← face-of .ensures .0, ← corners .ensures, ← c .corners2 .ensures)
 
 pub same-corners-spec : {M : Type 1} → statement M
 same-corners-spec =

@@ -1,12 +1,10 @@
 use Rattle.faults.proofs.Entries.{entry-found, entry-none}
-use Rattle.faults.proofs.Firsts.{quiet, first-found, first-none, quiet-more, quiet-to, first-read, quiet-start}
-use Rattle.faults.specs.Table.{entryKind, entryWrong}
+use Rattle.faults.proofs.Firsts.{quiet, quiet-more, quiet-start}
+use Rattle.faults.specs.Table.{entryKind}
 use Rattle.offsets.specs.Table.{trees}
-use Rattle.encoding.proofs.Below.{all-more, all-to}
-use Rattle.encoding.specs.Below.{allBelow}
 use native.Mathlib.Omega.{arith}
 use mathlib.Core.Bool.{true}
-use mathlib.Core.Path.{_≡_, sym, refl, _∙_}
+use mathlib.Core.Path.{_≡_}
 use Prim.Native.Nat.{_≤_, _+_, _-_}
 use borrow.Author.Needs.{needs}
 use Rattle.faults.proofs.table.first_wrong.Statement.{statement}
@@ -35,13 +33,23 @@ loop-holds c = (omega arith, quiet-start _)
 
 entry-kind-requires : tie.Need-entry-kind-requires Inv-loop μ-loop
 unfolding trees
-entry-kind-requires c κs = (c .before .before .before .before .before .pre, c .before .before .before .ranks .ensures .0, rw (← c .before .before .before .ranks .ensures .0) (c .before .before .entry .ensures), omega arith)
+entry-kind-requires c κs =
+    let pre = c .before .before .before .before .before .pre in
+    let ranks = c .before .before .before .ranks in
+    let entry = c .before .before .entry in
+    (pre, ranks .ensures .0, rw (← ranks .ensures .0) (entry .ensures), omega arith)
 
 found-requires : tie.Need-found-requires Inv-loop μ-loop
 found-requires c κs = search needs
 
 returns : tie.Need-returns Inv-loop μ-loop
-returns c = entry-found _ (c .before .before .before .before .before .before .ranks .ensures .0) _ (c .before .before .before .before .loop .inv .1) (c .before .before .before .loop-test .taken) (c .before .before .entry-kind .ensures) (c .before .if1 .taken) (c .found .ensures)
+returns c =
+    let ranks = c .before .before .before .before .before .before .ranks in
+    let loop = c .before .before .before .before .loop in
+    let loop-test = c .before .before .before .loop-test in
+    let entry-kind = c .before .before .entry-kind in
+    let if1 = c .before .if1 in
+    entry-found _ (ranks .ensures .0) _ (loop .inv .1) (loop-test .taken) (entry-kind .ensures) (if1 .taken) (c .found .ensures)
 
 add-p : tie.Need-add-p Inv-loop μ-loop
 add-p c = search needs
@@ -56,7 +64,10 @@ refused-requires : tie.Need-refused-requires Inv-loop μ-loop
 refused-requires c κs = search needs
 
 returns-2 : tie.Need-returns-2 Inv-loop μ-loop
-returns-2 c = entry-none _ (c .before .before .before .before .ranks .ensures .0) _ (c .before .before .loop .inv .1) (c .before .before .loop .inv .0) (omega arith) (c .refused .ensures)
+returns-2 c =
+    let ranks = c .before .before .before .before .ranks in
+    let loop = c .before .before .loop in
+    entry-none _ (ranks .ensures .0) _ (loop .inv .1) (loop .inv .0) (omega arith) (c .refused .ensures)
 
 pub first-wrong-spec : {M : Type 1} → statement M
 first-wrong-spec =

@@ -17,13 +17,25 @@ has-face-requires : tie.Need-has-face-requires
 has-face-requires c κs = search needs
 
 returns-2 : tie.Need-returns-2
-returns-2 c = tree-absent _ _ _ _ (c .before .before .before .before .tree-at .ensures) (c .before .before .before .form-kind .ensures) (c .before .before .if1 .left) (c .before .has-face .ensures) (not-true _ (c .if2 .taken))
+returns-2 c =
+    let tree-at = c .before .before .before .before .tree-at in
+    let form-kind = c .before .before .before .form-kind in
+    let if1 = c .before .before .if1 in
+    let has-face = c .before .has-face in
+    tree-absent _ _ _ _ (tree-at .ensures) (form-kind .ensures) (if1 .left) (has-face .ensures) (not-true _ (c .if2 .taken))
 
 neighbour-of-requires : tie.Need-neighbour-of-requires
 neighbour-of-requires c κs = search needs
 
 returns-3 : tie.Need-returns-3
-returns-3 c = tree-outside _ _ _ _ (c .before .before .before .before .before .before .tree-at .ensures) (c .before .before .before .before .before .form-kind .ensures) (c .before .before .before .before .if1 .left) (c .before .before .before .has-face .ensures) (not-false _ (c .before .before .if2 .left)) (c .before .neighbour-of .ensures) (c .if3 .taken)
+returns-3 c =
+    let tree-at = c .before .before .before .before .before .before .tree-at in
+    let form-kind = c .before .before .before .before .before .form-kind in
+    let if1 = c .before .before .before .before .if1 in
+    let has-face = c .before .before .before .has-face in
+    let if2 = c .before .before .if2 in
+    let neighbour-of = c .before .neighbour-of in
+    tree-outside _ _ _ _ (tree-at .ensures) (form-kind .ensures) (if1 .left) (has-face .ensures) (not-false _ (if2 .left)) (neighbour-of .ensures) (c .if3 .taken)
 
 tree-at-requires-2 : tie.Need-tree-at-requires-2
 tree-at-requires-2 c κs = search needs
@@ -32,7 +44,16 @@ link-kind-requires : tie.Need-link-kind-requires
 link-kind-requires c κs = search needs
 
 returns-4 : tie.Need-returns-4
-returns-4 c = tree-linked _ _ _ _ (c .before .before .before .before .before .before .before .before .tree-at .ensures) (c .before .before .before .before .before .before .before .form-kind .ensures) (c .before .before .before .before .before .before .if1 .left) (c .before .before .before .before .before .has-face .ensures) (not-false _ (c .before .before .before .before .if2 .left)) (c .before .before .before .neighbour-of .ensures) (c .before .before .if3 .left) (c .before .tree-at2 .ensures) (c .link-kind .ensures)
+returns-4 c =
+    let tree-at = c .before .before .before .before .before .before .before .before .tree-at in
+    let form-kind = c .before .before .before .before .before .before .before .form-kind in
+    let if1 = c .before .before .before .before .before .before .if1 in
+    let has-face = c .before .before .before .before .before .has-face in
+    let if2 = c .before .before .before .before .if2 in
+    let neighbour-of = c .before .before .before .neighbour-of in
+    let if3 = c .before .before .if3 in
+    let tree-at2 = c .before .tree-at2 in
+    tree-linked _ _ _ _ (tree-at .ensures) (form-kind .ensures) (if1 .left) (has-face .ensures) (not-false _ (if2 .left)) (neighbour-of .ensures) (if3 .left) (tree-at2 .ensures) (c .link-kind .ensures)
 
 pub tree-face-spec : {M : Type 1} → statement M
 tree-face-spec =

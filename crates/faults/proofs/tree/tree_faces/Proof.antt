@@ -1,13 +1,10 @@
 use Rattle.faults.proofs.Firsts.{quiet-start}
-use Rattle.faults.proofs.Firsts.{quiet, quiet-more, quiet-to, face-found, face-read, face-none}
+use Rattle.faults.proofs.Firsts.{quiet, quiet-more, quiet-to, face-read, face-none}
 use Rattle.faults.specs.Mesh.{treeFaceKind}
 use Rattle.mesh.specs.Mesh.{meshCore}
-use Rattle.encoding.proofs.Below.{all-more, all-to}
-use Rattle.encoding.specs.Below.{allBelow}
-use borrow.Author.Tests.{eq-eqb}
 use native.Mathlib.Omega.{arith}
 use mathlib.Core.Bool.{true}
-use mathlib.Core.Path.{_≡_, sym, refl, ap, _∙_}
+use mathlib.Core.Path.{_≡_, sym}
 use Prim.Native.Nat.{_≤_, _-_}
 use borrow.Author.Needs.{needs}
 use Rattle.faults.proofs.tree.tree_faces.Statement.{statement}

@@ -1545,7 +1545,8 @@ vejgodat_fault;
  *
  * The first fault is at the least rank p, or entry P, at which an entry is
  * wrong, with the first kind of 1 to 5 that holds there. K is the last entry as
- * it stands, also where it is outside its limits.
+ * it stands; a negative one is above every entry, so that it is the fault itself
+ * (2) if nothing else is.
  *
  * Checks: \ref VEJGODAT_RANKS (2) if \a table_len isn't 8 (P + 1) for a P
  * within its limits.

@@ -22,6 +22,7 @@ groups! {
     part
     message
     area
+    faults
 }
 
 const RANKS: i64 = 1_024;

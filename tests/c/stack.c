@@ -124,6 +124,29 @@ TAKE_LENGTH (close_area,
 TAKE (region_counts,
       vejgodat_region_counts (part, part_len, OLD, 0, counts,
                               VEJGODAT_REGIONS))
+TAKE (table_fault, vejgodat_table_fault (OLD).fault)
+
+/* a sound object, and one whose last record fails, so that the search goes through all */
+static void        *
+mesh_fault (void *none)
+{
+  take (vejgodat_mesh_fault (mesh, sizeof mesh).fault);
+  mesh[sizeof mesh - 59] = 1;
+  take (vejgodat_mesh_fault (mesh, sizeof mesh).at != TREES - 1);
+  mesh[sizeof mesh - 59] = 0;
+  return none;
+}
+
+static void        *
+part_fault (void *none)
+{
+  take (vejgodat_part_fault (part, part_len, OLD, 0).fault);
+  part[part_len - 35] = 1;
+  take (vejgodat_part_fault (part, part_len, OLD, 0).at != TREES - 1);
+  part[part_len - 35] = 0;
+  return none;
+}
+
 TAKE_LENGTH (table_from_weights,
              vejgodat_table_from_weights (count, 2, leaves, TREES, OLD))
 TAKE_LENGTH (table_from_blocks,
@@ -177,7 +200,8 @@ main (void)
     CALL (message_length), CALL (build_message), CALL (check_message),
     CALL (area_length), CALL (open_area), CALL (deliver),
     CALL (progress_of), CALL (part_of_area_length), CALL (close_area),
-    CALL (region_counts),
+    CALL (region_counts), CALL (table_fault), CALL (mesh_fault),
+    CALL (part_fault),
     CALL (table_from_weights), CALL (table_from_blocks)
   };
   size_t              i, used, base, most = 0;

@@ -5,3 +5,4 @@ pub mod Records
 pub mod Right
 pub mod Searches
 pub mod Theorems
+pub mod Examples

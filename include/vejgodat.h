@@ -233,7 +233,8 @@
  * whichever of the two has them. The numbers of this header's calls are those
  * of \ref VEJGODAT_OK and the names that follow it, and
  * \ref vejgodat_refusal_text has words for them. Only \ref vejgodat_lookup,
- * \ref vejgodat_corners and \ref vejgodat_version have nothing to refuse.
+ * \ref vejgodat_corners, \ref vejgodat_mesh_fault and \ref vejgodat_version
+ * have nothing to refuse.
  *
  * Where a call refuses, every other field of its result is 0 and every buffer
  * has the bytes that it had before. Where it accepts, it writes the beginning
@@ -1420,6 +1421,202 @@ uint32_t            vejgodat_region_counts (const uint8_t * part,
                                             const uint8_t * table,
                                             size_t table_len, uint32_t rank,
                                             uint32_t * out, size_t out_len)
+  VEJGODAT_USE_RESULT;
+
+/** @} */
+
+/** \name Where an object fails
+ *
+ * A check says that a table (3), a whole mesh (7) or a part (8) fails; these
+ * calls say where. The answer is the first fault: the least rank, tree or
+ * record at which something is wrong, and of what is wrong there the first.
+ * Nothing before it is wrong. Mend it and ask again.
+ * @{
+ */
+
+/** What the number `kind` of a \ref vejgodat_fault means. */
+enum
+{
+  VEJGODAT_FAULT_NONE = 0,      /**< The object is sound. */
+
+  /* of a table, where `at` is the rank, or P for the last entry */
+  VEJGODAT_FAULT_FIRST = 1,     /**< The first entry isn't 0. */
+  VEJGODAT_FAULT_TREES = 2,     /**< K, the last entry, is outside its
+                                     limits. */
+  VEJGODAT_FAULT_ENTRY = 3,     /**< The entry is above K or below -K. */
+  VEJGODAT_FAULT_COUNT = 4,     /**< The rank's count is negative. */
+  VEJGODAT_FAULT_EMPTY = 5,     /**< The rank is empty, and its entry is
+                                     negative. */
+
+  /* of a whole mesh or a part, where `at` is the record */
+  VEJGODAT_FAULT_HEADER = 6,    /**< Header or length; `at` is 0, before every
+                                     record. */
+  VEJGODAT_FAULT_NUMBER = 7,    /**< The number is out of order. A ghost's is so
+                                     also if it isn't below K, or in the rank's
+                                     own range. */
+  VEJGODAT_FAULT_SHAPE = 8,     /**< The shape is none of the six. */
+  VEJGODAT_FAULT_BYTES = 9,     /**< A byte that is to be zero isn't, or the
+                                     region isn't below 4,096. */
+  VEJGODAT_FAULT_UNUSED = 10,   /**< The shape doesn't have this face, and the
+                                     face isn't marked so. */
+  VEJGODAT_FAULT_BOUNDARY = 11, /**< The face is a boundary, with an
+                                     orientation. */
+  VEJGODAT_FAULT_DIMENSION = 12, /**< The shape is of the other dimension. */
+  VEJGODAT_FAULT_NEIGHBOUR = 13, /**< The neighbour isn't below K, or, of a
+                                      part's tree, is no record of the part. */
+  VEJGODAT_FAULT_ORIENTATION = 14, /**< The orientation isn't below the number
+                                        of the face's corners. */
+  VEJGODAT_FAULT_CORNERS = 15,  /**< The two faces differ in corners. */
+  VEJGODAT_FAULT_ANSWER = 16,   /**< The neighbour's link doesn't lead back with
+                                     the same orientation. */
+  VEJGODAT_FAULT_BESIDE = 17    /**< The ghost is beside no tree of the part. */
+};
+
+/** Say what a kind of fault means, to stand behind the place.
+ *
+ * `tree 5, face 2: link not answered`: the kinds 10, 11 and 13 to 16 have a
+ * face, see \ref vejgodat_fault_has_face.
+ *
+ * \param [in] kind       A result's kind; any number.
+ * \return                A text that lasts, also for 0 and for any other number.
+ */
+static inline const char *
+vejgodat_fault_text (uint32_t kind)
+{
+  switch (kind) {
+  case VEJGODAT_FAULT_NONE:
+    return "no fault";
+  case VEJGODAT_FAULT_FIRST:
+    return "first entry not 0";
+  case VEJGODAT_FAULT_TREES:
+    return "K outside its limits (1 to 1,048,576)";
+  case VEJGODAT_FAULT_ENTRY:
+    return "entry above K or below -K";
+  case VEJGODAT_FAULT_COUNT:
+    return "negative count";
+  case VEJGODAT_FAULT_EMPTY:
+    return "empty rank with a negative entry";
+  case VEJGODAT_FAULT_HEADER:
+    return "header or length";
+  case VEJGODAT_FAULT_NUMBER:
+    return "number out of order";
+  case VEJGODAT_FAULT_SHAPE:
+    return "shape none of the six";
+  case VEJGODAT_FAULT_BYTES:
+    return "zero bytes not zero, or region not below 4,096";
+  case VEJGODAT_FAULT_UNUSED:
+    return "unused face not marked";
+  case VEJGODAT_FAULT_BOUNDARY:
+    return "boundary with an orientation";
+  case VEJGODAT_FAULT_DIMENSION:
+    return "shape of the other dimension";
+  case VEJGODAT_FAULT_NEIGHBOUR:
+    return "neighbour not below K, or not held";
+  case VEJGODAT_FAULT_ORIENTATION:
+    return "orientation not below the corners";
+  case VEJGODAT_FAULT_CORNERS:
+    return "corners differ";
+  case VEJGODAT_FAULT_ANSWER:
+    return "link not answered";
+  case VEJGODAT_FAULT_BESIDE:
+    return "ghost beside no tree";
+  default:
+    return "no fault of this library";
+  }
+}
+
+/** Whether a kind of fault has a face: 10, 11 and 13 to 16.
+ *
+ * \param [in] kind       A result's kind; any number.
+ * \return                1 if `face` says where, else 0.
+ */
+static inline int
+vejgodat_fault_has_face (uint32_t kind)
+{
+  return kind == VEJGODAT_FAULT_UNUSED || kind == VEJGODAT_FAULT_BOUNDARY
+    || (VEJGODAT_FAULT_NEIGHBOUR <= kind && kind <= VEJGODAT_FAULT_ANSWER);
+}
+
+/** The first fault of an object. */
+typedef struct
+{
+  uint32_t            refusal;  /**< 0, or why the call declined. */
+  uint32_t            fault;    /**< 0 for a sound object, else what its check
+                                     refuses it with: 3, 7 or 8. */
+  uint32_t            kind;     /**< What is wrong: \ref VEJGODAT_FAULT_FIRST or
+                                     one of the names that follow it; 0 exactly
+                                     where \a fault is. */
+  uint32_t            at;       /**< The rank, tree or record. */
+  uint32_t            face;     /**< The face, of a kind that has one, else
+                                     0. */
+}
+vejgodat_fault;
+
+/** Say where a table fails.
+ *
+ * The first fault is at the least rank p, or entry P, at which an entry is
+ * wrong, with the first kind of 1 to 5 that holds there. K is the last entry as
+ * it stands; a negative one is above every entry, so that it is the fault itself
+ * (2) if nothing else is.
+ *
+ * Checks: \ref VEJGODAT_RANKS (2) if \a table_len isn't 8 (P + 1) for a P
+ * within its limits.
+ * Cost: one pass over the table, O(P).
+ *
+ * \param [in] table      Any bytes. Not changed.
+ * \param [in] table_len  The number of its bytes.
+ * \return                The first fault; \a fault is 0 or 3, as
+ *                        \ref vejgodat_check_table gives it.
+ */
+vejgodat_fault      vejgodat_table_fault (const uint8_t * table,
+                                          size_t table_len)
+  VEJGODAT_USE_RESULT;
+
+/** Say where a whole mesh fails.
+ *
+ * Header and length (6) come before every record. Else the first fault is that
+ * of the least tree with one. Of a tree the kinds without a face come first (7,
+ * 8, 9, 12), then the faces from 0 on, each with the first kind of 10, 11 and 13
+ * to 16 that holds there. Each face is read by the shape of its own record.
+ *
+ * Checks: none.
+ * Cost: that of \ref vejgodat_check_mesh for a sound mesh; for any other a
+ * second pass as far as the fault, with a few times the work for each record.
+ *
+ * \param [in] mesh       Any bytes. Not changed.
+ * \param [in] mesh_len   The number of its bytes.
+ * \return                The first fault; \a fault is 0 or 7, as
+ *                        \ref vejgodat_check_mesh gives it, \a at the tree.
+ */
+vejgodat_fault      vejgodat_mesh_fault (const uint8_t * mesh,
+                                         size_t mesh_len) VEJGODAT_USE_RESULT;
+
+/** Say where a part fails.
+ *
+ * Header and length (6) come before every record. Else the first fault is that
+ * of the least record with one: the trees by local index, then the ghosts, which
+ * count on from n. In a record the order is that of \ref vejgodat_mesh_fault,
+ * with 17 last. A tree's link is followed by its local index. A ghost's link is
+ * followed to a tree of the rank's range by its place, and to another ghost by
+ * its number, among the ghosts before the first whose number is out of order.
+ *
+ * Checks, in this order: those of \ref vejgodat_check_table (2, 3);
+ * \ref VEJGODAT_INDEX (5) if \a rank is not below P.
+ * Cost: that of \ref vejgodat_check_part for a sound part; for any other a
+ * second pass as far as the fault, with a few times the work for each record.
+ *
+ * \param [in] part       Any bytes. Not changed.
+ * \param [in] part_len   The number of its bytes.
+ * \param [in] table      Any bytes. Not changed.
+ * \param [in] table_len  The number of its bytes.
+ * \param [in] rank       A rank; any number.
+ * \return                The first fault; \a fault is 0 or 8, as
+ *                        \ref vejgodat_check_part gives it, \a at the record.
+ */
+vejgodat_fault      vejgodat_part_fault (const uint8_t * part,
+                                         size_t part_len,
+                                         const uint8_t * table,
+                                         size_t table_len, uint32_t rank)
   VEJGODAT_USE_RESULT;
 
 /** @} */

@@ -26,6 +26,7 @@ groups! {
     message
     area
     ranks
+    faults
 }
 
 const RANKS: i64 = 1_024;

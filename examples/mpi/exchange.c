@@ -16,6 +16,24 @@ must (uint32_t refusal, const char *call)
   }
 }
 
+void
+must_be_sound (vejgodat_fault fault, const char *name, const char *place)
+{
+  int                 rank;
+
+  must (fault.refusal, name);
+  if (fault.fault != VEJGODAT_OK) {
+    MPI_Comm_rank (MPI_COMM_WORLD, &rank);
+    fprintf (stderr, "rank %d: %s: %s %u", rank, name, place,
+             (unsigned) fault.at);
+    if (vejgodat_fault_has_face (fault.kind)) {
+      fprintf (stderr, ", face %u", (unsigned) fault.face);
+    }
+    fprintf (stderr, ": %s\n", vejgodat_fault_text (fault.kind));
+    MPI_Abort (MPI_COMM_WORLD, 1);
+  }
+}
+
 /* malloc that ends the run instead of failing */
 static void        *
 room (size_t bytes)

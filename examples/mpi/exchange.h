@@ -16,6 +16,10 @@ mesh_part;
 /* End the run if a call refused, and say why. */
 void                must (uint32_t refusal, const char *call);
 
+/* End the run if an object isn't sound, and say where: `place` is what its places are called, as "tree". */
+void                must_be_sound (vejgodat_fault fault, const char *name,
+                                   const char *place);
+
 /* Collective over comm, which has as many ranks as the tables. Each rank gives its part under the old table, and then
  * has that under the new one. All ranks give the same tables of table_len bytes and the same epoch, one higher in each
  * call. */

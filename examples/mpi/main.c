@@ -83,6 +83,8 @@ main (int argc, char **argv)
   mesh = malloc (VEJGODAT_MESH_BYTES (TREES));
 
   make_box (mesh);
+  must_be_sound (vejgodat_mesh_fault (mesh, VEJGODAT_MESH_BYTES (TREES)),
+                 "the box", "tree");
   make_table (0, ranks, old_table);
   length = vejgodat_part_length (mesh, VEJGODAT_MESH_BYTES (TREES),
                                  old_table, table_len, (uint32_t) rank);

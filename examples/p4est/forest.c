@@ -177,7 +177,7 @@ run (const char *name, p4est_connectivity_t * conn, uint32_t steps)
   int                 ranks, wrong = 0;
 
   mesh_of (conn, mesh);
-  must (vejgodat_check_mesh (mesh, mesh_len), name);
+  must_be_sound (vejgodat_mesh_fault (mesh, mesh_len), name, "tree");
   forest = p4est_new_ext (MPI_COMM_WORLD, conn, 0, 0, 1, 0, NULL, &step);
   ranks = forest->mpisize;
   rank = (uint32_t) forest->mpirank;

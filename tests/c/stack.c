@@ -133,6 +133,29 @@ TAKE_LENGTH (trees_below,
 TAKE_LENGTH (trees_between,
              vejgodat_trees_between (part, part_len, OLD, 0, 2, 0, 1, counts,
                                      VEJGODAT_REGIONS))
+TAKE (table_fault, vejgodat_table_fault (OLD).fault)
+
+/* a sound object, and one whose last record fails, so that the search goes through all */
+static void        *
+mesh_fault (void *none)
+{
+  take (vejgodat_mesh_fault (mesh, sizeof mesh).fault);
+  mesh[sizeof mesh - 59] = 1;
+  take (vejgodat_mesh_fault (mesh, sizeof mesh).at != TREES - 1);
+  mesh[sizeof mesh - 59] = 0;
+  return none;
+}
+
+static void        *
+part_fault (void *none)
+{
+  take (vejgodat_part_fault (part, part_len, OLD, 0).fault);
+  part[part_len - 35] = 1;
+  take (vejgodat_part_fault (part, part_len, OLD, 0).at != TREES - 1);
+  part[part_len - 35] = 0;
+  return none;
+}
+
 TAKE_LENGTH (table_from_weights,
              vejgodat_table_from_weights (count, 2, leaves, TREES, OLD))
 TAKE_LENGTH (table_from_blocks,
@@ -188,6 +211,8 @@ main (void)
     CALL (progress_of), CALL (part_of_area_length), CALL (close_area),
     CALL (region_counts),
     CALL (trees_at_point), CALL (trees_below), CALL (trees_between),
+    CALL (region_counts), CALL (table_fault), CALL (mesh_fault),
+    CALL (part_fault),
     CALL (table_from_weights), CALL (table_from_blocks)
   };
   size_t              i, used, base, most = 0;

@@ -786,6 +786,87 @@ probes (void)
   EXPECT (answer.refusal == VEJGODAT_PROBE && answer.count == 0);
   EXPECT (out[0] == 1 && out[1] == 1 && out[2] == 9);
 #undef PART
+/* Where an object fails. Says it as the examples do. */
+static void
+fault_is (vejgodat_fault got, uint32_t fault, const char *place,
+          const char *said)
+{
+  char                text[100];
+
+  EXPECT (got.refusal == VEJGODAT_OK && got.fault == fault);
+  if (vejgodat_fault_has_face (got.kind)) {
+    snprintf (text, sizeof text, "%s %u, face %u: %s", place,
+              (unsigned) got.at, (unsigned) got.face,
+              vejgodat_fault_text (got.kind));
+  }
+  else {
+    snprintf (text, sizeof text, "%s %u: %s", place, (unsigned) got.at,
+              vejgodat_fault_text (got.kind));
+  }
+  if (strcmp (text, said)) {
+    printf ("use.c: not so: %s, but %s\n", said, text);
+    ++wrong;
+  }
+}
+
+static void
+faults (void)
+{
+  static const int64_t entries[4] = { 0, -1, 2, 3 };
+  static const int64_t refused[5][4] =
+    { {-1, 1}, {0, 0}, {0, 6, 3, 5}, {0, 4, 3, 5}, {0, -4, -3, 5} };
+  static const int    refused_ranks[5] = { 1, 1, 3, 3, 3 };
+  static const char  *said[5] = {
+    "rank 0: first entry not 0", "rank 1: K outside its limits (1 to 1,048,576)",
+    "rank 1: entry above K or below -K", "rank 1: negative count",
+    "rank 1: empty rank with a negative entry"
+  };
+  uint8_t             mesh[VEJGODAT_MESH_BYTES (3)], table[32];
+  uint8_t             part[32 + 2 * 64 + 40];
+  vejgodat_fault      none;
+  size_t              length;
+  uint32_t            i, j;
+
+  EXPECT (sizeof (vejgodat_fault) == 20);
+  for (i = 0; i < 20; ++i) {
+    EXPECT (strlen (vejgodat_fault_text (i)) > 7);
+    for (j = 0; j < i && i <= 18; ++j) {
+      EXPECT (strcmp (vejgodat_fault_text (i), vejgodat_fault_text (j)));
+    }
+  }
+  for (i = 0; i < 5; ++i) {
+    length = put_table (table, refused_ranks[i], refused[i]);
+    fault_is (vejgodat_table_fault (table, length), VEJGODAT_TABLE, "rank",
+              said[i]);
+  }
+  none = vejgodat_table_fault (table, 31);
+  EXPECT (none.refusal == VEJGODAT_RANKS && none.fault == 0
+          && none.kind == VEJGODAT_FAULT_NONE && none.at == 0);
+
+  put_triangles (mesh);
+  put_table (table, 3, entries);
+  none = vejgodat_mesh_fault (mesh, sizeof mesh);
+  EXPECT (none.refusal == VEJGODAT_OK && none.fault == 0 && none.kind == 0);
+  fault_is (vejgodat_mesh_fault (mesh, 8), VEJGODAT_MESH, "tree",
+            "tree 0: header or length");
+  EXPECT (vejgodat_cut_part (mesh, sizeof mesh, table, 32, 1, part,
+                             sizeof part).length == sizeof part);
+  mesh[8 + 64 + 8] = 0;
+  fault_is (vejgodat_mesh_fault (mesh, sizeof mesh), VEJGODAT_MESH, "tree",
+            "tree 1, face 0: link not answered");
+  mesh[8] = 1;
+  fault_is (vejgodat_mesh_fault (mesh, sizeof mesh), VEJGODAT_MESH, "tree",
+            "tree 0: number out of order");
+
+  none = vejgodat_part_fault (part, sizeof part, table, 32, 1);
+  EXPECT (none.refusal == VEJGODAT_OK && none.fault == 0 && none.kind == 0);
+  none = vejgodat_part_fault (part, sizeof part, table, 32, 3);
+  EXPECT (none.refusal == VEJGODAT_INDEX && none.fault == 0);
+  fault_is (vejgodat_part_fault (part, sizeof part, table, 32, 0),
+            VEJGODAT_PART, "record", "record 0: header or length");
+  part[32 + 2 * 64] = 0;
+  fault_is (vejgodat_part_fault (part, sizeof part, table, 32, 1),
+            VEJGODAT_PART, "record", "record 2: number out of order");
 }
 
 /* Leaves for ranks of unequal speed. */
@@ -872,6 +953,7 @@ main (void)
   refinements ();
   regions ();
   probes ();
+  faults ();
   table_from_weights ();
   table_from_blocks ();
   return wrong == 0 ? 0 : 1;

@@ -23,6 +23,32 @@ use Rattle.part.proofs.Global.{Alike, alike-itself, alike-face, alike-orientati
 
 -- ---- the numbers
 
+-- ghosts of which each has the number that it is to have
+module _ (first n g K : ℕ) (ghostly : ℕ → List ℕ) (numbered : (j : ℕ) → j < g → ghostNumbered first n ghostly K j ≡ true) where
+  numbered-below : (j : ℕ) → j < g → numberOf (ghostly j) < K
+  unfolding ghostNumbered
+  numbered-below j h = ltb-true _ _ (and-fst (ltb (numberOf (ghostly j)) K) (not (inRange first (first + n) (numberOf (ghostly j)))) (and-fst _ (ghostBehind ghostly j) (numbered j h)))
+
+  numbered-after : (j : ℕ) → suc j < g → numberOf (ghostly j) < numberOf (ghostly (suc j))
+  unfolding ghostNumbered ghostBehind
+  numbered-after j h =
+      let e : ghostBehind ghostly (suc j) ≡ true = and-snd (ltb (numberOf (ghostly (suc j))) K && not (inRange first (first + n) (numberOf (ghostly (suc j))))) _ (numbered (suc j) h) in
+      let p : suc j - 1 ≡ j = omega arith in
+      ltb-true _ _ (rw (ne-eqb (suc j) 0 (λ q. omega arith), p) at e)
+
+  pub numbered-ascend : (i j : ℕ) → i < j → j < g → numberOf (ghostly i) < numberOf (ghostly j)
+  numbered-ascend i zero h l = absurd (omega arith)
+  numbered-ascend i (suc j) h l =
+      below-suc i j h (λ p. omega (arith, numbered-ascend i j p (omega arith), numbered-after j l)) (λ e. rw e (numbered-after j l))
+
+  -- so they are no more than K
+  numbered-over : (j : ℕ) → j < g → j ≤ numberOf (ghostly j)
+  numbered-over zero h = omega arith
+  numbered-over (suc j) h = omega (arith, numbered-over j (omega arith), numbered-after j h)
+
+  pub numbered-few : g ≤ K
+  numbered-few = either (ltb K g) (λ p. let h : K < g = omega tests in omega (arith, numbered-over K h, numbered-below K h)) (λ p. omega tests)
+
 module _ (first n g K : ℕ) (tree ghostly : ℕ → List ℕ) (numbers : numbersSound first n g tree ghostly K ≡ true) where
   pub tree-number : (i : ℕ) → i < n → numberOf (tree i) ≡ first + i
   unfolding numbersSound treeNumbered
@@ -33,8 +59,7 @@ module _ (first n g K : ℕ) (tree ghostly : ℕ → List ℕ) (numbers : number
   ghost-numbered = all-at g (ghostNumbered first n ghostly K) (and-snd (allBelow n (treeNumbered first tree)) _ numbers)
 
   pub ghost-below : (j : ℕ) → j < g → numberOf (ghostly j) < K
-  unfolding ghostNumbered
-  ghost-below j h = ltb-true _ _ (and-fst (ltb (numberOf (ghostly j)) K) (not (inRange first (first + n) (numberOf (ghostly j)))) (and-fst _ (ghostBehind ghostly j) (ghost-numbered j h)))
+  ghost-below = numbered-below first n g K ghostly ghost-numbered
 
   pub ghost-outside : (j : ℕ) → j < g → inRange first (first + n) (numberOf (ghostly j)) ≡ false
   unfolding ghostNumbered
@@ -42,25 +67,11 @@ module _ (first n g K : ℕ) (tree ghostly : ℕ → List ℕ) (numbers : number
       let e : not (inRange first (first + n) (numberOf (ghostly j))) ≡ true = and-snd (ltb (numberOf (ghostly j)) K) _ (and-fst _ (ghostBehind ghostly j) (ghost-numbered j h)) in
       either (inRange first (first + n) (numberOf (ghostly j))) (λ p. clash e (rw p)) (λ p. p)
 
-  ghost-after : (j : ℕ) → suc j < g → numberOf (ghostly j) < numberOf (ghostly (suc j))
-  unfolding ghostNumbered ghostBehind
-  ghost-after j h =
-      let e : ghostBehind ghostly (suc j) ≡ true = and-snd (ltb (numberOf (ghostly (suc j))) K && not (inRange first (first + n) (numberOf (ghostly (suc j))))) _ (ghost-numbered (suc j) h) in
-      let p : suc j - 1 ≡ j = omega arith in
-      ltb-true _ _ (rw (ne-eqb (suc j) 0 (λ q. omega arith), p) at e)
-
   pub ghosts-ascend : (i j : ℕ) → i < j → j < g → numberOf (ghostly i) < numberOf (ghostly j)
-  ghosts-ascend i zero h l = absurd (omega arith)
-  ghosts-ascend i (suc j) h l =
-      below-suc i j h (λ p. omega (arith, ghosts-ascend i j p (omega arith), ghost-after j l)) (λ e. rw e (ghost-after j l))
-
-  -- so they are no more than K
-  ghost-over : (j : ℕ) → j < g → j ≤ numberOf (ghostly j)
-  ghost-over zero h = omega arith
-  ghost-over (suc j) h = omega (arith, ghost-over j (omega arith), ghost-after j h)
+  ghosts-ascend = numbered-ascend first n g K ghostly ghost-numbered
 
   pub ghosts-few : g ≤ K
-  ghosts-few = either (ltb K g) (λ p. let h : K < g = omega tests in omega (arith, ghost-over K h, ghost-below K h)) (λ p. omega tests)
+  ghosts-few = numbered-few first n g K ghostly ghost-numbered
 
 -- ---- the numbers looked up
 

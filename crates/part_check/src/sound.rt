@@ -30,7 +30,7 @@ ghost use Rattle.mesh.specs.Means.{linkByDimension};
 ghost use Rattle.part_check.specs.Means.{treeFace, treeStored, treeNumbered, ghostBehind, ghostNumbered, numbersSound, ghostFace, ghostStored, recordsSound, PartLaid, PartNumbered};
 
 // Whether the header is as table and rank say, and the length as the header says.
-fn header_sound(part: &[u8], table: &[u8], rank: u32) -> bool
+pub fn header_sound(part: &[u8], table: &[u8], rank: u32) -> bool
     requires { ⌜ RankKnown (now table) rank ⌝ }
     ensures { λ r. ⌜ r ≡ (partHeaderSound (now (part .entry)) (now (table .entry)) rank && eqb (length (now (part .entry))) (partSize (partCount (now (part .entry))) (partGhostCount (now (part .entry))))) ⌝ }
 {
@@ -54,7 +54,7 @@ fn header_sound(part: &[u8], table: &[u8], rank: u32) -> bool
 // ---- numbers
 
 // Whether the local index of the tree's number is its own.
-fn tree_numbered(part: &[u8], first: GlobalIndex, tree: LocalIndex) -> bool
+pub fn tree_numbered(part: &[u8], first: GlobalIndex, tree: LocalIndex) -> bool
     requires { ⌜ treePlace (tree .0) + coreSize ≤ length (now part) ⌝ }
     ensures { λ r. ⌜ r ≡ treeNumbered (first .0) (storedTree (now (part .entry))) (tree .0) ⌝ }
 {
@@ -91,7 +91,7 @@ fn ghost_behind(part: &[u8], count: u32, j: u32) -> bool
         < records::read::number_of(part, ghost_at(count, j))
 }
 
-fn ghost_numbered(part: &[u8], first: u32, count: u32, trees: u32, j: u32) -> bool
+pub fn ghost_numbered(part: &[u8], first: u32, count: u32, trees: u32, j: u32) -> bool
     requires { ⌜ (ghostPlace count j + coreSize ≤ length (now part)) × (first + count ≤ maxTrees) ⌝ }
     ensures { λ r. ⌜ r ≡ ghostNumbered first count (ghostCore (now (part .entry)) count) trees j ⌝ }
 {
@@ -214,7 +214,7 @@ fn trees_sound(part: &[u8], count: u32, ghosts: u32, dimension: u32) -> bool
 // ---- ghosts
 
 // The position of the ghost with the number, or how many ghosts there are.
-fn ghost_with(part: &[u8], count: u32, ghosts: u32, number: GlobalIndex) -> u32
+pub fn ghost_with(part: &[u8], count: u32, ghosts: u32, number: GlobalIndex) -> u32
     requires { ⌜ Ascending (now part) (ghostPlace count 0) ghosts ⌝ }
     ensures { λ r. ⌜ r ≡ leastBelow ghosts (ghostHas (ghostCore (now (part .entry)) count) (number .0)) ⌝ }
 {

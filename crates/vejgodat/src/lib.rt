@@ -18,8 +18,11 @@ ghost use Rattle.refinement.specs.Calls.{countLeaves, leafCounts};
 ghost use Rattle.pattern.specs.Calls.{senderOf, treesSent, sendSetOf, receiveSetOf};
 ghost use Rattle.regions.specs.Calls.{regionCountsOf};
 ghost use Rattle.probes.specs.Calls.{treesNear};
+ghost use Rattle.faults.specs.Calls.{tableFaultOf, meshFaultOf};
+ghost use Rattle.part_fault.specs.Calls.{partFaultOf};
 use area_open::Progress;
 use encoding::answer::Length;
+use faults::answer::Fault;
 use lookup::Found;
 use offsets::Range;
 use part_neighbour::link::NeighbourAnswer;
@@ -354,4 +357,22 @@ pub extern "C" fn vejgodat_trees_between(
     ensures { λ r. ⌜ (r, now (out .exit)) ≡ treesNear (now (part .entry)) (now (table .entry)) rank (Probe.Slab axis lower upper) (now (out .entry)) ⌝ }
 {
     probes::trees_near(part, table, rank, Probe::Slab(axis, lower, upper), out)
+pub extern "C" fn vejgodat_table_fault(table: &[u8]) -> Fault
+    ensures { λ r. ⌜ r ≡ tableFaultOf (now (table .entry)) ⌝ }
+{
+    faults::table_fault(table)
+}
+
+#[no_mangle]
+pub extern "C" fn vejgodat_mesh_fault(mesh: &[u8]) -> Fault
+    ensures { λ r. ⌜ r ≡ meshFaultOf (now (mesh .entry)) ⌝ }
+{
+    faults::mesh_fault(mesh)
+}
+
+#[no_mangle]
+pub extern "C" fn vejgodat_part_fault(part: &[u8], table: &[u8], rank: u32) -> Fault
+    ensures { λ r. ⌜ r ≡ partFaultOf (now (part .entry)) (now (table .entry)) rank ⌝ }
+{
+    part_fault::part_fault(part, table, rank)
 }

@@ -3,6 +3,7 @@
 mod area_model;
 mod calls;
 mod cases;
+mod faults_model;
 mod library;
 mod memory;
 mod mesh_cases;
@@ -51,6 +52,7 @@ groups! {
     regions
     tree_data
     probes
+    faults
     refusals
     nearest
 }

@@ -1,0 +1,76 @@
+-- What the search over the trees of a whole mesh finds, and the check before it.
+use Prim.Native.Nat.{ℕ, _+_, _*_}
+use mathlib.Core.Path.{_≡_, refl, sym, _∙_}
+use mathlib.Core.Bool.{Bool, true, false}
+use mathlib.Core.List.{List}
+use lib.Dec.{eqb}
+use borrow.Author.Tests.{eq-eqb, ne-eqb}
+use Rattle.encoding.specs.Below.{allBelow}
+use Rattle.encoding.specs.Pieces.{piece}
+use Rattle.encoding.specs.Refusal.{firstFailed}
+use Rattle.encoding.proofs.Below.{and-fst, and-snd, all-same}
+use Rattle.offsets.specs.Table.{ranks, ranksOk}
+use Rattle.records.specs.Record.{coreSize, treeSize, numberOf}
+use Rattle.mesh.specs.Mesh.{meshHeader, meshDimension, meshTrees, meshCore, headerSound, treeSound, meshSound}
+use Rattle.faults.specs.declared.answer.Fault.{Fault}
+use Rattle.faults.specs.declared.answer.Wrong.{Wrong}
+use Rattle.faults.specs.Answer.{wrong, faultRefused, noFault, faultAt, firstFault}
+use Rattle.faults.specs.Table.{entryWrong}
+use Rattle.faults.specs.Record.{recordKind, firstFace, recordWrong}
+use Rattle.faults.specs.Mesh.{treeFaceKind, treeWrong}
+use Rattle.faults.specs.Calls.{faultAnswer, tableFaultOf, meshFaultOf}
+use Rattle.faults.proofs.Firsts.{quiet, first-none}
+use Rattle.faults.proofs.Right.{tree-right}
+
+-- ---- a table
+
+module _ (t : List ℕ) {b : Bool} (pb : b ≡ ranksOk t) {a : Fault} where
+  pub table-refused : b ≡ false → a ≡ faultRefused 2 → a ≡ tableFaultOf t
+  unfolding tableFaultOf faultAnswer firstFailed
+  table-refused h e = e ∙ rw (← pb, h)
+
+  pub table-found : b ≡ true → a ≡ firstFault 3 (ranks t + 1) (entryWrong t) → a ≡ tableFaultOf t
+  unfolding tableFaultOf faultAnswer firstFailed
+  table-found h e = e ∙ rw (← pb, h)
+
+-- ---- a tree
+
+module _ (m : List ℕ) (D K k : ℕ) {at n kind : ℕ} (here : at ≡ meshHeader + treeSize * k) (pn : n ≡ numberOf (piece m at coreSize)) (pk : kind ≡ recordKind (eqb n k) D (piece m at coreSize)) where
+  read : kind ≡ recordKind (eqb (numberOf (meshCore m k)) k) D (meshCore m k)
+  unfolding meshCore
+  read = rw (pn, here) at pk
+
+  pub tree-kind : (kind ≡ 0 → ⊥) → wrong kind 0 ≡ treeWrong (meshCore m) D K k
+  unfolding treeWrong recordWrong
+  tree-kind h = rw (← read, ne-eqb kind 0 h)
+
+  pub tree-found : {w : Wrong} → kind ≡ 0 → w ≡ firstFace (treeFaceKind (meshCore m) K k) → w ≡ treeWrong (meshCore m) D K k
+  unfolding treeWrong recordWrong
+  tree-found h e = e ∙ rw (← read, eq-eqb kind 0 h)
+
+-- the kind of tree k
+abbrev pub kindOf : (ℕ → List ℕ) → ℕ → ℕ → ℕ → ℕ
+kindOf core D K k = treeWrong core D K k .kind
+
+-- ---- a whole mesh
+
+module _ (m : List ℕ) {D K : ℕ} (pD : D ≡ meshDimension m) (pK : K ≡ meshTrees m) where
+  -- nothing is wrong with any tree exactly where all are sound
+  pub trees-right : quiet (kindOf (meshCore m) D K) K ≡ allBelow K (treeSound (meshCore m) D K)
+  unfolding quiet
+  trees-right = all-same K (λ k. eqb (kindOf (meshCore m) D K k) 0) (treeSound (meshCore m) D K) (λ k h. tree-right (meshCore m) D K k)
+
+  pub mesh-searched : {a : Fault} → headerSound m ≡ true → a ≡ firstFault 7 K (treeWrong (meshCore m) D K) → a ≡ meshFaultOf m
+  unfolding meshFaultOf
+  mesh-searched h e = e ∙ rw (h, pD, pK)
+
+module _ (m : List ℕ) {a : Fault} where
+  pub mesh-sound : meshSound m ≡ true → a ≡ noFault → a ≡ meshFaultOf m
+  unfolding meshSound
+  mesh-sound s e =
+      mesh-searched m refl refl (and-fst (headerSound m) _ s)
+      (e ∙ sym (first-none 7 (meshTrees m) (treeWrong (meshCore m) (meshDimension m) (meshTrees m)) (trees-right m refl refl ∙ and-snd (headerSound m) _ s)))
+
+  pub mesh-headless : headerSound m ≡ false → a ≡ faultAt 7 0 (wrong 6 0) → a ≡ meshFaultOf m
+  unfolding meshFaultOf
+  mesh-headless h e = e ∙ rw h

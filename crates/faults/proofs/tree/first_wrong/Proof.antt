@@ -1,0 +1,71 @@
+use borrow.Author.Needs.{needs}
+use Rattle.faults.proofs.Firsts.{quiet, quiet-start, quiet-more, quiet-to, first-read, first-none}
+use Rattle.faults.proofs.Searches.{kindOf}
+use Rattle.faults.specs.Mesh.{treeWrong}
+use Rattle.faults.specs.declared.answer.Wrong.{Wrong}
+use Rattle.mesh.specs.Mesh.{meshCore}
+use native.Mathlib.Omega.{arith}
+use mathlib.Core.Bool.{true}
+use mathlib.Core.Path.{_≡_, sym, ap, _∙_}
+use Prim.Native.Nat.{_≤_, _-_}
+use Rattle.faults.proofs.tree.first_wrong.Statement.{statement}
+use Rattle.faults.proofs.tree.first_wrong.Tie as tie
+
+abbrev Inv-loop : tie.InvT-loop
+Inv-loop mesh dimension trees k₀ k = (k ≤ trees) × (quiet (kindOf (meshCore mesh) dimension trees) k ≡ true)
+
+abbrev μ-loop : tie.MeasureT-loop
+μ-loop mesh dimension trees k₀ k = trees - k
+
+loop-holds : tie.Need-loop-holds Inv-loop μ-loop
+loop-holds c = (omega arith, quiet-start _)
+
+tree-wrong-requires : tie.Need-tree-wrong-requires Inv-loop μ-loop
+tree-wrong-requires c κs = search needs
+
+found-requires : tie.Need-found-requires Inv-loop μ-loop
+found-requires c κs = search needs
+
+returns : tie.Need-returns Inv-loop μ-loop
+returns c =
+    let loop-test = c .before .before .before .before .loop-test in
+    let loop = c .before .before .before .before .before .loop in
+    let tree-wrong = c .before .before .before .tree-wrong in
+    let if1 = c .before .if1 in
+    first-read 7 _ (treeWrong _ _ _) _ (loop-test .taken) (loop .inv .1) (tree-wrong .ensures) (if1 .taken) (c .found .ensures)
+
+add-k : tie.Need-add-k Inv-loop μ-loop
+add-k c = search needs
+
+loop-less : tie.Need-loop-less Inv-loop μ-loop
+loop-less c = search needs
+
+loop-again : tie.Need-loop-again Inv-loop μ-loop
+loop-again c =
+    let loop = c .before .before .before .before .loop in
+    let tree-wrong = c .before .before .tree-wrong in
+    (omega arith, quiet-more _ _ (loop .inv .1) (ap (λ (w : Wrong). w .kind) (tree-wrong .ensures)) (c .if1 .left))
+
+refused-requires : tie.Need-refused-requires Inv-loop μ-loop
+refused-requires c κs = search needs
+
+returns-2 : tie.Need-returns-2 Inv-loop μ-loop
+returns-2 c =
+    let loop = c .before .before .loop in
+    c .refused .ensures ∙ sym (first-none 7 _ (treeWrong _ _ _) (quiet-to _ _ _ (loop .inv .0) (omega arith) (loop .inv .1)))
+
+pub first-wrong-spec : {M : Type 1} → statement M
+first-wrong-spec =
+    tie.close
+    (tie.spec
+    Inv-loop
+    μ-loop
+    loop-holds
+    tree-wrong-requires
+    found-requires
+    returns
+    add-k
+    loop-less
+    loop-again
+    refused-requires
+    returns-2)

@@ -1,0 +1,81 @@
+// What is wrong with a tree of a whole mesh, and the first one.
+use crate::answer::Fault;
+use crate::answer::Wrong;
+use crate::answer::found;
+use crate::answer::refused;
+use crate::record::form_kind;
+use crate::record::has_face;
+use crate::record::link_kind;
+use crate::record::record_kind;
+use mesh::layout::tree_at;
+ghost use mathlib.Core.Path.{_≡_};
+ghost use Prim.Native.Nat.{_+_, _*_, _<_};
+ghost use lib.ListN.{length};
+ghost use Rattle.records.specs.Record.{treeSize};
+ghost use Rattle.mesh.specs.Mesh.{meshHeader, meshCore};
+ghost use Rattle.faults.specs.Answer.{firstFault};
+ghost use Rattle.faults.specs.Record.{firstFace};
+ghost use Rattle.faults.specs.Mesh.{treeFaceKind, treeWrong};
+
+// The neighbour's record is read only once its number is known to be below K.
+fn tree_face(mesh: &[u8], trees: u32, k: u32, face: u32) -> u32
+    requires { ⌜ (length (now mesh) ≡ meshHeader + treeSize * trees) × (k < trees) × (face < 6) ⌝ }
+    ensures { λ r. ⌜ r ≡ treeFaceKind (meshCore (now (mesh .entry))) trees k face ⌝ }
+{
+    let at = tree_at(k);
+    let kind = form_kind(mesh, at, k, face);
+    if kind != 0 {
+        return kind;
+    }
+    if !has_face(mesh, at, face) {
+        return 0;
+    }
+    let n = records::read::neighbour_of(mesh, at, face);
+    if trees <= n {
+        return 13;
+    }
+    link_kind(mesh, k, at, face, tree_at(n))
+}
+
+fn tree_faces(mesh: &[u8], trees: u32, k: u32) -> Wrong
+    requires { ⌜ (length (now mesh) ≡ meshHeader + treeSize * trees) × (k < trees) ⌝ }
+    ensures { λ r. ⌜ r ≡ firstFace (treeFaceKind (meshCore (now (mesh .entry))) trees k) ⌝ }
+{
+    let mut face = 0;
+    while face < 6 {
+        let kind = tree_face(mesh, trees, k, face);
+        if kind != 0 {
+            return Wrong { kind, face };
+        }
+        face += 1;
+    }
+    Wrong { kind: 0, face: 0 }
+}
+
+fn tree_wrong(mesh: &[u8], dimension: u32, trees: u32, k: u32) -> Wrong
+    requires { ⌜ (length (now mesh) ≡ meshHeader + treeSize * trees) × (k < trees) ⌝ }
+    ensures { λ r. ⌜ r ≡ treeWrong (meshCore (now (mesh .entry))) dimension trees k ⌝ }
+{
+    let at = tree_at(k);
+    let kind = record_kind(mesh, at, records::read::number_of(mesh, at) == k, dimension);
+    if kind != 0 {
+        return Wrong { kind, face: 0 };
+    }
+    tree_faces(mesh, trees, k)
+}
+
+// The first tree that is wrong.
+pub fn first_wrong(mesh: &[u8], dimension: u32, trees: u32) -> Fault
+    requires { ⌜ length (now mesh) ≡ meshHeader + treeSize * trees ⌝ }
+    ensures { λ r. ⌜ r ≡ firstFault 7 trees (treeWrong (meshCore (now (mesh .entry))) dimension trees) ⌝ }
+{
+    let mut k = 0;
+    while k < trees {
+        let wrong = tree_wrong(mesh, dimension, trees, k);
+        if wrong.kind != 0 {
+            return found(7, k, wrong);
+        }
+        k += 1;
+    }
+    refused(0)
+}

@@ -1,0 +1,243 @@
+-- What the search finds in a part is what the definitions say.
+use Prim.Native.Nat.{ℕ, _+_, _-_, _≤_, _<_}
+use native.Mathlib.Omega.{arith}
+use native.Mathlib.Nat.{add-sub-cancel-left}
+use mathlib.Core.Path.{_≡_, sym, _∙_}
+use mathlib.Core.Bool.{Bool, true, false, cond}
+use mathlib.Core.List.{List}
+use lib.Dec.{ltb}
+use borrow.Author.Tests.{lt-ltb, le-ltb, eq-eqb, ne-eqb}
+use Rattle.encoding.specs.Below.{anyBelow, leastBelow}
+use Rattle.encoding.specs.Pieces.{piece}
+use Rattle.encoding.specs.Refusal.{firstFailed}
+use Rattle.encoding.proofs.Below.{either, least-none, least-lt}
+use Rattle.records.specs.Shape.{faceCount}
+use Rattle.records.specs.Record.{coreSize, numberOf, shapeOf, neighbourOf}
+use Rattle.mesh.specs.Link.{orientationOk}
+use Rattle.part.specs.Layout.{treePlace, ghostPlace}
+use Rattle.part.specs.Means.{inRange, neighbourIn, ghostCore, ghostHas}
+use Rattle.part.specs.Part.{partDimension, partCount, partGhostCount, storedTree, storedGhost, viewOf}
+use Rattle.part_check.specs.Means.{treeNumbered}
+use Rattle.faults.specs.declared.answer.Fault.{Fault}
+use Rattle.faults.specs.declared.answer.Wrong.{Wrong}
+use Rattle.faults.specs.Answer.{wrong, noFault, faultAt, firstFault}
+use Rattle.faults.specs.Record.{recordKind, linkKind, firstFace, recordWrong}
+use Rattle.faults.specs.Means.{formKind}
+use Rattle.faults.proofs.Firsts.{quiet, quiet-to, first-read, first-none}
+use Rattle.faults.proofs.Records.{face-form, face-absent, face-linked}
+use Rattle.part_fault.specs.declared.search.Extent.{Extent}
+use Rattle.part_fault.specs.Wrong.{treeOrderIn, treeToIn, treeFaceIn, treeWrongIn, ghostOrderIn, ghostToIn, ghostFaceIn, ghostBesideIn, ghostWrongIn, faceIn, wrongIn}
+use Rattle.part_fault.specs.Means.{Known}
+use Rattle.part_fault.proofs.Found.{known-order, known-out}
+
+module _ (part : List ℕ) (e : Extent) (known : Known part e) where
+  -- ---- the link of a tree
+
+  module _ (i f : ℕ) {at : ℕ} (here : at ≡ treePlace i) where
+    module _ {m : ℕ} (read : m ≡ neighbourOf (piece part at coreSize) f) where
+      pub to-tree : {to r : ℕ} → m < e .count → to ≡ treePlace m → r ≡ linkKind i (piece part at coreSize) f (piece part to coreSize) → r ≡ treeToIn (viewOf part) i f (neighbourOf (storedTree part i) f)
+      unfolding treeToIn storedTree
+      to-tree h there p = rw (← here, ← read, ← known .is-count, lt-ltb m (e .count) h, ← there, p)
+
+      pub to-ghost : {v to r : ℕ} → e .count ≤ m → m - e .count < e .ghosts → v ≡ numberOf (piece part at coreSize) → to ≡ ghostPlace (e .count) (m - e .count)
+          → r ≡ linkKind v (piece part at coreSize) f (piece part to coreSize) → r ≡ treeToIn (viewOf part) i f (neighbourOf (storedTree part i) f)
+      unfolding treeToIn storedTree storedGhost
+      to-ghost h l q there p =
+          rw (← here, ← read, ← known .is-count, ← known .is-ghosts, le-ltb m (e .count) h, lt-ltb (m - e .count) (e .ghosts) l, ← there, p, q)
+
+      pub to-nothing : e .count ≤ m → e .ghosts ≤ m - e .count → 13 ≡ treeToIn (viewOf part) i f (neighbourOf (storedTree part i) f)
+      unfolding treeToIn storedTree
+      to-nothing h l = rw (← here, ← read, ← known .is-count, ← known .is-ghosts, le-ltb m (e .count) h, le-ltb (m - e .count) (e .ghosts) l)
+
+    -- ---- a face of a tree
+
+    module _ {kind : ℕ} (pk : kind ≡ formKind i (piece part at coreSize) f) where
+      tree-at : kind ≡ formKind i (storedTree part i) f
+      unfolding storedTree
+      tree-at = rw here at pk
+
+      abbrev to : ℕ → ℕ
+      to g = treeToIn (viewOf part) i g (neighbourOf (storedTree part i) g)
+
+      pub tree-form : (kind ≡ 0 → ⊥) → kind ≡ treeFaceIn (viewOf part) i f
+      unfolding treeFaceIn
+      tree-form h = face-form i (storedTree part i) to f tree-at h
+
+      module _ (g1 : kind ≡ 0) {b : Bool} (pb : b ≡ ltb f (faceCount (shapeOf (piece part at coreSize)))) where
+        tree-has : b ≡ ltb f (faceCount (shapeOf (storedTree part i)))
+        unfolding storedTree
+        tree-has = rw here at pb
+
+        pub tree-absent : b ≡ false → 0 ≡ treeFaceIn (viewOf part) i f
+        unfolding treeFaceIn
+        tree-absent h = face-absent i (storedTree part i) to f tree-at g1 tree-has h
+
+        pub tree-linked : {r : ℕ} → b ≡ true → r ≡ treeToIn (viewOf part) i f (neighbourOf (storedTree part i) f) → r ≡ treeFaceIn (viewOf part) i f
+        unfolding treeFaceIn
+        tree-linked h p = p ∙ face-linked i (storedTree part i) to f tree-at g1 tree-has h
+
+  -- ---- the link of a ghost
+
+  module _ (j f : ℕ) {at : ℕ} (here : at ≡ ghostPlace (e .count) j) where
+    ghost-here : storedGhost part j ≡ piece part at coreSize
+    unfolding storedGhost
+    ghost-here = rw (here, known .is-count)
+
+    module _ {k : ℕ} (read : k ≡ neighbourOf (piece part at coreSize) f) {b : Bool} (test : b ≡ inRange (e .first) (e .first + e .count) k) where
+      -- the cases, with what is read in place
+      link-is : ghostToIn (viewOf part) j f (neighbourOf (storedGhost part j) f)
+          ≡ cond b (linkKind (e .count + j) (piece part at coreSize) f (piece part (treePlace (k - e .first)) coreSize))
+          (cond (anyBelow (e .found) (ghostHas (ghostCore part (e .count)) k))
+          (linkKind (numberOf (piece part at coreSize)) (piece part at coreSize) f (piece part (ghostPlace (e .count) (leastBelow (e .found) (ghostHas (ghostCore part (e .count)) k))) coreSize))
+          (cond (ltb k (e .trees)) (cond (orientationOk (piece part at coreSize) f) 0 14) 13))
+      unfolding ghostToIn storedTree storedGhost ghostHas ghostCore inRange
+      link-is = rw (test, read, here, known .is-first, known .is-count, known .is-found, known .is-trees)
+
+      pub to-local : (t : ℕ) {own to r : ℕ} → b ≡ true → t + e .first ≡ k → own ≡ e .count + j → to ≡ treePlace t → r ≡ linkKind own (piece part at coreSize) f (piece part to coreSize)
+          → r ≡ ghostToIn (viewOf part) j f (neighbourOf (storedGhost part j) f)
+      to-local t h l q there p =
+          let s : k - e .first ≡ t = omega arith in
+          rw (link-is, h, s, ← there, p, q)
+
+      module _ (out : b ≡ false) {p : ℕ} (position : p ≡ leastBelow (e .found) (ghostHas (ghostCore part (e .count)) k)) where
+        pub to-other : {v to r : ℕ} → p < e .found → v ≡ numberOf (piece part at coreSize) → to ≡ ghostPlace (e .count) p → r ≡ linkKind v (piece part at coreSize) f (piece part to coreSize)
+            → r ≡ ghostToIn (viewOf part) j f (neighbourOf (storedGhost part j) f)
+        to-other h q there s =
+            let some : anyBelow (e .found) (ghostHas (ghostCore part (e .count)) k) ≡ true =
+            either (anyBelow (e .found) (ghostHas (ghostCore part (e .count)) k)) (λ t. t) (λ t. absurd (omega (arith, least-none (e .found) (ghostHas (ghostCore part (e .count)) k) t))) in
+            rw (link-is, out, some, ← position, ← there, s, q)
+
+        module _ (free : e .found ≤ p) where
+          none : anyBelow (e .found) (ghostHas (ghostCore part (e .count)) k) ≡ false
+          none =
+              either (anyBelow (e .found) (ghostHas (ghostCore part (e .count)) k)) (λ t. absurd (omega (arith, least-lt (e .found) (ghostHas (ghostCore part (e .count)) k) t))) (λ t. t)
+
+          pub to-outside : e .trees ≤ k → 13 ≡ ghostToIn (viewOf part) j f (neighbourOf (storedGhost part j) f)
+          to-outside h = rw (link-is, out, none, le-ltb k (e .trees) h)
+
+          module _ (h : k < e .trees) {o : Bool} (po : o ≡ orientationOk (piece part at coreSize) f) where
+            pub to-far : o ≡ true → 0 ≡ ghostToIn (viewOf part) j f (neighbourOf (storedGhost part j) f)
+            to-far q = rw (link-is, out, none, lt-ltb k (e .trees) h, ← po, q)
+
+            pub to-turned : o ≡ false → 14 ≡ ghostToIn (viewOf part) j f (neighbourOf (storedGhost part j) f)
+            to-turned q = rw (link-is, out, none, lt-ltb k (e .trees) h, ← po, q)
+
+    -- ---- a face of a ghost
+
+    module _ {v kind : ℕ} (pv : v ≡ numberOf (piece part at coreSize)) (pk : kind ≡ formKind v (piece part at coreSize) f) where
+      ghost-at : kind ≡ formKind (numberOf (storedGhost part j)) (storedGhost part j) f
+      ghost-at = rw (ghost-here, ← pv) pk
+
+      abbrev from : ℕ → ℕ
+      from g = ghostToIn (viewOf part) j g (neighbourOf (storedGhost part j) g)
+
+      pub ghost-form : (kind ≡ 0 → ⊥) → kind ≡ ghostFaceIn (viewOf part) j f
+      unfolding ghostFaceIn
+      ghost-form h = face-form (numberOf (storedGhost part j)) (storedGhost part j) from f ghost-at h
+
+      module _ (g1 : kind ≡ 0) {b : Bool} (pb : b ≡ ltb f (faceCount (shapeOf (piece part at coreSize)))) where
+        ghost-has : b ≡ ltb f (faceCount (shapeOf (storedGhost part j)))
+        ghost-has = rw ghost-here pb
+
+        pub ghost-absent : b ≡ false → 0 ≡ ghostFaceIn (viewOf part) j f
+        unfolding ghostFaceIn
+        ghost-absent h = face-absent (numberOf (storedGhost part j)) (storedGhost part j) from f ghost-at g1 ghost-has h
+
+        pub ghost-linked : {r : ℕ} → b ≡ true → r ≡ ghostToIn (viewOf part) j f (neighbourOf (storedGhost part j) f) → r ≡ ghostFaceIn (viewOf part) j f
+        unfolding ghostFaceIn
+        ghost-linked h p = p ∙ face-linked (numberOf (storedGhost part j)) (storedGhost part j) from f ghost-at g1 ghost-has h
+
+  -- ---- a face of a record
+
+  pub face-of-tree : (i f : ℕ) {r : ℕ} → i < e .count → r ≡ treeFaceIn (viewOf part) i f → r ≡ faceIn (viewOf part) i f
+  unfolding faceIn
+  face-of-tree i f h p = rw (lt-ltb i (partCount part) (omega (arith, known .is-count))) p
+
+  pub face-of-ghost : (i f : ℕ) {r : ℕ} → e .count ≤ i → r ≡ ghostFaceIn (viewOf part) (i - e .count) f → r ≡ faceIn (viewOf part) i f
+  unfolding faceIn
+  face-of-ghost i f h p = rw (le-ltb i (partCount part) (omega (arith, known .is-count))) (rw (known .is-count) at p)
+
+  -- ---- a record
+
+  module _ (i : ℕ) {at : ℕ} (here : at ≡ treePlace i) (tree : i < e .count) {b : Bool} (pb : b ≡ treeNumbered (e .first) (storedTree part) i) {kind : ℕ} (pk : kind ≡ recordKind b (e .dimension) (piece part at coreSize)) where
+    tree-kind : kind ≡ recordKind (treeOrderIn (viewOf part) i) (partDimension part) (storedTree part i)
+    unfolding treeOrderIn treeNumbered storedTree
+    tree-kind = rw (pb, known .is-first, known .is-dimension, here) at pk
+
+    pub tree-found : (kind ≡ 0 → ⊥) → wrong kind 0 ≡ treeWrongIn (viewOf part) i
+    unfolding treeWrongIn recordWrong
+    tree-found h = rw (← tree-kind, ne-eqb kind 0 h)
+
+    faces-of : firstFace (faceIn (viewOf part) i) ≡ firstFace (treeFaceIn (viewOf part) i)
+    unfolding faceIn
+    faces-of = rw (← known .is-count, lt-ltb i (e .count) tree)
+
+    pub tree-searched : {w : Wrong} → kind ≡ 0 → w ≡ firstFace (faceIn (viewOf part) i) → w ≡ treeWrongIn (viewOf part) i
+    unfolding treeWrongIn recordWrong
+    tree-searched h p = p ∙ faces-of ∙ rw (← tree-kind, eq-eqb kind 0 h)
+
+  module _ (j : ℕ) {at : ℕ} (here : at ≡ ghostPlace (e .count) j) (found : j < e .found) {kind : ℕ} (pk : kind ≡ recordKind true (e .dimension) (piece part at coreSize)) where
+    ghost-kind : kind ≡ recordKind (ghostOrderIn (viewOf part) j) (partDimension part) (storedGhost part j)
+    ghost-kind = rw (known-order part e known j found, ghost-here j 0 here, ← known .is-dimension) pk
+
+    pub ghost-found : (kind ≡ 0 → ⊥) → wrong kind 0 ≡ ghostWrongIn (viewOf part) j
+    unfolding ghostWrongIn recordWrong
+    ghost-found h = rw (← ghost-kind, ne-eqb kind 0 h, ne-eqb kind 0 h)
+
+    module _ (g1 : kind ≡ 0) {w : Wrong} (pw : w ≡ firstFace (faceIn (viewOf part) (e .count + j))) where
+      ghost-faces : w ≡ firstFace (ghostFaceIn (viewOf part) j)
+      unfolding faceIn
+      ghost-faces = pw ∙ rw (← known .is-count, le-ltb (e .count + j) (e .count) (omega arith), add-sub-cancel-left (e .count) j)
+
+      pub ghost-searched : (w .kind ≡ 0 → ⊥) → w ≡ ghostWrongIn (viewOf part) j
+      unfolding ghostWrongIn recordWrong
+      ghost-searched h = rw (← ghost-kind, eq-eqb kind 0 g1, ← ghost-faces, ne-eqb (w .kind) 0 h)
+
+      module _ (g2 : w .kind ≡ 0) {s c : ℕ} (ps : s ≡ shapeOf (piece part at coreSize)) (pc : c ≡ faceCount s) {b : Bool} (pb : b ≡ anyBelow c (neighbourIn (e .first) (e .first + e .count) (piece part at coreSize))) where
+        beside : b ≡ ghostBesideIn (viewOf part) j
+        unfolding ghostBesideIn neighbourIn inRange
+        beside = rw (ghost-here j 0 here, ← known .is-first, ← known .is-count, ← ps, ← pc) pb
+
+        pub ghost-beside : b ≡ true → wrong 0 0 ≡ ghostWrongIn (viewOf part) j
+        unfolding ghostWrongIn recordWrong
+        ghost-beside h = rw (← ghost-kind, eq-eqb kind 0 g1, ← ghost-faces, eq-eqb (w .kind) 0 g2, ← beside, h)
+
+        pub ghost-alone : b ≡ false → wrong 17 0 ≡ ghostWrongIn (viewOf part) j
+        unfolding ghostWrongIn recordWrong
+        ghost-alone h = rw (← ghost-kind, eq-eqb kind 0 g1, ← ghost-faces, eq-eqb (w .kind) 0 g2, ← beside, h)
+
+  pub wrong-tree : (i : ℕ) {w : Wrong} → i < e .count → w ≡ treeWrongIn (viewOf part) i → w ≡ wrongIn (viewOf part) i
+  unfolding wrongIn
+  wrong-tree i h p = rw (lt-ltb i (partCount part) (omega (arith, known .is-count))) p
+
+  pub wrong-ghost : (i : ℕ) {w : Wrong} → e .count ≤ i → w ≡ ghostWrongIn (viewOf part) (i - e .count) → w ≡ wrongIn (viewOf part) i
+  unfolding wrongIn
+  wrong-ghost i h p = rw (le-ltb i (partCount part) (omega (arith, known .is-count))) (rw (known .is-count) at p)
+
+  -- ---- the search
+
+  -- the first ghost out of order
+  out-ghost : e .found < e .ghosts → wrong 7 0 ≡ ghostWrongIn (viewOf part) (e .found)
+  unfolding ghostWrongIn recordWrong recordKind firstFailed
+  out-ghost h = rw (known-out part e known h)
+
+  out-wrong : e .found < e .ghosts → wrong 7 0 ≡ wrongIn (viewOf part) (e .count + e .found)
+  out-wrong h = wrong-ghost (e .count + e .found) (omega arith) (rw (add-sub-cancel-left (e .count) (e .found)) (out-ghost h))
+
+  abbrev kinds : ℕ → ℕ
+  kinds i = wrongIn (viewOf part) i .kind
+
+  abbrev all : ℕ
+  all = partCount part + partGhostCount part
+
+  module _ (i : ℕ) (before : quiet kinds i ≡ true) {a : Fault} where
+    pub part-found : {w : Wrong} → i < e .count + e .found → w ≡ wrongIn (viewOf part) i → (w .kind ≡ 0 → ⊥) → a ≡ faultAt 8 i w → a ≡ firstFault 8 all (wrongIn (viewOf part))
+    part-found h p z f = first-read 8 all (wrongIn (viewOf part)) i (omega (arith, known .is-count, known .is-ghosts, known .within)) before p z f
+
+    pub part-out : i ≤ e .count + e .found → e .count + e .found ≤ i → e .found < e .ghosts → a ≡ faultAt 8 (e .count + e .found) (wrong 7 0) → a ≡ firstFault 8 all (wrongIn (viewOf part))
+    part-out h l o f =
+        first-read 8 all (wrongIn (viewOf part)) (e .count + e .found) (omega (arith, known .is-count, known .is-ghosts)) (quiet-to (e .count + e .found) kinds i h l before) (out-wrong o) (λ z. omega arith) f
+
+    pub part-none : i ≤ e .count + e .found → e .count + e .found ≤ i → e .ghosts ≤ e .found → a ≡ noFault → a ≡ firstFault 8 all (wrongIn (viewOf part))
+    part-none h l o f =
+        f ∙ sym (first-none 8 all (wrongIn (viewOf part)) (quiet-to all kinds i (omega (arith, known .is-count, known .is-ghosts, known .within)) (omega (arith, known .is-count, known .is-ghosts, known .within)) before))

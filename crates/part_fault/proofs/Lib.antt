@@ -1,0 +1,5 @@
+-- Laws of the faults of a part.
+pub mod Found
+pub mod Finding
+pub mod Right
+pub mod Theorems

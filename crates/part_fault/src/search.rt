@@ -1,0 +1,253 @@
+// The first record of a part that is wrong. Trees are followed by local index, ghosts found by number among those in order, by halves.
+use faults::answer::Fault;
+use faults::answer::Wrong;
+use faults::answer::found;
+use faults::answer::refused;
+use faults::record::form_kind;
+use faults::record::has_face;
+use faults::record::link_kind;
+use faults::record::record_kind;
+use part::layout::ghost_at;
+use part::layout::tree_at;
+use part::range::in_range;
+use part_check::sound::ghost_numbered;
+use part_check::sound::ghost_with;
+use part_check::sound::tree_numbered;
+use records::index::GlobalIndex;
+use records::index::LocalIndex;
+use records::index::ghost_index;
+use records::index::to_local;
+use records::read::neighbour_of;
+use records::read::number_of;
+ghost use mathlib.Core.Path.{_≡_};
+ghost use mathlib.Core.Bool.{not};
+ghost use Prim.Native.Nat.{_+_, _≤_, _<_};
+ghost use Rattle.encoding.specs.Below.{leastBelow};
+ghost use Rattle.part.specs.Means.{ghostCore};
+ghost use Rattle.records.specs.Record.{neighbourOf};
+ghost use Rattle.part.specs.Part.{partK, partFirst, partCount, partGhostCount, storedTree, storedGhost, viewOf};
+ghost use Rattle.part_check.specs.Means.{ghostNumbered, PartLaid};
+ghost use Rattle.faults.specs.Answer.{firstFault};
+ghost use Rattle.faults.specs.Record.{firstFace};
+ghost use Rattle.part_fault.specs.Wrong.{treeToIn, treeFaceIn, treeWrongIn, ghostToIn, ghostFaceIn, ghostWrongIn, faceIn, wrongIn};
+ghost use Rattle.part_fault.specs.Means.{Known};
+
+// What the header says, and how many ghosts come before the first that is out of order.
+pub struct Extent {
+    pub first: u32,
+    pub count: u32,
+    pub ghosts: u32,
+    pub found: u32,
+    pub dimension: u32,
+    pub trees: u32,
+}
+
+fn ghosts_found(part: &[u8], first: u32, count: u32, ghosts: u32, trees: u32) -> u32
+    requires { ⌜ PartLaid (now part) first count ghosts trees ⌝ }
+    ensures { λ r. ⌜ r ≡ leastBelow ghosts (λ j. not (ghostNumbered first count (ghostCore (now (part .entry)) count) trees j)) ⌝ }
+{
+    let mut j = 0;
+    while j < ghosts {
+        if !ghost_numbered(part, first, count, trees, j) {
+            return j;
+        }
+        j += 1;
+    }
+    ghosts
+}
+
+pub fn extent_of(part: &[u8]) -> Extent
+    requires { ⌜ PartLaid (now part) (partFirst (now part)) (partCount (now part)) (partGhostCount (now part)) (partK (now part)) ⌝ }
+    ensures { λ r. ⌜ Known (now (part .entry)) r ⌝ }
+{
+    let first = part::layout::first_tree(part).0;
+    let count = part::layout::tree_count(part);
+    let ghosts = part::layout::ghost_count(part);
+    let trees = part::layout::trees(part);
+    Extent {
+        first,
+        count,
+        ghosts,
+        found: ghosts_found(part, first, count, ghosts, trees),
+        dimension: part::layout::dimension(part),
+        trees,
+    }
+}
+
+// ---- trees
+
+fn tree_link(part: &[u8], e: Extent, i: u32, face: u32) -> u32
+    requires { ⌜ Known (now part) e × (i < e .count) × (face < 6) ⌝ }
+    ensures { λ r. ⌜ r ≡ treeToIn (viewOf (now (part .entry))) i face (neighbourOf (storedTree (now (part .entry)) i) face) ⌝ }
+{
+    let count = e.count;
+    let at = tree_at(LocalIndex(i));
+    let m = neighbour_of(part, at, face);
+    if m < count {
+        return link_kind(part, i, at, face, tree_at(LocalIndex(m)));
+    }
+    if m - count < e.ghosts {
+        return link_kind(
+            part,
+            number_of(part, at),
+            at,
+            face,
+            ghost_at(count, m - count),
+        );
+    }
+    13
+}
+
+fn tree_face(part: &[u8], e: Extent, i: u32, face: u32) -> u32
+    requires { ⌜ Known (now part) e × (i < e .count) × (face < 6) ⌝ }
+    ensures { λ r. ⌜ r ≡ treeFaceIn (viewOf (now (part .entry))) i face ⌝ }
+{
+    let at = tree_at(LocalIndex(i));
+    let kind = form_kind(part, at, i, face);
+    if kind != 0 {
+        return kind;
+    }
+    if !has_face(part, at, face) {
+        return 0;
+    }
+    tree_link(part, e, i, face)
+}
+
+// ---- ghosts
+
+fn ghost_link(part: &[u8], e: Extent, j: u32, face: u32) -> u32
+    requires { ⌜ Known (now part) e × (j < e .found) × (face < 6) ⌝ }
+    ensures { λ r. ⌜ r ≡ ghostToIn (viewOf (now (part .entry))) j face (neighbourOf (storedGhost (now (part .entry)) j) face) ⌝ }
+{
+    let first = e.first;
+    let count = e.count;
+    let at = ghost_at(count, j);
+    let k = neighbour_of(part, at, face);
+    if in_range(first, first + count, GlobalIndex(k)) {
+        let tree = to_local(GlobalIndex(k), GlobalIndex(first));
+        let own = ghost_index(count, j);
+        return link_kind(part, own.0, at, face, tree_at(tree));
+    }
+    let position = ghost_with(part, count, e.found, GlobalIndex(k));
+    if position < e.found {
+        return link_kind(
+            part,
+            number_of(part, at),
+            at,
+            face,
+            ghost_at(count, position),
+        );
+    }
+    if e.trees <= k {
+        return 13;
+    }
+    if mesh::link::orientation_ok(part, at, face) {
+        return 0;
+    }
+    14
+}
+
+fn ghost_face(part: &[u8], e: Extent, j: u32, face: u32) -> u32
+    requires { ⌜ Known (now part) e × (j < e .found) × (face < 6) ⌝ }
+    ensures { λ r. ⌜ r ≡ ghostFaceIn (viewOf (now (part .entry))) j face ⌝ }
+{
+    let at = ghost_at(e.count, j);
+    let kind = form_kind(part, at, number_of(part, at), face);
+    if kind != 0 {
+        return kind;
+    }
+    if !has_face(part, at, face) {
+        return 0;
+    }
+    ghost_link(part, e, j, face)
+}
+
+// ---- records: ghosts count on from the number of trees
+
+fn record_face(part: &[u8], e: Extent, i: u32, face: u32) -> u32
+    requires { ⌜ Known (now part) e × (i < e .count + e .found) × (face < 6) ⌝ }
+    ensures { λ r. ⌜ r ≡ faceIn (viewOf (now (part .entry))) i face ⌝ }
+{
+    if i < e.count {
+        return tree_face(part, e, i, face);
+    }
+    ghost_face(part, e, i - e.count, face)
+}
+
+fn record_faces(part: &[u8], e: Extent, i: u32) -> Wrong
+    requires { ⌜ Known (now part) e × (i < e .count + e .found) ⌝ }
+    ensures { λ r. ⌜ r ≡ firstFace (faceIn (viewOf (now (part .entry))) i) ⌝ }
+{
+    let mut face = 0;
+    while face < 6 {
+        let kind = record_face(part, e, i, face);
+        if kind != 0 {
+            return Wrong { kind, face };
+        }
+        face += 1;
+    }
+    Wrong { kind: 0, face: 0 }
+}
+
+fn tree_wrong(part: &[u8], e: Extent, i: u32) -> Wrong
+    requires { ⌜ Known (now part) e × (i < e .count) ⌝ }
+    ensures { λ r. ⌜ r ≡ treeWrongIn (viewOf (now (part .entry))) i ⌝ }
+{
+    let in_order = tree_numbered(part, GlobalIndex(e.first), LocalIndex(i));
+    let kind = record_kind(part, tree_at(LocalIndex(i)), in_order, e.dimension);
+    if kind != 0 {
+        return Wrong { kind, face: 0 };
+    }
+    record_faces(part, e, i)
+}
+
+// A ghost before the first out of order is in order.
+fn ghost_wrong(part: &[u8], e: Extent, j: u32) -> Wrong
+    requires { ⌜ Known (now part) e × (j < e .found) ⌝ }
+    ensures { λ r. ⌜ r ≡ ghostWrongIn (viewOf (now (part .entry))) j ⌝ }
+{
+    let at = ghost_at(e.count, j);
+    let kind = record_kind(part, at, true, e.dimension);
+    if kind != 0 {
+        return Wrong { kind, face: 0 };
+    }
+    let faces = record_faces(part, e, e.count + j);
+    if faces.kind != 0 {
+        return faces;
+    }
+    let count = records::shape::face_count(records::read::shape_of(part, at));
+    if part::range::beside(part, at, count, e.first, e.first + e.count) {
+        return Wrong { kind: 0, face: 0 };
+    }
+    Wrong { kind: 17, face: 0 }
+}
+
+fn record_wrong(part: &[u8], e: Extent, i: u32) -> Wrong
+    requires { ⌜ Known (now part) e × (i < e .count + e .found) ⌝ }
+    ensures { λ r. ⌜ r ≡ wrongIn (viewOf (now (part .entry))) i ⌝ }
+{
+    if i < e.count {
+        return tree_wrong(part, e, i);
+    }
+    ghost_wrong(part, e, i - e.count)
+}
+
+// Of the ghosts out of order the first is wrong for that alone, so that the search ends there at the latest.
+pub fn first_wrong(part: &[u8], e: Extent) -> Fault
+    requires { ⌜ Known (now part) e ⌝ }
+    ensures { λ r. ⌜ r ≡ firstFault 8 (partCount (now (part .entry)) + partGhostCount (now (part .entry))) (wrongIn (viewOf (now (part .entry)))) ⌝ }
+{
+    let end = e.count + e.found;
+    let mut i = 0;
+    while i < end {
+        let wrong = record_wrong(part, e, i);
+        if wrong.kind != 0 {
+            return found(8, i, wrong);
+        }
+        i += 1;
+    }
+    if e.found < e.ghosts {
+        return found(8, end, Wrong { kind: 7, face: 0 });
+    }
+    refused(0)
+}

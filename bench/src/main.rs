@@ -25,7 +25,7 @@ groups! {
     probes
     message
     area
-    ranks
+    fixed
     faults
 }
 

@@ -22,6 +22,7 @@ groups! {
     part
     message
     area
+    ranks
 }
 
 const RANKS: i64 = 1_024;
@@ -63,10 +64,11 @@ fn bytes_of(entries: impl Iterator<Item = i64>) -> Vec<u8> {
 }
 
 /// A table of the largest mesh: uneven shares, every third rank sharing its first tree.
-fn large_table(shift: i64) -> Vec<u8> {
-    bytes_of((0..=RANKS).map(|p| {
-        let inside = p > 0 && p < RANKS;
-        let cut = p * 1_024 + if inside { (p * 37 + shift) % 800 } else { 0 };
+fn large_table(ranks: i64, shift: i64) -> Vec<u8> {
+    let share = (1 << 20) / ranks;
+    bytes_of((0..=ranks).map(|p| {
+        let inside = p > 0 && p < ranks;
+        let cut = p * share + if inside { (p * 37 + shift) % (share * 800 / 1_024) } else { 0 };
         if inside && p % 3 == 1 {
             -cut
         } else {
@@ -75,13 +77,13 @@ fn large_table(shift: i64) -> Vec<u8> {
     }))
 }
 
-fn table_check() {
-    let table = large_table(0);
+fn table_check(ranks: i64) {
+    let table = large_table(ranks, 0);
     let library = |table: &[u8]| unsafe { library::vejgodat_check_table(table.as_ptr(), table.len()) };
     assert_eq!((library(&table), fast::check_table(&table)), (0, 0));
     let table = &table[..];
     let all = times(
-        5_000,
+        5_000 * 1_024 / ranks as usize,
         20,
         [
             &mut || _ = black_box(library(black_box(table))),
@@ -89,7 +91,7 @@ fn table_check() {
             &mut || _ = black_box(fast::check_table(black_box(table))),
         ],
     );
-    row("table check, P = 1,024", None, all);
+    row(&format!("table check, P = {ranks}"), None, all);
 }
 
 fn from_leaves(power: u32) {
@@ -122,14 +124,15 @@ fn send_set(name: &str, old: &[u8], new: &[u8], rank: u32) {
         let (a, b) = ((old.as_ptr(), old.len()), (new.as_ptr(), new.len()));
         library::vejgodat_send_set(a.0, a.1, b.0, b.1, rank, out.as_mut_ptr(), out.len())
     };
-    let [mut a, mut b, mut c] = [(); 3].map(|()| vec![u32::MAX; RANKS as usize]);
+    let ranks = old.len() / 8 - 1;
+    let [mut a, mut b, mut c] = [(); 3].map(|()| vec![u32::MAX; ranks]);
     let got = library(old, new, &mut a);
     assert_eq!(got.refusal, 0);
     assert_eq!(fast::send_set::<false>(old, new, rank, &mut b), Ok(got.count as usize));
     assert_eq!(fast::send_set::<true>(old, new, rank, &mut c), Ok(got.count as usize));
     assert!(a == b && a == c, "the same set");
     let all = times(
-        5_000,
+        5_000 * 1_024 / ranks,
         10,
         [
             &mut || _ = black_box(library(black_box(old), black_box(new), &mut a)),
@@ -137,7 +140,7 @@ fn send_set(name: &str, old: &[u8], new: &[u8], rank: u32) {
             &mut || _ = black_box(fast::send_set::<true>(black_box(old), black_box(new), rank, &mut c)),
         ],
     );
-    row(&format!("send set of {} ranks, P = 1,024, {name}", got.count), None, all);
+    row(&format!("send set of {} ranks, P = {ranks}, {name}", got.count), None, all);
 }
 
 /// A mesh of trees of one shape, with the link of each face: neighbour, its face, orientation.
@@ -221,14 +224,18 @@ fn mesh_check(name: &str, power: u32, mut mesh: Vec<u8>) {
 fn main() {
     println!("| call | library, µs | ns per tree | ratio to trusting | ratio to checking |");
     println!("|---|---:|---:|---:|---:|");
-    table_check();
+    for ranks in [RANKS, 16_384] {
+        table_check(ranks);
+    }
     for power in [14, 16, 18, 20] {
         from_leaves(power);
     }
     // shares that move a little; all trees from one rank to all
-    send_set("a middle rank", &large_table(0), &large_table(400), 512);
-    let on_first = bytes_of((0..=RANKS).map(|p| if p == 0 { 0 } else { RANKS * 1_024 }));
-    send_set("rank 0 had all", &on_first, &large_table(0), 0);
+    for ranks in [RANKS, 16_384] {
+        send_set("a middle rank", &large_table(ranks, 0), &large_table(ranks, 400), ranks as u32 / 2);
+        let on_first = bytes_of((0..=ranks).map(|p| if p == 0 { 0 } else { 1 << 20 }));
+        send_set("rank 0 had all", &on_first, &large_table(ranks, 0), 0);
+    }
     for powers in [[4, 5, 5], [4, 6, 6], [6, 6, 6], [6, 7, 7]] {
         mesh_check("hexahedra, a brick", powers.iter().sum(), brick(powers));
     }

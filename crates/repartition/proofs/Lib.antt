@@ -15,4 +15,5 @@ pub mod AfterList
 pub mod Examples
 pub mod Promises
 pub mod Refusals
+pub mod Words
 pub mod Regions

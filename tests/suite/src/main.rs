@@ -51,6 +51,7 @@ groups! {
     regions
     refusals
     nearest
+    ranks
 }
 
 /// What a test is given.

@@ -16,4 +16,5 @@ pub mod Examples
 pub mod Promises
 pub mod Refusals
 pub mod Words
+pub mod Deliveries
 pub mod Regions

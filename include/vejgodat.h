@@ -193,12 +193,14 @@
  *     at 28                  uint32_t      0
  *     at 32                  8 (P + 1)     the old table
  *     at 40 + 8 P            8 (P + 1)     the new table
- *     at 48 + 16 P           uint64_t[16]  the senders heard: bit s mod 64 of
+ *     at 48 + 16 P           uint64_t[w]   the senders heard: bit s mod 64 of
  *                                          word s div 64 for sender s
- *     at 176 + 16 P          64 n          a slot for each tree of f'(q)
- *     at 176 + 16 P + 64 n   40 F n        slots for ghosts
+ *     at A = 48 + 16 P + 8 w 64 n          a slot for each tree of f'(q)
+ *     at A + 64 n            40 F n        slots for ghosts
  *
- * so 176 + 16 P + (64 + 40 F) n bytes in all; the buffer may be longer, and what
+ * where w is 16 for P up to 1,024 and 256 above. So an area has
+ * 176 + 16 P + (64 + 40 F) n bytes up to 1,024 ranks and
+ * 2,096 + 16 P + (64 + 40 F) n above; the buffer may be longer, and what
  * lies behind the area is never read or written. The first h ghost slots hold
  * the ghosts that have come, ascending by number; every slot without a record
  * is zero. Which senders are heard decides every byte of an area, in whatever
@@ -281,7 +283,7 @@ extern "C" {
 #endif
 
 /** The largest number of ranks P. */
-#define VEJGODAT_MAX_RANKS 1024
+#define VEJGODAT_MAX_RANKS 16384
 
 /** The largest number of trees K. */
 #define VEJGODAT_MAX_TREES 1048576
@@ -310,10 +312,14 @@ extern "C" {
 /** The bytes of a message with n trees and g ghosts. */
 #define VEJGODAT_MESSAGE_BYTES(n, g) VEJGODAT_PART_BYTES (n, g)
 
+/** The words of heard senders in an area for P ranks. */
+#define VEJGODAT_HEARD_WORDS(P) ((size_t) ((P) <= 1024 ? 16 : 256))
+
 /** The bytes of an area for P ranks and n trees, with F faces at most: 4 in
  * dimension 2, 6 in dimension 3. */
 #define VEJGODAT_AREA_BYTES(P, n, F) \
-  (176 + 16 * (size_t) (P) + (64 + 40 * (size_t) (F)) * (size_t) (n))
+  (48 + 16 * (size_t) (P) + 8 * VEJGODAT_HEARD_WORDS (P) + \
+   (64 + 40 * (size_t) (F)) * (size_t) (n))
 
 /** What the number `refusal` of a result means. */
 enum
@@ -322,7 +328,7 @@ enum
   VEJGODAT_RANKS = 2,           /**< A table, or a rank count for making one,
                                      is outside P's limits. A table is so if
                                      its length isn't 8 (P + 1) bytes for a P
-                                     from 1 to 1,024. */
+                                     from 1 to 16,384. */
   VEJGODAT_TABLE = 3,           /**< A table isn't valid. */
   VEJGODAT_DIFFER = 4,          /**< Old and new table differ in P or K. */
   VEJGODAT_INDEX = 5,           /**< A rank is >= P, a tree >= K, a local index
@@ -386,7 +392,7 @@ vejgodat_refusal_text (uint32_t refusal)
     return "the text of a plan has another form";
   case VEJGODAT_RANKS:
     return "a table, or a rank count for making one, is outside the limits of"
-      " P (1 to 1,024)";
+      " P (1 to 16,384)";
   case VEJGODAT_TABLE:
     return "a table isn't valid";
   case VEJGODAT_DIFFER:
@@ -1163,7 +1169,7 @@ vejgodat_length     vejgodat_build_message (const uint8_t * part,
  * \param [in] new_len    The number of its bytes.
  * \param [in] rank       The receiving rank q; any number.
  * \param [in] dimension  The dimension of the mesh; any number.
- * \return                176 + 16 P + (64 + 40 F) n, which
+ * \return                \ref VEJGODAT_AREA_BYTES of P, n and F, which
  *                        \ref vejgodat_open_area needs as buffer.
  */
 vejgodat_length     vejgodat_area_length (const uint8_t * old_table,
@@ -1189,7 +1195,8 @@ vejgodat_length     vejgodat_area_length (const uint8_t * old_table,
  * \param [out] out       Its first bytes become the area; the bytes behind
  *                        them stay. When refused, all of them stay.
  * \param [in] out_len    The number of bytes of \a out.
- * \return                The bytes written, 176 + 16 P + (64 + 40 F) n.
+ * \return                The bytes written, \ref VEJGODAT_AREA_BYTES of P, n
+ *                        and F.
  */
 vejgodat_length     vejgodat_open_area (const uint8_t * old_table,
                                         size_t old_len,

@@ -18,7 +18,7 @@ pub fn first(entry: i64) -> i64 {
 }
 
 pub fn check_table(table: &[u8]) -> u32 {
-    if table.len() % 8 != 0 || table.len() < 16 || table.len() > 8_200 {
+    if table.len() % 8 != 0 || table.len() < 16 || table.len() > 131_080 {
         return 2;
     }
     let trees = entry(table, table.len() / 8 - 1);
@@ -43,7 +43,7 @@ pub fn check_table(table: &[u8]) -> u32 {
 pub fn table_from_leaves<const CHECKS: bool>(ranks: u32, leaves: &[u32], out: &mut [u8]) -> Result<usize, u32> {
     let length = 8 * (ranks as usize + 1);
     if CHECKS {
-        if !(1..=1_024).contains(&ranks) {
+        if !(1..=16_384).contains(&ranks) {
             return Err(2);
         }
         if leaves.is_empty() || leaves.len() > MAX_TREES as usize {

@@ -26,6 +26,7 @@ groups! {
     message
     area
     fixed
+    ranks
     faults
 }
 
@@ -110,10 +111,11 @@ fn bytes_of(entries: impl Iterator<Item = i64>) -> Vec<u8> {
 }
 
 /// A table of the largest mesh: uneven shares, every third rank sharing its first tree.
-fn large_table(shift: i64) -> Vec<u8> {
-    bytes_of((0..=RANKS).map(|p| {
-        let inside = p > 0 && p < RANKS;
-        let cut = p * 1_024 + if inside { (p * 37 + shift) % 800 } else { 0 };
+fn large_table(ranks: i64, shift: i64) -> Vec<u8> {
+    let share = (1 << 20) / ranks;
+    bytes_of((0..=ranks).map(|p| {
+        let inside = p > 0 && p < ranks;
+        let cut = p * share + if inside { (p * 37 + shift) % (share * 800 / 1_024) } else { 0 };
         if inside && p % 3 == 1 {
             -cut
         } else {
@@ -122,13 +124,13 @@ fn large_table(shift: i64) -> Vec<u8> {
     }))
 }
 
-fn table_check() {
-    let table = large_table(0);
+fn table_check(ranks: i64) {
+    let table = large_table(ranks, 0);
     let library = |table: &[u8]| unsafe { library::vejgodat_check_table(table.as_ptr(), table.len()) };
     assert_eq!((library(&table), fast::check_table(&table)), (0, 0));
     let table = &table[..];
     let all = times(
-        5_000,
+        5_000 * 1_024 / ranks as usize,
         20,
         [
             &mut || _ = black_box(library(black_box(table))),
@@ -137,7 +139,7 @@ fn table_check() {
             &mut || floor(&[Read::All(black_box(table))], &mut []),
         ],
     );
-    floor_row("table check, P = 1,024", None, all);
+    floor_row(&format!("table check, P = {ranks}"), None, all);
 }
 
 fn from_leaves(power: u32) {
@@ -173,7 +175,8 @@ fn send_set(name: &str, old: &[u8], new: &[u8], rank: u32) {
         let (a, b) = ((old.as_ptr(), old.len()), (new.as_ptr(), new.len()));
         library::vejgodat_send_set(a.0, a.1, b.0, b.1, rank, out.as_mut_ptr(), out.len())
     };
-    let [mut a, mut b, mut c] = [(); 3].map(|()| vec![u32::MAX; RANKS as usize]);
+    let ranks = old.len() / 8 - 1;
+    let [mut a, mut b, mut c] = [(); 3].map(|()| vec![u32::MAX; ranks]);
     let got = library(old, new, &mut a);
     assert_eq!(got.refusal, 0);
     assert_eq!(fast::send_set::<false>(old, new, rank, &mut b), Ok(got.count as usize));
@@ -181,7 +184,7 @@ fn send_set(name: &str, old: &[u8], new: &[u8], rank: u32) {
     assert!(a == b && a == c, "the same set");
     let mut d = vec![0; 4 * got.count as usize];
     let all = times(
-        5_000,
+        5_000 * 1_024 / ranks,
         10,
         [
             &mut || _ = black_box(library(black_box(old), black_box(new), &mut a)),
@@ -190,7 +193,7 @@ fn send_set(name: &str, old: &[u8], new: &[u8], rank: u32) {
             &mut || floor(&[Read::All(black_box(old)), Read::All(black_box(new))], &mut d),
         ],
     );
-    floor_row(&format!("send set of {} ranks, P = 1,024, {name}", got.count), None, all);
+    floor_row(&format!("send set of {} ranks, P = {ranks}, {name}", got.count), None, all);
 }
 
 /// A mesh of trees of one shape, with the link of each face: neighbour, its face, orientation.
@@ -291,14 +294,18 @@ fn bricks() -> impl Iterator<Item = (u32, Vec<u8>)> {
 fn main() {
     println!("| call | library, µs | ns per tree | ratio to trusting | ratio to checking | ratio to the floor |");
     println!("|---|---:|---:|---:|---:|---:|");
-    table_check();
+    for ranks in [RANKS, 16_384] {
+        table_check(ranks);
+    }
     for &power in powers() {
         from_leaves(power);
     }
     // shares that move a little; all trees from one rank to all
-    send_set("a middle rank", &large_table(0), &large_table(400), 512);
-    let on_first = bytes_of((0..=RANKS).map(|p| if p == 0 { 0 } else { RANKS * 1_024 }));
-    send_set("rank 0 had all", &on_first, &large_table(0), 0);
+    for ranks in [RANKS, 16_384] {
+        send_set("a middle rank", &large_table(ranks, 0), &large_table(ranks, 400), ranks as u32 / 2);
+        let on_first = bytes_of((0..=ranks).map(|p| if p == 0 { 0 } else { 1 << 20 }));
+        send_set("rank 0 had all", &on_first, &large_table(ranks, 0), 0);
+    }
     for (power, mesh) in bricks() {
         mesh_check("hexahedra, a brick", power, mesh);
     }

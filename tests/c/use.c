@@ -96,7 +96,7 @@ table_length (void)
   answer = vejgodat_table_length (3);
   EXPECT (answer.refusal == VEJGODAT_OK && answer.length == 32);
   answer = vejgodat_table_length (VEJGODAT_MAX_RANKS);
-  EXPECT (answer.refusal == VEJGODAT_OK && answer.length == 8200);
+  EXPECT (answer.refusal == VEJGODAT_OK && answer.length == 131080);
   answer = vejgodat_table_length (VEJGODAT_MAX_RANKS + 1);
   EXPECT (answer.refusal == VEJGODAT_RANKS && answer.length == 0);
 }
@@ -577,6 +577,9 @@ areas (void)
     area_len = (size_t) answer.length;
     /* here each rank has as many trees as senders */
     EXPECT (area_len == VEJGODAT_AREA_BYTES (3, due[q], 4));
+    EXPECT (VEJGODAT_AREA_BYTES (1024, 0, 4) == 16560);
+    EXPECT (VEJGODAT_AREA_BYTES (1025, 0, 4) == 18496);
+    EXPECT (VEJGODAT_AREA_BYTES (VEJGODAT_MAX_RANKS, 0, 6) == 264240);
 
     for (order = 0; order < due[q]; ++order) {
       memset (area, 0x5a, sizeof area);

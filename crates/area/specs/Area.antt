@@ -4,7 +4,7 @@ use mathlib.Core.Bool.{Bool, true, cond, not, _&&_}
 use mathlib.Core.List.{List}
 use lib.Dec.{leb, ltb, eqb}
 use lib.ListN.{length, drop}
-use Rattle.encoding.specs.Below.{allBelow}
+use Rattle.encoding.specs.Below.{allBelow, countBelow}
 use Rattle.encoding.specs.Numbers.{u32At, u64At}
 use Rattle.encoding.specs.Pieces.{piece}
 use Rattle.encoding.specs.Words.{allZero}
@@ -90,6 +90,14 @@ module _ (a : List ℕ) where
   treeSlotSound i =
       cond (dueHeard i) (inForm (areaFirst + i) (treeSlotCore i) && eqb (numberOf (treeSlotCore i)) (areaFirst + i)) (allZero (treeSlot i))
 
+  -- how many tree slots are filled: those of trees due from heard senders
+  unfoldable pub filledSlots : ℕ
+  filledSlots = countBelow areaCount dueHeard
+
+  -- how many ghosts it may hold: F for each filled tree slot
+  unfoldable pub filledBound : ℕ
+  filledBound = ghostBound (facesIn areaDimension) filledSlots
+
   -- held ghosts fill the first slots: in form, below K, outside the new range, strictly ascending
   unfoldable pub ghostHeldSound : ℕ → Bool
   ghostHeldSound j =
@@ -107,7 +115,7 @@ module _ (a : List ℕ) where
   -- the area is sound
   unfoldable pub areaSound : Bool
   areaSound =
-      areaHeaderSound && allBelow (64 * heardWords areaP) bitSound && allBelow areaCount treeSlotSound && leb areaGhosts areaBound
+      areaHeaderSound && allBelow (64 * heardWords areaP) bitSound && allBelow areaCount treeSlotSound && leb areaGhosts filledBound
       && allBelow areaBound ghostSlotSound
 
   -- the bytes behind the area

@@ -2,7 +2,7 @@
 use Prim.Native.Nat.{ℕ, zero, suc, _+_, _-_}
 use mathlib.Core.Bool.{Bool, cond, not, _&&_, _||_}
 use mathlib.Core.List.{List, [], _∷_, _++_}
-use lib.Dec.{leb, ltb, eqb}
+use lib.Dec.{ltb, eqb}
 use Rattle.encoding.specs.Below.{allBelow, anyBelow, leastBelow}
 use Rattle.encoding.specs.Pieces.{piece}
 use Rattle.encoding.specs.Refusal.{Check, check, firstFailed}
@@ -13,7 +13,7 @@ use Rattle.records.specs.Shape.{faceCount}
 use Rattle.records.specs.Record.{treeSize, numberOf, shapeOf, neighbourOf}
 use Rattle.message.specs.Layout.{messageTreePlace, messageEpoch, messageDimension, messageK, messageP, messageSender, messageReceiver, messageTrees, messageGhosts, messageTree, messageGhost, inLayout}
 use Rattle.area.specs.Layout.{areaWith}
-use Rattle.area.specs.Area.{areaEpoch, areaDimension, areaK, areaP, areaRank, areaGhosts, areaOld, areaNew, areaFirst, heard, treeSlot, ghostSlot, areaBound, areaSound, behindArea}
+use Rattle.area.specs.Area.{areaEpoch, areaDimension, areaK, areaP, areaRank, areaGhosts, areaOld, areaNew, areaFirst, heard, treeSlot, ghostSlot, areaSound, behindArea}
 
 -- one of count records has number k, and the first that has
 unfoldable pub among : ℕ → (ℕ → List ℕ) → ℕ → Bool
@@ -55,7 +55,7 @@ module _ (a m : List ℕ) where
   deliverChecks =
       check (areaSound a) 10 ∷ check (inLayout m) 11 ∷ check sameRun 12 ∷ check (eqb (messageReceiver m) (areaRank a)) 13
       ∷ check senderDue 14 ∷ check (not (heard a (messageSender m))) 15 ∷ check treesDue 16 ∷ check (allBelow (messageGhosts m) ghostDue) 17
-      ∷ check (allBelow (messageGhosts m) ghostNew) 18 ∷ check (leb (areaGhosts a + messageGhosts m) (areaBound a)) 19 ∷ []
+      ∷ check (allBelow (messageGhosts m) ghostNew) 18 ∷ []
 
   -- tree slot i after it
   unfoldable pub slotAfter : ℕ → List ℕ

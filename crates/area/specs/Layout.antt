@@ -18,7 +18,7 @@ areaHeader = 32
 unfoldable pub heardWords : ℕ → ℕ
 heardWords P = cond (leb P 1024) 16 256
 
--- how many ghost slots an area of n trees with F faces has
+-- how many ghosts n trees with F faces can have; an area of n trees has so many ghost slots
 unfoldable pub ghostBound : ℕ → ℕ → ℕ
 ghostBound F n = F * n
 

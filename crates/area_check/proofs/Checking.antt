@@ -1,17 +1,17 @@
 -- What the functions over an area find is what the definitions say.
 use Prim.Native.Nat.{ℕ, _+_, _-_, _*_, _≤_, _<_}
 use native.Mathlib.Omega.{arith}
-use mathlib.Core.Path.{_≡_, sym, ap, ap₂, _∙_}
+use mathlib.Core.Path.{_≡_, refl, sym, ap, ap₂, _∙_}
 use mathlib.Core.Bool.{Bool, true, false, not, _&&_, and-assoc}
 use mathlib.Core.List.{List}
 use lib.Dec.{leb, ltb, eqb}
 use lib.ListN.{length, take, drop}
-use borrow.Author.Tests.{lt-ltb, le-ltb, le-leb, lt-leb, ne-eqb}
-use Rattle.encoding.specs.Below.{allBelow}
+use borrow.Author.Tests.{leb-true, lt-ltb, le-ltb, ne-eqb}
+use Rattle.encoding.specs.Below.{allBelow, sumBelow}
 use Rattle.encoding.specs.Numbers.{u64At}
 use Rattle.encoding.specs.Pieces.{piece}
 use Rattle.encoding.specs.Words.{allZero}
-use Rattle.encoding.proofs.Below.{all-intro, all-same, all-fails, all-to}
+use Rattle.encoding.proofs.Below.{either, and-snd, all-intro, all-more, all-same, all-fails, all-to, sum-more}
 use Rattle.offsets.specs.Limits.{maxTrees}
 use Rattle.offsets.specs.Table.{firstTree, endTree}
 use Rattle.offsets.proofs.Tables.{trees-high}
@@ -22,13 +22,14 @@ use Rattle.records.specs.Record.{coreSize, treeSize, numberOf, inForm}
 use Rattle.records.specs.Shape.{facesIn}
 use Rattle.message.specs.Layout.{afterLast}
 use Rattle.area.specs.Layout.{heardWords, ghostBound, wordsPlace, slotsPlace, ghostSlotsPlace}
-use Rattle.area.specs.Area.{areaDimension, areaK, areaP, areaRank, areaCount, areaGhosts, areaOld, areaNew, areaFirst, areaHeaderSound, heard, bitSound, treeSlotSound, ghostHeldSound, areaBound, ghostSlotSound, areaSound}
+use Rattle.area.specs.Area.{areaDimension, areaK, areaP, areaRank, areaCount, areaGhosts, areaOld, areaNew, areaFirst, areaHeaderSound, heard, bitSound, treeSlotSound, filledSlots, filledBound, ghostHeldSound, areaBound, ghostSlotSound, areaSound}
 use Rattle.area.specs.Means.{HeaderHolds, Tabled, fromFirst, fromCount, fromPlace, coreAt}
-use Rattle.area_check.specs.Means.{wordSound, slotHeld, rangeSound, ghostHeldAt}
+use Rattle.area_check.specs.Means.{wordSound, slotHeld, rangeSound, rangeFilled, ghostHeldAt}
 use Rattle.area.proofs.Headers.{ghosts-place-is}
 use Rattle.area.proofs.Ranges.{range-trees, from-within}
+use Rattle.area.proofs.Soundness.{filled-fits}
 use Rattle.area.proofs.Tabled.{word-silent}
-use Rattle.area_check.proofs.Slots.{rows, ranges-slots, ghost-held-is, ghosts-split}
+use Rattle.area_check.proofs.Slots.{rows, ranges-slots, ranges-filled, filled-few-of, ghost-held-is, ghosts-split}
 
 -- ---- the heard senders
 
@@ -92,9 +93,9 @@ module _ {a old new : List ℕ} (t : Tabled a old new) {s rank first count : ℕ
   count-is : count ≡ fromCount a s
   count-is = is-count ∙ rw (t .isOld, t .isNew, is-rank)
 
-  pub range-none : count ≡ 0 → true ≡ rangeSound a s
-  unfolding rangeSound
-  range-none z = rw (← count-is, z)
+  pub range-none : count ≡ 0 → (true ≡ rangeSound a s) × (0 ≡ rangeFilled a s)
+  unfolding rangeSound rangeFilled
+  range-none z = (rw (← count-is, z), either (heard a s) (λ h. rw (h, ← count-is, z)) (λ h. rw h))
 
   module _ (some : count ≡ 0 → ⊥) {F : ℕ} (is-F : F ≡ firstTree new rank) where
     start-is : F ≡ areaFirst a
@@ -128,29 +129,66 @@ module _ {a old new : List ℕ} (t : Tabled a old new) {s rank first count : ℕ
       counted : eqb (fromCount a s) 0 ≡ false
       counted = ne-eqb (fromCount a s) 0 (λ z. some (count-is ∙ z))
 
-      pub range-held : h ≡ true → {r : Bool} → r ≡ allBelow count (λ j. slotHeld a (base + treeSize * i + treeSize * j) (first + j)) → r ≡ rangeSound a s
-      unfolding rangeSound
-      range-held ok e =
-          e
-          ∙ ap (λ (n : ℕ). allBelow n (λ j. slotHeld a (base + treeSize * i + treeSize * j) (first + j))) count-is
-          ∙ ap₂ (λ (x y : ℕ). allBelow (fromCount a s) (λ j. slotHeld a (x + treeSize * j) (y + j))) place-is first-is
-          ∙ rw (counted, ← is-h, ok)
+      pub range-held : h ≡ true → {r : Bool} → r ≡ allBelow count (λ j. slotHeld a (base + treeSize * i + treeSize * j) (first + j)) → (r ≡ rangeSound a s) × (count ≡ rangeFilled a s)
+      unfolding rangeSound rangeFilled
+      range-held ok e = (
+        e
+            ∙ ap (λ (n : ℕ). allBelow n (λ j. slotHeld a (base + treeSize * i + treeSize * j) (first + j))) count-is
+            ∙ ap₂ (λ (x y : ℕ). allBelow (fromCount a s) (λ j. slotHeld a (x + treeSize * j) (y + j))) place-is first-is
+            ∙ rw (counted, ← is-h, ok),
+        rw (← is-h, ok) count-is,
+      )
 
-      pub range-zero : h ≡ false → {r : Bool} → r ≡ allZero (take (base + treeSize * i + treeSize * count - (base + treeSize * i)) (drop (base + treeSize * i) a)) → r ≡ rangeSound a s
-      unfolding rangeSound piece
+      pub range-zero : h ≡ false → {r : Bool} → r ≡ allZero (take (base + treeSize * i + treeSize * count - (base + treeSize * i)) (drop (base + treeSize * i) a)) → (r ≡ rangeSound a s) × (0 ≡ rangeFilled a s)
+      unfolding rangeSound rangeFilled piece
       range-zero f e =
-          let n : base + treeSize * i + treeSize * count - (base + treeSize * i) ≡ treeSize * count = omega arith in
-          e
-          ∙ ap (λ (m : ℕ). allZero (take m (drop (base + treeSize * i) a))) n
-          ∙ ap₂ (λ (x y : ℕ). allZero (take (treeSize * y) (drop x a))) place-is count-is
-          ∙ rw (counted, ← is-h, f)
+          let n : base + treeSize * i + treeSize * count - (base + treeSize * i) ≡ treeSize * count = omega arith in (
+            e
+                ∙ ap (λ (m : ℕ). allZero (take m (drop (base + treeSize * i) a))) n
+                ∙ ap₂ (λ (x y : ℕ). allZero (take (treeSize * y) (drop x a))) place-is count-is
+                ∙ rw (counted, ← is-h, f),
+            rw (← is-h, f),
+          )
 
-module _ {a : List ℕ} (H : HeaderHolds a) {P : ℕ} (is-P : P ≡ areaP a) {s : ℕ} where
-  pub ranges-fail : s < P → rangeSound a s ≡ false → false ≡ allBelow (areaCount a) (treeSlotSound a)
-  ranges-fail l f = sym (all-fails (areaP a) (rangeSound a) s (omega arith) f) ∙ ranges-slots a H
+-- the first s senders
+pub record Ranges (a : List ℕ) (P filled s : ℕ) : Type 0 where
+  pub some : s ≤ P
+  pub sound : allBelow s (rangeSound a) ≡ true
+  pub counted : filled ≡ sumBelow s (rangeFilled a)
 
-  pub ranges-pass : s ≤ P → P ≤ s → allBelow s (rangeSound a) ≡ true → true ≡ allBelow (areaCount a) (treeSlotSound a)
-  ranges-pass l m e = sym (all-to (areaP a) (rangeSound a) s (omega arith) (omega arith) e) ∙ ranges-slots a H
+module _ (a : List ℕ) where
+  pub ranges-start : (P : ℕ) → Ranges a P 0 0
+  unfolding allBelow sumBelow
+  ranges-start P = record { some = omega arith; sound = refl; counted = refl }
+
+  pub ranges-step : {P filled s : ℕ} {r : Bool} {more : ℕ} → Ranges a P filled s → s < P → r ≡ rangeSound a s → more ≡ rangeFilled a s → r ≡ true → Ranges a P (filled + more) (s + 1)
+  ranges-step {P} {filled} {s} R l e q ok =
+      record {
+        some = omega arith;
+        sound = all-more s (rangeSound a) (R .sound) (sym e ∙ ok);
+        counted = rw (R .counted, q) (sym (sum-more s (rangeFilled a)));
+      }
+
+module _ {a : List ℕ} (H : HeaderHolds a) {P : ℕ} (is-P : P ≡ areaP a) where
+  -- no sum of them is above n
+  pub ranges-fit : {filled s more : ℕ} → Ranges a P filled s → s < P → more ≡ rangeFilled a s → filled + more ≤ maxTrees
+  ranges-fit {filled} {s} {more} R l e =
+      let q : filled + more ≡ sumBelow (s + 1) (rangeFilled a) = rw (R .counted, e) (sym (sum-more s (rangeFilled a))) in
+      omega (arith, q, filled-few-of a H (s + 1) (omega arith), H .countHigh)
+
+  pub ranges-fail : {s : ℕ} {r : Bool} → s < P → r ≡ rangeSound a s → r ≡ false → false ≡ (allBelow (areaCount a) (treeSlotSound a) && leb (areaGhosts a) (filledBound a))
+  ranges-fail {s} l e f =
+      let t : allBelow (areaCount a) (treeSlotSound a) ≡ false = sym (ranges-slots a H) ∙ all-fails (areaP a) (rangeSound a) s (omega arith) (sym e ∙ f) in
+      rw t
+
+  pub ranges-read : {filled s : ℕ} → Ranges a P filled s → P ≤ s → {g d b : ℕ} → g ≡ areaGhosts a → d ≡ areaDimension a → b ≡ ghostBound (facesIn d) filled
+      → leb g b ≡ (allBelow (areaCount a) (treeSlotSound a) && leb (areaGhosts a) (filledBound a))
+  unfolding filledBound
+  ranges-read {filled} {s} R m e q z =
+      let i : s ≡ areaP a = omega (arith, R .some) in
+      let t : allBelow (areaCount a) (treeSlotSound a) ≡ true = sym (ranges-slots a H) ∙ (rw i at (R .sound)) in
+      let n : filled ≡ filledSlots a = R .counted ∙ (ap (λ (x : ℕ). sumBelow x (rangeFilled a)) i ∙ ranges-filled a H) in
+      rw (t, z, e, q, n)
 
 -- ---- the ghost slots
 
@@ -175,16 +213,13 @@ module _ {a old new : List ℕ} (t : Tabled a old new) {g n dimension bound : �
   unfolding areaBound
   bound-is = is-bound ∙ rw (is-dimension, is-n)
 
-  pub ghosts-over : bound < g → false ≡ (leb (areaGhosts a) (areaBound a) && allBelow (areaBound a) (ghostSlotSound a))
-  ghosts-over h = rw (lt-leb (areaGhosts a) (areaBound a) (omega (arith, bound-is)))
-
-  module _ (fit : g ≤ bound) {P at : ℕ} (is-P : P ≡ areaP a) (is-at : at ≡ ghostSlotsPlace P n) where
-    -- the held ghosts, and all slots, are in the buffer
-    pub ghosts-room : (at + coreSize * g ≤ length a) × (at + coreSize * bound ≤ length a)
+  module _ (fit : areaGhosts a ≤ areaBound a) {P at : ℕ} (is-P : P ≡ areaP a) (is-at : at ≡ ghostSlotsPlace P n) where
+    -- the held ghosts, and all slots, are in the buffer, and there are slots for the ghosts
+    pub ghosts-room : (at + coreSize * g ≤ length a) × (at + coreSize * bound ≤ length a) × (g ≤ bound)
     ghosts-room =
         let p = ghosts-place-is P n in
         let w : heardWords P ≡ heardWords (areaP a) = ap heardWords is-P in
-        (omega (arith, t .header .long, bound-is), omega (arith, t .header .long, bound-is))
+        (omega (arith, t .header .long, bound-is), omega (arith, t .header .long, bound-is), omega (arith, bound-is))
 
     module _ {K rank first end : ℕ} {r : Bool} (is-K : K ≡ areaK a) (is-rank : rank ≡ areaRank a) (is-first : first ≡ firstTree new rank) (is-end : end ≡ endTree new rank) (is-r : r ≡ allBelow g (ghostHeldAt a at K first end)) where
       held-is : r ≡ allBelow (areaGhosts a) (ghostHeldSound a)
@@ -194,16 +229,15 @@ module _ {a old new : List ℕ} (t : Tabled a old new) {g n dimension bound : �
           let a1 : at ≡ ghostSlotsPlace (areaP a) (areaCount a) = is-at ∙ rw (is-P, is-n) in
           is-r ∙ rw (is-g, a1, is-K, f1, e1) (all-same (areaGhosts a) _ (ghostHeldSound a) (λ j l. ghost-held-is a (t .header) j))
 
-      all-is : (leb (areaGhosts a) (areaBound a) && allBelow (areaBound a) (ghostSlotSound a)) ≡ (r && allZero (piece a (at + coreSize * g) (coreSize * (bound - g))))
+      all-is : allBelow (areaBound a) (ghostSlotSound a) ≡ (r && allZero (piece a (at + coreSize * g) (coreSize * (bound - g))))
       all-is =
           let a1 : at ≡ ghostSlotsPlace (areaP a) (areaCount a) = is-at ∙ rw (is-P, is-n) in
-          let l : areaGhosts a ≤ areaBound a = omega (arith, bound-is) in
-          rw (le-leb (areaGhosts a) (areaBound a) l, ghosts-split a (t .header) l, held-is, a1, is-g, bound-is)
+          rw (ghosts-split a (t .header) fit, held-is, a1, is-g, bound-is)
 
-      pub ghosts-fail : r ≡ false → false ≡ (leb (areaGhosts a) (areaBound a) && allBelow (areaBound a) (ghostSlotSound a))
+      pub ghosts-fail : r ≡ false → false ≡ allBelow (areaBound a) (ghostSlotSound a)
       ghosts-fail f = sym (all-is ∙ rw f)
 
-      pub ghosts-read : r ≡ true → {z : Bool} → z ≡ allZero (take (at + coreSize * bound - (at + coreSize * g)) (drop (at + coreSize * g) a)) → z ≡ (leb (areaGhosts a) (areaBound a) && allBelow (areaBound a) (ghostSlotSound a))
+      pub ghosts-read : r ≡ true → {z : Bool} → z ≡ allZero (take (at + coreSize * bound - (at + coreSize * g)) (drop (at + coreSize * g) a)) → z ≡ allBelow (areaBound a) (ghostSlotSound a)
       unfolding piece
       ghosts-read ok e =
           let n : at + coreSize * bound - (at + coreSize * g) ≡ coreSize * (bound - g) = omega arith in
@@ -215,9 +249,23 @@ pub area-header-fails : (a : List ℕ) → areaHeaderSound a ≡ false → false
 unfolding areaSound
 area-header-fails a e = rw e
 
-pub area-read : (a : List ℕ) → areaHeaderSound a ≡ true → {b s g : Bool} → b ≡ allBelow (64 * heardWords (areaP a)) (bitSound a) → s ≡ allBelow (areaCount a) (treeSlotSound a)
-    → g ≡ (leb (areaGhosts a) (areaBound a) && allBelow (areaBound a) (ghostSlotSound a)) → (b && s && g) ≡ areaSound a
-unfolding areaSound
-area-read a h e d q =
-    rw (h, e, d, q)
-    (sym (and-assoc (allBelow (64 * heardWords (areaP a)) (bitSound a) && allBelow (areaCount a) (treeSlotSound a)) (leb (areaGhosts a) (areaBound a)) (allBelow (areaBound a) (ghostSlotSound a))))
+module _ (a : List ℕ) (ok : areaHeaderSound a ≡ true) {b s : Bool} (is-b : b ≡ allBelow (64 * heardWords (areaP a)) (bitSound a)) (is-s : s ≡ (allBelow (areaCount a) (treeSlotSound a) && leb (areaGhosts a) (filledBound a))) where
+  area-is : areaSound a ≡ (b && s && allBelow (areaBound a) (ghostSlotSound a))
+  unfolding areaSound
+  area-is =
+      rw (ok, is-b, is-s)
+      (ap (λ (x : Bool). x && allBelow (areaBound a) (ghostSlotSound a))
+      (and-assoc (allBelow (64 * heardWords (areaP a)) (bitSound a)) (allBelow (areaCount a) (treeSlotSound a)) (leb (areaGhosts a) (filledBound a))))
+
+  pub area-fails : (b && s) ≡ false → false ≡ areaSound a
+  area-fails f = sym (area-is ∙ rw f)
+
+  module _ (t : (b && s) ≡ true) where
+    -- the ghosts have slots
+    pub area-fits : areaGhosts a ≤ areaBound a
+    area-fits =
+        let l : leb (areaGhosts a) (filledBound a) ≡ true = and-snd (allBelow (areaCount a) (treeSlotSound a)) (leb (areaGhosts a) (filledBound a)) (sym is-s ∙ and-snd b s t) in
+        omega (arith, leb-true (areaGhosts a) (filledBound a) l, filled-fits a)
+
+    pub area-read : {g : Bool} → g ≡ allBelow (areaBound a) (ghostSlotSound a) → g ≡ areaSound a
+    area-read e = e ∙ sym (area-is ∙ rw t)

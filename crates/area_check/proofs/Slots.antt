@@ -3,15 +3,15 @@ use Prim.Native.Nat.{ℕ, zero, suc, _+_, _-_, _*_, _≤_, _<_}
 use native.Mathlib.Nat.{add-assoc, mul-zero, mul-suc, mul-le-mul-left}
 use native.Mathlib.Omega.{arith}
 use mathlib.Core.Path.{_≡_, refl, sym, ap, ap₂, _∙_}
-use mathlib.Core.Bool.{Bool, true, false, _&&_}
+use mathlib.Core.Bool.{Bool, true, false, _&&_, and-false}
 use mathlib.Core.List.{List}
 use lib.Dec.{eqb}
 use lib.ListN.{length}
 use borrow.Author.Tests.{eqb-true, eqb-false, lt-ltb, le-ltb}
-use Rattle.encoding.specs.Below.{allBelow}
+use Rattle.encoding.specs.Below.{allBelow, countBelow, sumBelow}
 use Rattle.encoding.specs.Pieces.{piece}
 use Rattle.encoding.specs.Words.{zeroAt, allZero}
-use Rattle.encoding.proofs.Below.{either, iff-eq, all-at, all-intro, all-same, all-add}
+use Rattle.encoding.proofs.Below.{either, iff-eq, all-at, all-intro, all-same, all-add, sum-same, sum-mono, count-same, count-none, count-by-value}
 use Rattle.encoding.proofs.Pieces.{piece-length, piece-at}
 use Rattle.offsets.specs.Table.{ranks, trees, firstTree, endTree, holds}
 use Rattle.pattern.specs.Sender.{sender}
@@ -21,11 +21,12 @@ use Rattle.pattern.proofs.Sets.{one-range, sent-in}
 use Rattle.records.specs.Record.{coreSize, treeSize, numberOf, inForm}
 use Rattle.message.specs.Layout.{afterLast}
 use Rattle.area.specs.Layout.{slotsPlace, ghostSlotsPlace}
-use Rattle.area.specs.Area.{areaK, areaP, areaRank, areaCount, areaGhosts, areaOld, areaNew, areaFirst, heard, treeSlot, treeSlotCore, ghostSlot, dueHeard, treeSlotSound, ghostHeldSound, areaBound, ghostSlotSound}
+use Rattle.area.specs.Area.{areaK, areaP, areaRank, areaCount, areaGhosts, areaOld, areaNew, areaFirst, heard, treeSlot, treeSlotCore, ghostSlot, dueHeard, treeSlotSound, filledSlots, ghostHeldSound, areaBound, ghostSlotSound}
 use Rattle.area.proofs.Headers.{slots-place-is, ghosts-place-is}
-use Rattle.area.proofs.Ranges.{rank-below, range-end, range-trees, sender-below, from-within}
+use Rattle.area.proofs.Ranges.{rank-below, range-end, range-trees, sender-below, from-within, from-count}
+use Rattle.area.proofs.Soundness.{filled-few}
 use Rattle.area.specs.Means.{HeaderHolds, fromFirst, fromCount, fromPlace, coreAt}
-use Rattle.area_check.specs.Means.{slotHeld, rangeSound, ghostHeldAt}
+use Rattle.area_check.specs.Means.{slotHeld, rangeSound, rangeFilled, ghostHeldAt}
 
 -- ---- zeros in a row
 
@@ -143,6 +144,32 @@ module _ (a : List ℕ) (H : HeaderHolds a) where
       (λ e. all-intro (areaP a) slots
       (λ s l. all-intro (fromCount a s) (λ j. treeSlotSound a (fromFirst a s - areaFirst a + j))
       (λ j m. all-at (areaCount a) (treeSlotSound a) e (fromFirst a s - areaFirst a + j) (omega (arith, from-within a H s l (λ z. omega arith))))))
+
+  -- the filled slots due from s
+  range-filled : (s : ℕ) → s < areaP a → countBelow (areaCount a) (λ i. dueHeard a i && eqb (sender (areaOld a) (areaFirst a + i) (areaRank a)) s) ≡ rangeFilled a s
+  unfolding rangeFilled dueHeard
+  range-filled s l =
+      let from : ℕ → ℕ = λ i. sender (areaOld a) (areaFirst a + i) (areaRank a) in
+      either (heard a s)
+      (λ h. rw h
+      (count-same (areaCount a) (λ i. heard a (from i) && eqb (from i) s) (λ i. eqb (from i) s)
+      (λ i m. either (eqb (from i) s) (λ e. let q : from i ≡ s = eqb-true (from i) s e in rw (q, h)) (λ e. rw (e, and-false (heard a (from i)))))
+      ∙ from-count a H s l))
+      (λ h. rw h
+      (count-none (areaCount a) (λ i. heard a (from i) && eqb (from i) s)
+      (λ i m. either (eqb (from i) s) (λ e. let q : from i ≡ s = eqb-true (from i) s e in rw (q, h)) (λ e. rw (e, and-false (heard a (from i)))))))
+
+  -- all filled slots, sender by sender
+  pub ranges-filled : sumBelow (areaP a) (rangeFilled a) ≡ filledSlots a
+  unfolding filledSlots
+  ranges-filled =
+      sym (count-by-value (areaCount a) (areaP a) (dueHeard a) (λ i. sender (areaOld a) (areaFirst a + i) (areaRank a))
+      (λ i l. omega (arith, sender-lt (areaOld a) (areaNew a) (H .tables) (areaFirst a + i) (areaRank a) (omega (arith, range-trees a H)) (rank-below a H), H .ranksAre))
+      ∙ sum-same (areaP a) (λ s. countBelow (areaCount a) (λ i. dueHeard a i && eqb (sender (areaOld a) (areaFirst a + i) (areaRank a)) s)) (rangeFilled a) range-filled)
+
+  -- those of the first senders are no more than n
+  pub filled-few-of : (s : ℕ) → s ≤ areaP a → sumBelow s (rangeFilled a) ≤ areaCount a
+  filled-few-of s l = omega (arith, sum-mono s (areaP a) (rangeFilled a) l, ranges-filled, filled-few a)
 
   -- ---- the ghost slots
 

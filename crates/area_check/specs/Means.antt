@@ -27,6 +27,10 @@ module _ (a : List ℕ) where
       (cond (heard a s) (allBelow (fromCount a s) (λ j. slotHeld a (fromPlace a s + treeSize * j) (fromFirst a s + j)))
       (allZero (piece a (fromPlace a s) (treeSize * fromCount a s))))
 
+  -- how many of them are filled
+  unfoldable pub rangeFilled : ℕ → ℕ
+  rangeFilled s = cond (heard a s) (fromCount a s) 0
+
 -- ghost j from byte `at` on: in form, below K, outside the range from first to end, after the ghost before it
 unfoldable pub ghostHeldAt : List ℕ → ℕ → ℕ → ℕ → ℕ → ℕ → Bool
 ghostHeldAt a at K first end j =

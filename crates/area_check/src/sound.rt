@@ -9,9 +9,9 @@ ghost use Rattle.offsets.specs.Limits.{maxTrees};
 ghost use Rattle.records.specs.Record.{coreSize, treeSize};
 ghost use Rattle.message.specs.Layout.{afterLast};
 ghost use Rattle.area.specs.Layout.{heardWords};
-ghost use Rattle.area.specs.Area.{areaP, areaCount, areaGhosts, bitSound, treeSlotSound, areaBound, ghostSlotSound, areaSound};
+ghost use Rattle.area.specs.Area.{areaP, areaCount, areaGhosts, bitSound, treeSlotSound, filledBound, areaBound, ghostSlotSound, areaSound};
 ghost use Rattle.area.specs.Means.{Tabled, coreAt};
-ghost use Rattle.area_check.specs.Means.{wordSound, slotHeld, rangeSound, ghostHeldAt};
+ghost use Rattle.area_check.specs.Means.{wordSound, slotHeld, rangeSound, rangeFilled, ghostHeldAt};
 use area::layout::ghost_bound;
 use area::layout::ghost_slots_place;
 use area::layout::heard_words;
@@ -104,42 +104,61 @@ fn slots_held(area: &[u8], at: usize, first: u32, count: u32) -> bool
     true
 }
 
+// The slots of the trees due from a sender: whether they are sound, and how many are filled.
+pub struct SenderSlots {
+    pub sound: bool,
+    pub filled: u32,
+}
+
 // The slots of the trees due from s: held where s is heard, else zero.
-fn range_sound(area: &[u8], old: &[u8], new: &[u8], s: usize) -> bool
+fn range_sound(area: &[u8], old: &[u8], new: &[u8], s: usize) -> SenderSlots
     requires { ⌜ Tabled (now area) (now old) (now new) × (s < areaP (now area)) ⌝ }
-    ensures { λ r. ⌜ r ≡ rangeSound (now (area .entry)) s ⌝ }
+    ensures { λ r. ⌜ (r .sound ≡ rangeSound (now (area .entry)) s) × (r .filled ≡ rangeFilled (now (area .entry)) s) ⌝ }
 {
     let rank = rank(area);
     let sent = pattern::range::sent(old, new, s, rank);
     let first = sent.first;
     let count = sent.count;
     if count == 0 {
-        return true;
+        return SenderSlots {
+            sound: true,
+            filled: 0,
+        };
     }
     let own = offsets::table::first_tree(new, rank) as u32;
     let tree = to_local(GlobalIndex(first), GlobalIndex(own));
     let i = tree.0;
     let at = slots_place(ranks(area)) + 64 * (i as usize);
     if heard(area, s) {
-        return slots_held(area, at, first, count);
+        return SenderSlots {
+            sound: slots_held(area, at, first, count),
+            filled: count,
+        };
     }
     let end = at + 64 * (count as usize);
-    encoding::zero::all_zero(&area[at..end])
+    SenderSlots {
+        sound: encoding::zero::all_zero(&area[at..end]),
+        filled: 0,
+    }
 }
 
+// Every tree slot is sound, and there are at most F ghosts for each that is filled.
 fn ranges_sound(area: &[u8], old: &[u8], new: &[u8]) -> bool
     requires { ⌜ Tabled (now area) (now old) (now new) ⌝ }
-    ensures { λ r. ⌜ r ≡ allBelow (areaCount (now (area .entry))) (treeSlotSound (now (area .entry))) ⌝ }
+    ensures { λ r. ⌜ r ≡ (allBelow (areaCount (now (area .entry))) (treeSlotSound (now (area .entry))) && leb (areaGhosts (now (area .entry))) (filledBound (now (area .entry)))) ⌝ }
 {
     let ranks = ranks(area);
+    let mut filled = 0;
     let mut s = 0;
     while s < ranks {
-        if !range_sound(area, old, new, s) {
+        let slots = range_sound(area, old, new, s);
+        if !slots.sound {
             return false;
         }
+        filled += slots.filled;
         s += 1;
     }
-    true
+    ghosts(area) as u64 <= ghost_bound(dimension(area), filled)
 }
 
 // ---- the ghost slots
@@ -186,15 +205,12 @@ fn ghosts_held(area: &[u8], at: usize, trees: u32, first: u64, end: u64, ghosts:
 
 // The held ghosts fill the first slots, and the others are zero.
 fn ghosts_sound(area: &[u8], old: &[u8], new: &[u8]) -> bool
-    requires { ⌜ Tabled (now area) (now old) (now new) ⌝ }
-    ensures { λ r. ⌜ r ≡ (leb (areaGhosts (now (area .entry))) (areaBound (now (area .entry))) && allBelow (areaBound (now (area .entry))) (ghostSlotSound (now (area .entry)))) ⌝ }
+    requires { ⌜ Tabled (now area) (now old) (now new) × (areaGhosts (now area) ≤ areaBound (now area)) ⌝ }
+    ensures { λ r. ⌜ r ≡ allBelow (areaBound (now (area .entry))) (ghostSlotSound (now (area .entry))) ⌝ }
 {
     let ghosts = ghosts(area);
     let count = count(area);
     let bound = ghost_bound(dimension(area), count);
-    if bound < ghosts as u64 {
-        return false;
-    }
     let rank = rank(area);
     let first = offsets::table::first_tree(new, rank);
     let end = offsets::table::end_tree(new, rank);
@@ -220,5 +236,8 @@ pub fn area_sound(area: &[u8]) -> bool
     let end = words_place(ranks);
     let old = &area[32..middle];
     let new = &area[middle..end];
-    bits_sound(area, old, new) & ranges_sound(area, old, new) & ghosts_sound(area, old, new)
+    if !(bits_sound(area, old, new) & ranges_sound(area, old, new)) {
+        return false;
+    }
+    ghosts_sound(area, old, new)
 }

@@ -26,7 +26,8 @@ use Rattle.mesh.specs.Mesh.{dimensionOk}
 use Rattle.message.specs.Layout.{afterLast}
 use Rattle.bits.specs.Bits.{bitOf}
 use Rattle.area.specs.Layout.{areaHeader, heardWords, ghostBound, oldPlace, newPlace, wordsPlace, slotsPlace, ghostSlotsPlace, areaSize, areaHeaderBytes, wordOf, wordsOf, slotsOf, areaWith}
-use Rattle.area.specs.Area.{areaEpoch, areaDimension, areaK, areaP, areaRank, areaCount, areaGhosts, areaOld, areaNew, areaFirst, heard, treeSlot, treeSlotCore, ghostSlot, dueHeard, areaHeaderSound, bitSound, treeSlotSound, ghostHeldSound, areaBound, ghostSlotSound, areaSound, behindArea}
+use Rattle.area.specs.Area.{areaEpoch, areaDimension, areaK, areaP, areaRank, areaCount, areaGhosts, areaOld, areaNew, areaFirst, heard, treeSlot, treeSlotCore, ghostSlot, dueHeard, areaHeaderSound, bitSound, treeSlotSound, filledBound, ghostHeldSound, areaBound, ghostSlotSound, areaSound, behindArea}
+use Rattle.area.proofs.Soundness.{filled-fits}
 use Rattle.area_theorems.proofs.Joined.{slots-length, slots-at, slots-same, slots-piece, slots-replicate}
 use Rattle.area_theorems.proofs.Heard.{word-again, words-slots}
 use Rattle.area_theorems.proofs.Zones.{Zones, core-slot}
@@ -108,6 +109,7 @@ pub record AreaParts (a : List ℕ) : Type 0 where
   pub header : HeaderParts a
   pub bit : (s : ℕ) → s < 64 * heardWords (areaP a) → bitSound a s ≡ true
   pub tree : (i : ℕ) → i < areaCount a → treeSlotSound a i ≡ true
+  pub filled : areaGhosts a ≤ filledBound a
   pub fit : areaGhosts a ≤ areaBound a
   pub ghost : (j : ℕ) → j < areaBound a → ghostSlotSound a j ≡ true
 
@@ -120,20 +122,22 @@ module _ (a : List ℕ) where
   d3 = d2 && allBelow (areaCount a) (treeSlotSound a)
 
   abbrev d4 : Bool
-  d4 = d3 && leb (areaGhosts a) (areaBound a)
+  d4 = d3 && leb (areaGhosts a) (filledBound a)
 
   -- what they say
   pub area-parts : areaSound a ≡ true → AreaParts a
   unfolding areaSound
   area-parts e =
       let p4 : d4 ≡ true = and-fst d4 (allBelow (areaBound a) (ghostSlotSound a)) e in
-      let p3 : d3 ≡ true = and-fst d3 (leb (areaGhosts a) (areaBound a)) p4 in
+      let p3 : d3 ≡ true = and-fst d3 (leb (areaGhosts a) (filledBound a)) p4 in
       let p2 : d2 ≡ true = and-fst d2 (allBelow (areaCount a) (treeSlotSound a)) p3 in
+      let few : areaGhosts a ≤ filledBound a = leb-true (areaGhosts a) (filledBound a) (and-snd d3 (leb (areaGhosts a) (filledBound a)) p4) in
       record {
         header = header-parts a (and-fst (areaHeaderSound a) (allBelow (64 * heardWords (areaP a)) (bitSound a)) p2);
         bit = all-at (64 * heardWords (areaP a)) (bitSound a) (and-snd (areaHeaderSound a) (allBelow (64 * heardWords (areaP a)) (bitSound a)) p2);
         tree = all-at (areaCount a) (treeSlotSound a) (and-snd d2 (allBelow (areaCount a) (treeSlotSound a)) p3);
-        fit = leb-true (areaGhosts a) (areaBound a) (and-snd d3 (leb (areaGhosts a) (areaBound a)) p4);
+        filled = few;
+        fit = omega (arith, few, filled-fits a);
         ghost = all-at (areaBound a) (ghostSlotSound a) (and-snd d4 (allBelow (areaBound a) (ghostSlotSound a)) e);
       }
 

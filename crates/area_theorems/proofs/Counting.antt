@@ -1,14 +1,14 @@
 -- How many ghosts there can be: at most one for each face of each tree.
 use Prim.Native.Nat.{ℕ, zero, suc, _+_, _-_, _*_, _≤_, _<_}
-use native.Mathlib.Nat.{le-refl}
+use native.Mathlib.Nat.{le-refl, le-trans, mul-suc, mul-le-mul-left}
 use native.Mathlib.Omega.{arith}
 use mathlib.Core.Path.{_≡_, refl}
-use mathlib.Core.Bool.{Bool, true, false, not, _&&_, _||_}
+use mathlib.Core.Bool.{Bool, true, false, not, _&&_, _||_, or-false}
 use mathlib.Core.List.{List}
 use lib.Dec.{ltb, eqb, eqb·suc-zero}
 use borrow.Author.Tests.{ltb-true, eqb-true}
 use Rattle.encoding.specs.Below.{allBelow, anyBelow, countBelow}
-use Rattle.encoding.proofs.Below.{either, and-fst, and-snd, below-suc, all-at, any-at, count-none, count-or, count-lt}
+use Rattle.encoding.proofs.Below.{either, and-fst, and-snd, below-suc, all-at, any-at, count-same, count-le, count-none, count-or, count-lt}
 use Rattle.offsets.specs.Table.{holds}
 use Rattle.records.specs.Shape.{dimensionOf, faceCount, facesIn}
 use Rattle.records.specs.Record.{numberOf, shapeOf, neighbourOf, inForm}
@@ -32,17 +32,36 @@ count-faces-of K zero h = rw (count-none K (λ k. false) (λ i l. refl)) (omega 
 count-faces-of K (suc c) h =
     omega (arith, count-or K (λ k. anyBelow c (λ f. eqb (h f) k)) (λ k. eqb (h c) k), count-faces-of K c h, count-only K (h c))
 
--- n trees with at most F faces each, and across each face one number: at most F * n numbers
-pub count-beside : (K n F : ℕ) (c : ℕ → ℕ) (h : ℕ → ℕ → ℕ) → ((i : ℕ) → i < n → c i ≤ F)
-    → countBelow K (λ k. anyBelow n (λ i. anyBelow (c i) (λ f. eqb (h i f) k))) ≤ F * n
+-- one more number, which passes or doesn't
+count-passes : (n : ℕ) (f : ℕ → Bool) → f n ≡ true → countBelow (suc n) f ≡ suc (countBelow n f)
+unfolding countBelow
+count-passes n f e = rw e (omega arith)
+
+count-stays : (n : ℕ) (f : ℕ → Bool) → f n ≡ false → countBelow (suc n) f ≡ countBelow n f
+unfolding countBelow
+count-stays n f e = rw e (omega arith)
+
+-- of n trees with at most F faces each, and across each face one number: across faces of those that pass a test are at most F numbers for each of these
+pub count-beside-some : (K n F : ℕ) (test : ℕ → Bool) (c : ℕ → ℕ) (h : ℕ → ℕ → ℕ) → ((i : ℕ) → i < n → c i ≤ F)
+    → countBelow K (λ k. anyBelow n (λ i. test i && anyBelow (c i) (λ f. eqb (h i f) k))) ≤ F * countBelow n test
 unfolding anyBelow
-count-beside K zero F c h l = rw (count-none K (λ k. false) (λ i l. refl)) (omega arith)
-count-beside K (suc n) F c h l =
-    let r = count-beside K n F c h (λ i a. l i (omega arith)) in
+count-beside-some K zero F test c h l = rw (count-none K (λ k. false) (λ i l. refl)) (omega arith)
+count-beside-some K (suc n) F test c h l =
+    let before : ℕ → Bool = λ k. anyBelow n (λ i. test i && anyBelow (c i) (λ f. eqb (h i f) k)) in
+    let last : ℕ → Bool = λ k. anyBelow (c n) (λ f. eqb (h n f) k) in
+    let r = count-beside-some K n F test c h (λ i a. l i (omega arith)) in
     let s = count-faces-of K (c n) (h n) in
     let t = l n (le-refl (suc n)) in
-    let u = count-or K (λ k. anyBelow n (λ i. anyBelow (c i) (λ f. eqb (h i f) k))) (λ k. anyBelow (c n) (λ f. eqb (h n f) k)) in
-    omega arith
+    either (test n)
+    (λ e. let q : countBelow K (λ k. before k || (test n && last k)) ≡ countBelow K (λ k. before k || last k) = count-same K (λ k. before k || (test n && last k)) (λ k. before k || last k) (λ k a. rw e) in
+    rw (count-passes n test e, mul-suc) (omega (arith, q, count-or K before last)))
+    (λ e. let q : countBelow K (λ k. before k || (test n && last k)) ≡ countBelow K before = count-same K (λ k. before k || (test n && last k)) before (λ k a. rw e (or-false (before k))) in
+    rw (count-stays n test e) (omega (arith, q)))
+
+-- across faces of all n trees are at most F * n numbers
+pub count-beside : (K n F : ℕ) (c : ℕ → ℕ) (h : ℕ → ℕ → ℕ) → ((i : ℕ) → i < n → c i ≤ F)
+    → countBelow K (λ k. anyBelow n (λ i. anyBelow (c i) (λ f. eqb (h i f) k))) ≤ F * n
+count-beside K n F c h l = le-trans (count-beside-some K n F (λ i. true) c h l) (mul-le-mul-left F (count-le n (λ i. true)))
 
 -- where no number passes both of two tests, the counts add up
 pub count-apart : (n : ℕ) (f g : ℕ → Bool) → ((i : ℕ) → i < n → f i ≡ true → g i ≡ false) → countBelow n (λ i. f i || g i) ≡ countBelow n f + countBelow n g

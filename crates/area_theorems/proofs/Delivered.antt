@@ -1,22 +1,22 @@
 -- An accepted delivery leaves a sound area.
 use Prim.Native.Nat.{ℕ, zero, suc, _+_, _-_, _*_, _≤_, _<_}
-use native.Mathlib.Nat.{add-zero}
+use native.Mathlib.Nat.{add-zero, mul-add, le-trans, mul-le-mul-left}
 use native.Mathlib.Omega.{arith}
 use mathlib.Core.Path.{_≡_, refl, sym, ap, ap₂, _∙_}
 use mathlib.Core.Bool.{Bool, true, false, cond, not, _&&_, _||_, or-false, or-true}
 use mathlib.Core.List.{List, [], _∷_, _++_}
 use lib.Dec.{ltb, eqb}
 use lib.ListN.{length}
-use borrow.Author.Tests.{ltb-true, leb-true, eqb-true, not-true, ne-eqb}
-use Rattle.encoding.specs.Below.{allBelow, anyBelow}
+use borrow.Author.Tests.{ltb-true, eqb-true, not-true, ne-eqb}
+use Rattle.encoding.specs.Below.{allBelow, anyBelow, countBelow}
 use Rattle.encoding.specs.Pieces.{piece, Bytes}
 use Rattle.encoding.specs.Refusal.{Check, firstFailed}
 use Rattle.encoding.specs.Words.{allZero}
-use Rattle.encoding.proofs.Below.{either, clash, and-fst, and-snd, all-at, any-at}
+use Rattle.encoding.proofs.Below.{either, clash, and-fst, and-snd, all-at, any-at, count-le}
 use Rattle.encoding.proofs.Pieces.{piece-length}
 use Rattle.offsets.specs.Table.{ranks, trees, firstTree, treeCount, holds}
 use Rattle.offsets.proofs.Tables.{count-add}
-use Rattle.records.specs.Shape.{dimensionOf, faceCount}
+use Rattle.records.specs.Shape.{dimensionOf, faceCount, facesIn}
 use Rattle.records.specs.Record.{coreSize, treeSize, numberOf, shapeOf, neighbourOf, inForm}
 use Rattle.records.proofs.Forms.{piece-piece}
 use Rattle.pattern.specs.Sender.{Tables, sender, sends, sentFirst, sentCount}
@@ -26,12 +26,14 @@ use Rattle.pattern.proofs.Senders.{holds-in}
 use Rattle.pattern.proofs.Sets.{one-range}
 use Rattle.mesh.specs.Mesh.{dimensionOk}
 use Rattle.message.specs.Layout.{messageTreePlace, messageGhostPlace, messageSize, messageEpoch, messageDimension, messageK, messageP, messageSender, messageReceiver, messageTrees, messageGhosts, messageTree, messageGhost, recordLaid, sizeLaid, afterLast, recordsLaid, inLayout}
-use Rattle.area.specs.Layout.{heardWords}
-use Rattle.area.specs.Area.{areaEpoch, areaDimension, areaK, areaP, areaRank, areaGhosts, areaOld, areaNew, areaFirst, heard, treeSlot, ghostSlot, areaBound, areaSound, behindArea}
+use Rattle.area.specs.Layout.{heardWords, ghostBound}
+use Rattle.area.specs.Area.{areaEpoch, areaDimension, areaK, areaP, areaRank, areaGhosts, areaOld, areaNew, areaFirst, heard, treeSlot, ghostSlot, dueHeard, filledSlots, filledBound, areaBound, areaSound, behindArea}
 use Rattle.area.specs.Deliver.{among, oneOf, sameRun, senderDue, treesDue, besideTrees, ghostDue, ghostNew, deliverChecks, slotAfter, ghostsAfter, delivered}
-use Rattle.area_theorems.proofs.Kept.{ghostAt, Ghosts, keptRecords, inEither, ofEither, both-length, both-ghosts}
+use Rattle.area.proofs.Ranges.{due-count}
+use Rattle.area_theorems.proofs.Counting.{message-ghosts-fit}
+use Rattle.area_theorems.proofs.Kept.{ghostAt, Ghosts, keptRecords, count-apart, inEither, ofEither, both-length, both-ghosts}
 use Rattle.area_theorems.proofs.Zones.{Zones, range-end}
-use Rattle.area_theorems.proofs.Sound.{Held, area-sound}
+use Rattle.area_theorems.proofs.Sound.{Held, filledBy, area-sound}
 use Rattle.area_theorems.proofs.Again.{AreaParts, area-parts, rises-all, old-ranks, sound-tables, sound-rank, sound-zones, sound-ghosts, sound-held}
 
 -- ---- what the layout of a message says
@@ -94,7 +96,6 @@ pub record Accepted (a m : List ℕ) : Type 0 where
   pub trees-ok : treesDue a m ≡ true
   pub ghosts-ok : allBelow (messageGhosts m) (ghostDue a m) ≡ true
   pub ghosts-new : allBelow (messageGhosts m) (ghostNew a m) ≡ true
-  pub ghosts-fit : areaGhosts a + messageGhosts m ≤ areaBound a
 
 -- where no check fails, the first passes and none of the others fails
 passed : (c : Check) (cs : List Check) → (c .number ≡ 0 → ⊥) → firstFailed (c ∷ cs) ≡ 0 → (c .passes ≡ true) × (firstFailed cs ≡ 0)
@@ -113,7 +114,6 @@ accepted-parts a m e =
     let p16 = passed _ _ (λ z. omega arith) (p15 .1) in
     let p17 = passed _ _ (λ z. omega arith) (p16 .1) in
     let p18 = passed _ _ (λ z. omega arith) (p17 .1) in
-    let p19 = passed _ _ (λ z. omega arith) (p18 .1) in
     record {
       area-ok = p10 .0;
       layout-ok = p11 .0;
@@ -124,7 +124,6 @@ accepted-parts a m e =
       trees-ok = p16 .0;
       ghosts-ok = p17 .0;
       ghosts-new = p18 .0;
-      ghosts-fit = leb-true (areaGhosts a + messageGhosts m) (areaBound a) (p19 .0);
     }
 
 -- ---- the ghosts after it
@@ -177,6 +176,15 @@ module _ (a m : List ℕ) (b : Bytes a) (A : Accepted a m) where
       let d : Bool = eqb (messageDimension m) (areaDimension a) in
       let k : Bool = eqb (messageK m) (areaK a) in
       eqb-true (messageK m) (areaK a) (and-snd (e && d) k (and-fst (e && d && k) (eqb (messageP m) (areaP a)) (A .run-ok)))
+
+  -- and its dimension
+  same-dimension : messageDimension m ≡ areaDimension a
+  unfolding sameRun
+  same-dimension =
+      let e : Bool = eqb (messageEpoch m) (areaEpoch a) in
+      let d : Bool = eqb (messageDimension m) (areaDimension a) in
+      let k : Bool = eqb (messageK m) (areaK a) in
+      eqb-true (messageDimension m) (areaDimension a) (and-snd e d (and-fst (e && d) k (and-fst (e && d && k) (eqb (messageP m) (areaP a)) (A .run-ok))))
 
   -- ---- its ghosts
 
@@ -344,6 +352,39 @@ module _ (a m : List ℕ) (b : Bytes a) (A : Accepted a m) where
         (λ e. clash (rw (e, or-true)) t)
         (λ e. rw (slot-stays e) (sound-held a b (A .area-ok) .tree-zero i h (sym (old-heard e) ∙ t)))
 
+  -- ---- its ghosts have slots
+
+  abbrev from : ℕ → ℕ
+  from i = sender old (firstTree new rank + i) rank
+
+  filled-before : filledSlots a ≡ filledBy old new rank (heard a)
+  unfolding filledSlots dueHeard areaFirst
+  filled-before = rw (parts .header .is-count)
+
+  -- the slots filled after it: those filled before it, and those of the trees that came
+  filled-after : filledBy old new rank (λ s. heard a s || eqb s p) ≡ filledSlots a + messageTrees m
+  filled-after =
+      count-apart (treeCount new rank) (λ i. heard a (from i)) (λ i. eqb (from i) p)
+      (λ i h t. ne-eqb (from i) p (λ q. clash t (rw (← q) at (A .unheard))))
+      ∙ ap₂ (λ (x y : ℕ). x + y) (sym filled-before) (due-count old new T rank p is-rank sender-rank ∙ sym trees-count)
+
+  -- so F ghosts for each filled slot are enough
+  delivered-few : areaGhosts a + messageGhosts m ≤ ghostBound (facesIn (areaDimension a)) (filledBy old new rank (λ s. heard a s || eqb s p))
+  unfolding ghostBound filledBound
+  delivered-few =
+      let F : ℕ = facesIn (areaDimension a) in
+      let came : messageGhosts m ≤ F * messageTrees m = rw same-dimension at (message-ghosts-fit m (A .layout-ok) a (A .ghosts-ok)) in
+      let e : F * (filledSlots a + messageTrees m) ≡ F * filledSlots a + F * messageTrees m = mul-add F (filledSlots a) (messageTrees m) in
+      let had = parts .filled in
+      rw (filled-after, e) (omega arith)
+
+  -- and F for each tree
+  pub delivered-fit : areaGhosts a + messageGhosts m ≤ areaBound a
+  unfolding areaBound ghostBound
+  delivered-fit =
+      rw (parts .header .is-count)
+      (le-trans delivered-few (mul-le-mul-left (facesIn (areaDimension a)) (count-le (treeCount new rank) (λ i. heard a (from i) || eqb (from i) p))))
+
   -- ---- the area after it
 
   -- its zones
@@ -358,7 +399,7 @@ module _ (a m : List ℕ) (b : Bytes a) (A : Accepted a m) where
         small-epoch = Z .small-epoch;
         slots-long = after-long;
         ghosts-long = after-length;
-        ghosts-fit = rw (← parts .header .is-count) (A .ghosts-fit);
+        ghosts-fit = rw (← parts .header .is-count) delivered-fit;
       }
 
   after-bit : (s : ℕ) → s < 64 * heardWords (ranks old) → (heard a s || eqb s p) ≡ true → (s < ranks old) × (getsFrom old new rank s ≡ true)
@@ -383,8 +424,8 @@ module _ (a m : List ℕ) (b : Bytes a) (A : Accepted a m) where
   delivered-sound : areaSound (delivered a m) ≡ true
   unfolding delivered
   delivered-sound =
-      area-sound (areaEpoch a) (areaDimension a) old new rank (λ s. heard a s || eqb s p) (slotAfter a m) (areaGhosts a + messageGhosts m) (ghostsAfter a m (areaK a)) (behindArea a) delivered-zones delivered-held
+      area-sound (areaEpoch a) (areaDimension a) old new rank (λ s. heard a s || eqb s p) (slotAfter a m) (areaGhosts a + messageGhosts m) (ghostsAfter a m (areaK a)) (behindArea a) delivered-zones delivered-held delivered-few
 
 -- an accepted delivery on a sound area leaves a sound area
-pub deliver-sound : (a m : List ℕ) → Bytes a → firstFailed (deliverChecks a m) ≡ 0 → areaSound (delivered a m) ≡ true
-deliver-sound a m b e = delivered-sound a m b (accepted-parts a m e)
+pub accepted-sound : (a m : List ℕ) → Bytes a → firstFailed (deliverChecks a m) ≡ 0 → areaSound (delivered a m) ≡ true
+accepted-sound a m b e = delivered-sound a m b (accepted-parts a m e)

@@ -7,3 +7,4 @@ pub mod Sound
 pub mod Again
 pub mod Delivered
 pub mod Counting
+pub mod Deliveries

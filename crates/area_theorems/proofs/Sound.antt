@@ -1,16 +1,16 @@
 -- When an area with given zones is sound.
 use Prim.Native.Nat.{ℕ, _+_, _-_, _*_, _≤_, _<_}
 use native.Mathlib.Omega.{arith}
-use mathlib.Core.Path.{_≡_, refl}
+use mathlib.Core.Path.{_≡_, refl, ap}
 use mathlib.Core.Bool.{Bool, true, false}
 use mathlib.Core.List.{List, [], _++_}
 use lib.Dec.{ltb, eqb}
 use lib.ListN.{length, replicate, length-replicate, getD-replicate}
 use borrow.Author.Tests.{ltb-true, ltb-false, eqb-false, lt-ltb, le-leb, eq-eqb}
-use Rattle.encoding.specs.Below.{allBelow}
+use Rattle.encoding.specs.Below.{allBelow, countBelow}
 use Rattle.encoding.specs.Pieces.{piece}
 use Rattle.encoding.specs.Words.{allZero}
-use Rattle.encoding.proofs.Below.{either, clash, and-snd, all-intro}
+use Rattle.encoding.proofs.Below.{either, clash, and-snd, all-intro, count-same}
 use Rattle.encoding.proofs.Words.{zero-intro}
 use Rattle.offsets.specs.Limits.{rankCountOk}
 use Rattle.offsets.specs.Table.{tableLength, ranks, ranksOk, trees, firstTree, treeCount}
@@ -22,7 +22,7 @@ use Rattle.pattern.proofs.Senders.{sender-lt}
 use Rattle.mesh.specs.Mesh.{dimensionOk}
 use Rattle.message.specs.Layout.{afterLast}
 use Rattle.area.specs.Layout.{heardWords, ghostBound, areaSize, ghostSlotsPlace, slotsPlace, wordsPlace, newPlace, areaWith}
-use Rattle.area.specs.Area.{ghostSlot, dueHeard, areaHeaderSound, bitSound, treeSlotSound, ghostHeldSound, areaBound, ghostSlotSound, areaSound}
+use Rattle.area.specs.Area.{ghostSlot, dueHeard, areaHeaderSound, bitSound, treeSlotSound, filledSlots, filledBound, ghostHeldSound, areaBound, ghostSlotSound, areaSound}
 use Rattle.area.specs.Open.{freshArea}
 use Rattle.area_theorems.proofs.Kept.{ghostAt, Ghosts}
 use Rattle.area_theorems.proofs.Zones.{Zones, Reads, range-end, few-ranks, area-reads}
@@ -36,6 +36,10 @@ pub record Held (old new : List ℕ) (rank : ℕ) (H : ℕ → Bool) (slot : ℕ
   pub tree-number : (i : ℕ) → i < treeCount new rank → H (sender old (firstTree new rank + i) rank) ≡ true → numberOf (piece (slot i) 0 coreSize) ≡ firstTree new rank + i
   pub tree-zero : (i : ℕ) → i < treeCount new rank → H (sender old (firstTree new rank + i) rank) ≡ false → allZero (slot i) ≡ true
   pub ghosts-held : Ghosts (trees old) new rank g (ghostAt ghosts)
+
+-- how many trees of the rank's new range are due from senders in H
+abbrev pub filledBy : List ℕ → List ℕ → ℕ → (ℕ → Bool) → ℕ
+filledBy old new rank H = countBelow (treeCount new rank) (λ i. H (sender old (firstTree new rank + i) rank))
 
 -- zeros are all zero
 pub zeros-zero : (n : ℕ) → allZero (replicate n 0) ≡ true
@@ -73,7 +77,7 @@ module _ (a : List ℕ) (epoch dimension : ℕ) (old new : List ℕ) (rank : ℕ
       (rw (le-leb 32 (length a) (omega (arith, R .at-length, header-room)), Z .is-dimension, ranks-ok, le-leb (areaSize dimension (ranks old) n) (length a) (R .at-length))
       (rw (T .oldValid, T .newValid, eq-eqb (trees old) (trees old) refl, eq-eqb (trees new) (trees old) (T .sameTrees), lt-ltb rank (ranks old) (Z .is-rank), eq-eqb n n refl)))
 
-  module _ (held : Held old new rank H slot g ghosts) where
+  module _ (held : Held old new rank H slot g ghosts) (few : g ≤ ghostBound (facesIn dimension) (filledBy old new rank H)) where
     reads-bits : allBelow (64 * heardWords (ranks old)) (bitSound a) ≡ true
     unfolding bitSound
     reads-bits =
@@ -120,19 +124,25 @@ module _ (a : List ℕ) (epoch dimension : ℕ) (old new : List ℕ) (rank : ℕ
     unfolding areaBound
     reads-bound = rw (R .at-dimension, R .at-count)
 
+    reads-filled : filledBound a ≡ ghostBound (facesIn dimension) (filledBy old new rank H)
+    unfolding filledBound filledSlots
+    reads-filled =
+        rw (R .at-dimension, R .at-count)
+        (ap (ghostBound (facesIn dimension)) (count-same n (dueHeard a) (λ i. H (sender old (firstTree new rank + i) rank)) reads-due))
+
     -- an area whose zones hold that is sound
     pub reads-sound : areaSound a ≡ true
     unfolding areaSound
     reads-sound =
-        rw (reads-header, R .at-P, R .at-count, R .at-ghosts, reads-bound)
-        (rw (reads-bits, reads-trees, le-leb g bound (Z .ghosts-fit), reads-ghosts))
+        rw (reads-header, R .at-P, R .at-count, R .at-ghosts, reads-bound, reads-filled)
+        (rw (reads-bits, reads-trees, le-leb g (ghostBound (facesIn dimension) (filledBy old new rank H)) few, reads-ghosts))
 
 module _ (epoch dimension : ℕ) (old new : List ℕ) (rank : ℕ) (H : ℕ → Bool) (slot : ℕ → List ℕ) (g : ℕ) (ghosts tail : List ℕ) (Z : Zones epoch dimension old new rank slot g ghosts) where
   -- an area with such zones is sound
-  pub area-sound : Held old new rank H slot g ghosts → areaSound (areaWith epoch dimension old new rank H slot g ghosts ++ tail) ≡ true
-  area-sound held =
+  pub area-sound : Held old new rank H slot g ghosts → g ≤ ghostBound (facesIn dimension) (filledBy old new rank H) → areaSound (areaWith epoch dimension old new rank H slot g ghosts ++ tail) ≡ true
+  area-sound held few =
       reads-sound (areaWith epoch dimension old new rank H slot g ghosts ++ tail) epoch dimension old new rank H slot g ghosts tail Z
-      (area-reads epoch dimension old new rank H slot g ghosts tail Z) held
+      (area-reads epoch dimension old new rank H slot g ghosts tail Z) held few
 
 -- ---- the fresh area
 
@@ -164,4 +174,4 @@ module _ (old new : List ℕ) (rank dimension epoch : ℕ) (T : Tables old new) 
   -- the fresh area is sound, whatever stands behind it
   pub fresh-sound : (tail : List ℕ) → areaSound (freshArea old new rank dimension epoch ++ tail) ≡ true
   unfolding freshArea
-  fresh-sound tail = area-sound epoch dimension old new rank (λ s. false) (λ i. replicate treeSize 0) 0 [] tail fresh-zones fresh-held
+  fresh-sound tail = area-sound epoch dimension old new rank (λ s. false) (λ i. replicate treeSize 0) 0 [] tail fresh-zones fresh-held (omega arith)

@@ -24,7 +24,7 @@ use Rattle.area.proofs.Soundness.{sound-holds}
 use Rattle.area.proofs.Ranges.{from-within}
 use Rattle.area_theorems.proofs.Zones.{bound-small}
 use Rattle.area_theorems.proofs.Again.{old-ranks, sound-tables, sound-rank}
-use Rattle.area_theorems.proofs.Delivered.{Accepted, layout-parts, accepted-parts, sender-rank, sender-due, trees-count, trees-number}
+use Rattle.area_theorems.proofs.Delivered.{Accepted, layout-parts, accepted-parts, sender-rank, sender-due, trees-count, trees-number, delivered-fit}
 use Rattle.deliver.specs.Means.{Deliverable, Placed}
 
 -- a rank that sends another a tree sends at least one
@@ -73,7 +73,7 @@ module _ (a m : List ℕ) (b : Bytes a) (A : Accepted a m) where
       record {
         holds = H;
         size = layout-parts m (A .layout-ok) .size;
-        fit = A .ghosts-fit;
+        fit = delivered-fit a m b A;
         few = bound-few;
         sender-below = p-below;
         some = n;

@@ -5,7 +5,7 @@ ghost use Rattle.area.specs.Deliver.{deliverOf};
 pub mod merge;
 pub mod write;
 
-// Deliver a message (10 to 19): 0 or the refusal.
+// Deliver a message (10 to 18): 0 or the refusal.
 pub fn deliver(area: &mut [u8], message: &[u8]) -> u32
     ensures { λ r. ⌜ (r, now (area .exit)) ≡ deliverOf (now (area .entry)) (now (message .entry)) ⌝ }
 {

@@ -4,7 +4,7 @@ use native.Mathlib.Omega.{arith}
 use mathlib.Core.Path.{_≡_, sym, ap, ap₂, _∙_}
 use mathlib.Core.Bool.{Bool, true, false, _&&_}
 use mathlib.Core.List.{List}
-use lib.Dec.{leb, ltb, eqb}
+use lib.Dec.{ltb, eqb}
 use lib.ListN.{length}
 use borrow.Author.Tests.{lt-ltb, le-ltb, ltb-true, eqb-true, eq-eqb, ne-eqb}
 use Rattle.encoding.specs.Below.{allBelow}
@@ -14,12 +14,11 @@ use Rattle.encoding.proofs.Below.{and-fst, and-snd}
 use Rattle.pattern.specs.Sender.{sentFirst, sentCount}
 use Rattle.pattern.specs.Sets.{sendsTo, getsFrom}
 use Rattle.pattern.proofs.Sets.{gets-sends}
-use Rattle.records.specs.Shape.{facesIn}
 use Rattle.records.specs.Record.{coreSize, numberOf}
 use Rattle.message.specs.Layout.{messageHeader, messageTreePlace, messageGhostPlace, messageEpoch, messageDimension, messageK, messageP, messageSender, messageReceiver, messageTrees, messageGhosts, messageTree, inLayout}
 use Rattle.message.proofs.Layouts.{size-length, layout-size}
-use Rattle.area.specs.Layout.{heardWords, ghostBound}
-use Rattle.area.specs.Area.{areaEpoch, areaDimension, areaK, areaP, areaRank, areaCount, areaGhosts, areaOld, areaNew, areaBound, areaSound, heard}
+use Rattle.area.specs.Layout.{heardWords}
+use Rattle.area.specs.Area.{areaEpoch, areaDimension, areaK, areaP, areaRank, areaOld, areaNew, areaSound, heard}
 use Rattle.area.specs.Means.{Tabled}
 use Rattle.area.specs.Deliver.{sameRun, senderDue, treesDue, ghostDue, ghostNew, deliverChecks}
 use Rattle.area.proofs.Soundness.{sound-holds}
@@ -35,10 +34,6 @@ module _ (a m : List ℕ) where
 
   pub receiver-read : {r rank : ℕ} → r ≡ messageReceiver m → rank ≡ areaRank a → eqb r rank ≡ eqb (messageReceiver m) (areaRank a)
   receiver-read e d = rw (e, d)
-
-  pub room-read : {g h n d b : ℕ} → g ≡ areaGhosts a → h ≡ messageGhosts m → n ≡ areaCount a → d ≡ areaDimension a → b ≡ ghostBound (facesIn d) n → leb (g + h) b ≡ leb (areaGhosts a + messageGhosts m) (areaBound a)
-  unfolding areaBound
-  room-read e1 e2 e3 e4 e5 = rw (e5, e1, e2, e3, e4)
 
   -- a sender that is due is a rank
   pub sender-rank : senderDue a m ≡ true → messageSender m < areaP a
@@ -91,9 +86,6 @@ unfolding messageTree
 numbered-is m first i e q = rw (← e, q)
 
 module _ {a m : List ℕ} (R : Checkable a m) where
-  pub ready-headed : Headed a m
-  ready-headed = record { area = omega (arith, R .header .long); message = layout-header m (R .laid) }
-
   -- the sender's bit is in the words
   pub sender-low : {d : Bool} {s : ℕ} → d ≡ senderDue a m → d ≡ true → s ≡ messageSender m → s < 64 * heardWords (areaP a)
   sender-low e ok q = omega (arith, sender-rank a m (sym e ∙ ok), R .header .wordsEnough)
@@ -129,14 +121,9 @@ module _ (a m : List ℕ) where
             unfolding dueChecks firstFailed
             fails-new f = rw (← is-s, ok-s, heard-is, ok-h, ← is-t, ok-t, ← is-g, ok-g, ← is-n, f)
 
-            module _ (ok-n : n ≡ true) {r : Bool} (is-r : r ≡ leb (areaGhosts a + messageGhosts m) (areaBound a)) where
-              pub fails-room : r ≡ false → 19 ≡ firstFailed (dueChecks a m)
-              unfolding dueChecks firstFailed
-              fails-room f = rw (← is-s, ok-s, heard-is, ok-h, ← is-t, ok-t, ← is-g, ok-g, ← is-n, ok-n, ← is-r, f)
-
-              pub none-fails : r ≡ true → 0 ≡ firstFailed (dueChecks a m)
-              unfolding dueChecks firstFailed
-              none-fails f = rw (← is-s, ok-s, heard-is, ok-h, ← is-t, ok-t, ← is-g, ok-g, ← is-n, ok-n, ← is-r, f)
+            pub none-fails : n ≡ true → 0 ≡ firstFailed (dueChecks a m)
+            unfolding dueChecks firstFailed
+            none-fails f = rw (← is-s, ok-s, heard-is, ok-h, ← is-t, ok-t, ← is-g, ok-g, ← is-n, f)
 
 module _ (a m : List ℕ) where
   module _ {s : Bool} (is-s : s ≡ areaSound a) where

@@ -25,9 +25,10 @@ use Rattle.part.specs.Means.{numberAt, Ascending, smaller}
 use Rattle.message.specs.Layout.{messageTreePlace, messageGhostPlace, messageK, messageTrees, messageGhosts, messageTree, messageGhost, afterLast, inLayout}
 use Rattle.message.proofs.Layouts.{record-neighbour, tree-laid, tree-fits}
 use Rattle.area.specs.Layout.{heardWords, ghostSlotsPlace}
-use Rattle.area.specs.Area.{areaK, areaP, areaRank, areaCount, areaGhosts, areaOld, areaNew, ghostSlot, ghostHeldSound, areaBound, ghostSlotSound, areaHeaderSound, bitSound, treeSlotSound, areaSound}
+use Rattle.area.specs.Area.{areaK, areaP, areaRank, areaCount, areaGhosts, areaOld, areaNew, ghostSlot, ghostHeldSound, filledBound, areaBound, ghostSlotSound, areaHeaderSound, bitSound, treeSlotSound, areaSound}
 use Rattle.area.specs.Deliver.{among, besideTrees, ghostDue, ghostNew}
 use Rattle.area.proofs.Headers.{ghosts-place-is}
+use Rattle.area.proofs.Soundness.{filled-fits}
 use Rattle.deliver_check.specs.Means.{Checkable, acrossFaces, besideFirst, Marked, FacesFit, TreesFit, ghostBeside, Beside, heldAt}
 
 -- ---- a set that grows
@@ -187,9 +188,9 @@ module _ {a m : List ℕ} (R : Checkable a m) where
   unfolding areaSound
   sound-ghosts =
       let x : Bool = areaHeaderSound a && allBelow (64 * heardWords (areaP a)) (bitSound a) && allBelow (areaCount a) (treeSlotSound a) in
-      let l : Bool = leb (areaGhosts a) (areaBound a) in
+      let l : Bool = leb (areaGhosts a) (filledBound a) in
       let s : Bool = allBelow (areaBound a) (ghostSlotSound a) in
-      (leb-true (areaGhosts a) (areaBound a) (and-snd x l (and-fst (x && l) s (R .sound))), and-snd (x && l) s (R .sound))
+      (omega (arith, leb-true (areaGhosts a) (filledBound a) (and-snd x l (and-fst (x && l) s (R .sound))), filled-fits a), and-snd (x && l) s (R .sound))
 
   held-after : (j : ℕ) → j < areaGhosts a → afterLast (ghostSlot a) j ≡ true
   unfolding ghostSlotSound ghostHeldSound

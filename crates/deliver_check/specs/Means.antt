@@ -3,7 +3,7 @@ use Prim.Native.Nat.{ℕ, _+_, _*_, _≤_, _<_}
 use mathlib.Core.Path.{_≡_}
 use mathlib.Core.Bool.{Bool, true, not, _&&_, _||_}
 use mathlib.Core.List.{List, [], _∷_}
-use lib.Dec.{leb, eqb}
+use lib.Dec.{eqb}
 use lib.ListN.{length}
 use Rattle.encoding.specs.Below.{allBelow, anyBelow}
 use Rattle.encoding.specs.Pieces.{piece}
@@ -15,7 +15,7 @@ use Rattle.records.specs.Record.{coreSize, numberOf, shapeOf, neighbourOf}
 use Rattle.part.specs.Means.{numberAt}
 use Rattle.message.specs.Layout.{messageHeader, messageK, messageSender, messageTrees, messageGhosts, messageTree, messageGhost, inLayout}
 use Rattle.area.specs.Layout.{areaHeader}
-use Rattle.area.specs.Area.{areaK, areaGhosts, areaBound, areaSound, heard}
+use Rattle.area.specs.Area.{areaK, areaSound, heard}
 use Rattle.area.specs.Means.{HeaderHolds}
 use Rattle.area.specs.Deliver.{senderDue, treesDue, ghostDue, ghostNew}
 
@@ -35,8 +35,7 @@ pub record Checkable (a m : List ℕ) : Type 0 where
 unfoldable pub dueChecks : List ℕ → List ℕ → List Check
 dueChecks a m =
     check (senderDue a m) 14 ∷ check (not (heard a (messageSender m))) 15 ∷ check (treesDue a m) 16
-    ∷ check (allBelow (messageGhosts m) (ghostDue a m)) 17 ∷ check (allBelow (messageGhosts m) (ghostNew a m)) 18
-    ∷ check (leb (areaGhosts a + messageGhosts m) (areaBound a)) 19 ∷ []
+    ∷ check (allBelow (messageGhosts m) (ghostDue a m)) 17 ∷ check (allBelow (messageGhosts m) (ghostNew a m)) 18 ∷ []
 
 -- ---- neighbours of the message's trees as a set
 

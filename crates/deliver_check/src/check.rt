@@ -2,13 +2,13 @@
 ghost use mathlib.Core.Path.{_≡_};
 ghost use mathlib.Core.Bool.{true};
 ghost use Prim.Native.Nat.{_+_, _≤_, _<_};
-ghost use lib.Dec.{leb, eqb};
+ghost use lib.Dec.{eqb};
 ghost use lib.ListN.{length};
 ghost use Rattle.encoding.specs.Below.{allBelow};
 ghost use Rattle.encoding.specs.Refusal.{firstFailed};
 ghost use Rattle.records.specs.Record.{numberOf};
-ghost use Rattle.message.specs.Layout.{messageHeader, messageSender, messageReceiver, messageGhosts, messageTreePlace, messageTree, inLayout};
-ghost use Rattle.area.specs.Area.{areaP, areaRank, areaGhosts, areaBound};
+ghost use Rattle.message.specs.Layout.{messageHeader, messageSender, messageReceiver, messageTreePlace, messageTree, inLayout};
+ghost use Rattle.area.specs.Area.{areaP, areaRank};
 ghost use Rattle.area.specs.Means.{Tabled};
 ghost use Rattle.area.specs.Deliver.{sameRun, senderDue, treesDue, deliverChecks};
 ghost use Rattle.deliver_check.specs.Means.{Headed, Checkable, dueChecks};
@@ -75,18 +75,7 @@ fn trees_due(area: &[u8], old: &[u8], new: &[u8], message: &[u8]) -> bool
     trees_from(message, first, count)
 }
 
-// Whether the area has slots for the message's ghosts (19).
-fn has_room(area: &[u8], message: &[u8]) -> bool
-    requires { ⌜ Headed (now area) (now message) ⌝ }
-    ensures { λ r. ⌜ r ≡ leb (areaGhosts (now (area .entry)) + messageGhosts (now (message .entry))) (areaBound (now (area .entry))) ⌝ }
-{
-    let held = area::read::ghosts(area) as u64;
-    let ghosts = message::header::ghost_count(message) as u64;
-    let count = area::read::count(area);
-    held + ghosts <= area::layout::ghost_bound(area::read::dimension(area), count)
-}
-
-// The checks from the sender's on (14 to 19): 0 or the refusal.
+// The checks from the sender's on (14 to 18): 0 or the refusal.
 fn due_refusal(area: &[u8], old: &[u8], new: &[u8], message: &[u8]) -> u32
     requires { ⌜ Tabled (now area) (now old) (now new) × Checkable (now area) (now message) ⌝ }
     ensures { λ r. ⌜ r ≡ firstFailed (dueChecks (now (area .entry)) (now (message .entry))) ⌝ }
@@ -106,13 +95,10 @@ fn due_refusal(area: &[u8], old: &[u8], new: &[u8], message: &[u8]) -> u32
     if !crate::ghosts::ghosts_new(area, message) {
         return 18;
     }
-    if !has_room(area, message) {
-        return 19;
-    }
     0
 }
 
-// Whether a sound area takes a message (10 to 19): 0 or the refusal.
+// Whether a sound area takes a message (10 to 18): 0 or the refusal.
 pub fn refusal(area: &[u8], message: &[u8]) -> u32
     ensures { λ r. ⌜ r ≡ firstFailed (deliverChecks (now (area .entry)) (now (message .entry))) ⌝ }
 {

@@ -38,7 +38,7 @@ use Rattle.repartition.specs.Lists.{deliver, Built, hears}
 use Rattle.repartition.proofs.Receive.{InReceive, built-due}
 use Rattle.area_theorems.proofs.Counting.{count-apart}
 use Rattle.repartition.proofs.Counting.{neighbour-beside}
-use Rattle.repartition.proofs.Heard.{Kept, among-kept, one-kept, record-core, heard-fit, canonical-reads, rank-bit, among-heard, one-heard, canonical-sound, canonical-agree}
+use Rattle.repartition.proofs.Heard.{Kept, among-kept, one-kept, record-core, canonical-reads, rank-bit, among-heard, one-heard, canonical-sound, canonical-agree}
 
 eqb-sym : (a b : ℕ) → eqb a b ≡ eqb b a
 eqb-sym a b = iff-eq (eqb a b) (eqb b a) (λ e. eq-eqb b a (sym (eqb-true a b e))) (λ e. eq-eqb a b (sym (eqb-true b a e)))
@@ -46,7 +46,7 @@ eqb-sym a b = iff-eq (eqb a b) (eqb b a) (λ e. eq-eqb b a (sym (eqb-true a b e)
 -- the refusal as a chain of tests
 refusal-chain : (a m : List ℕ) → firstFailed (deliverChecks a m)
     ≡ cond (areaSound a) (cond (inLayout m) (cond (sameRun a m) (cond (eqb (messageReceiver m) (areaRank a)) (cond (senderDue a m) (cond (not (heard a (messageSender m))) (cond (treesDue a m)
-    (cond (allBelow (messageGhosts m) (ghostDue a m)) (cond (allBelow (messageGhosts m) (ghostNew a m)) (cond (leb (areaGhosts a + messageGhosts m) (areaBound a)) 0 19) 18) 17) 16) 15) 14) 13) 12) 11) 10
+    (cond (allBelow (messageGhosts m) (ghostDue a m)) (cond (allBelow (messageGhosts m) (ghostNew a m)) 0 18) 17) 16) 15) 14) 13) 12) 11) 10
 unfolding deliverChecks firstFailed
 refusal-chain a m = refl
 
@@ -308,13 +308,6 @@ module _ (run : Run) (S : Setting run) where
           rw (R .at-ghosts, built-ghosts p (run .rank) b, ← S .same-trees)
           (sym (count-same (meshTrees (run .mesh)) have (λ k. had k || come k) heard-more ∙ count-apart (meshTrees (run .mesh)) had come (heard-apart new-sender)))
 
-      -- 19
-      step-room : H p ≡ false → leb (areaGhosts a + messageGhosts m) (areaBound a) ≡ true
-      unfolding areaBound
-      step-room new-sender =
-          rw (step-many new-sender, R .at-dimension, R .at-count)
-          (le-leb (countBelow (meshTrees (run .mesh)) have) (ghostBound (facesIn (meshDimension (run .mesh))) (treeCount (run .new) (run .rank))) (heard-fit run S after))
-
       step-again : H p ≡ true → firstFailed (deliverChecks a m) ≡ 15
       step-again t =
           rw (refusal-chain a m, canonical-sound run S H tail r, built-laid p (run .rank) b, step-run p (run .rank) b, step-receiver p (run .rank) b, eq-eqb (run .rank) (run .rank) refl, step-due, step-heard, t)
@@ -322,7 +315,7 @@ module _ (run : Run) (S : Setting run) where
       step-passes : H p ≡ false → firstFailed (deliverChecks a m) ≡ 0
       step-passes t =
           rw (refusal-chain a m, canonical-sound run S H tail r, built-laid p (run .rank) b, step-run p (run .rank) b, step-receiver p (run .rank) b, eq-eqb (run .rank) (run .rank) refl, step-due, step-heard, t)
-          (rw (step-trees, step-ghosts, step-new t, step-room t))
+          (rw (step-trees, step-ghosts, step-new t))
 
       -- ---- the area after it
 

@@ -1,6 +1,6 @@
 -- The canonical area read back, sound, and a function of who is heard.
 use Prim.Native.Nat.{ℕ, zero, suc, _+_, _*_, _≤_, _<_}
-use native.Mathlib.Nat.{le-refl, add-zero}
+use native.Mathlib.Nat.{le-refl, le-trans, add-zero, mul-le-mul-left}
 use native.Mathlib.Omega.{arith}
 use mathlib.Core.Path.{_≡_, refl, sym, ap, fun-ext, _∙_}
 use mathlib.Core.Bool.{Bool, true, false, not, and-false}
@@ -12,7 +12,7 @@ use borrow.Author.Tests.{eqb-true, eq-eqb, not-true}
 use Rattle.encoding.specs.Below.{anyBelow, leastBelow, countBelow, keptBelow}
 use Rattle.encoding.specs.Pieces.{piece}
 use Rattle.encoding.specs.Words.{allZero}
-use Rattle.encoding.proofs.Below.{either, and-fst, iff-eq, below-suc, any-at, any-intro, least-lt, least-at, count-none, count-lt, kept-length, kept-at, kept-found, kept-ascends}
+use Rattle.encoding.proofs.Below.{either, and-fst, iff-eq, below-suc, any-at, any-intro, least-lt, least-at, count-le, count-none, count-lt, kept-length, kept-at, kept-found, kept-ascends}
 use Rattle.encoding.proofs.Pieces.{piece-length}
 use Rattle.offsets.specs.Table.{ranks, firstTree, treeCount, holds}
 use Rattle.records.specs.Shape.{facesIn}
@@ -36,7 +36,7 @@ use Rattle.repartition.proofs.Canonical.{slotHeard, ghostHeard, ghostsH
 use Rattle.repartition.specs.Run.{Run, Setting}
 use Rattle.repartition.specs.Lists.{nobody}
 use Rattle.repartition.proofs.Receive.{InReceive}
-use Rattle.repartition.proofs.Counting.{ghosts-fit}
+use Rattle.repartition.proofs.Counting.{heard-few}
 
 -- ---- cores in a row, found by number
 
@@ -152,7 +152,10 @@ module _ (run : Run) where
 
     -- so there are slots for them
     pub heard-fit : countBelow (meshTrees (run .mesh)) (ghostHeard run H) ≤ ghostBound (facesIn (meshDimension (run .mesh))) (treeCount (run .new) (run .rank))
-    heard-fit = omega (arith, count-imp K test (isGhost (meshCore (run .mesh)) (run .new) (run .rank)) (λ k h. heard-ghost k), ghosts-fit run S)
+    unfolding ghostBound
+    heard-fit =
+        le-trans (heard-few run S H)
+        (mul-le-mul-left (facesIn (meshDimension (run .mesh))) (count-le (treeCount (run .new) (run .rank)) (λ i. H (sender (run .old) (firstTree (run .new) (run .rank) + i) (run .rank)))))
 
     -- the zones of the canonical area
     pub canonical-zones : Zones (run .epoch) (meshDimension (run .mesh)) (run .old) (run .new) (run .rank) (slotHeard run H)
@@ -246,7 +249,7 @@ module _ (run : Run) where
     -- where only ranks of the receive set are heard, the area is sound
     pub canonical-sound : (tail : List ℕ) → InReceive run H → areaSound (canonical run H ++ tail) ≡ true
     unfolding canonical
-    canonical-sound tail r = area-sound (run .epoch) (meshDimension (run .mesh)) (run .old) (run .new) (run .rank) H slot (countBelow K test) (ghosts K) tail canonical-zones (canonical-held r)
+    canonical-sound tail r = area-sound (run .epoch) (meshDimension (run .mesh)) (run .old) (run .new) (run .rank) H slot (countBelow K test) (ghosts K) tail canonical-zones (canonical-held r) (heard-few run S H)
 
   -- ---- what it depends on
 

@@ -15,5 +15,7 @@ pub mod AfterList
 pub mod Examples
 pub mod Promises
 pub mod Refusals
+pub mod Words
+pub mod Deliveries
 pub mod Regions
 pub mod TreeData

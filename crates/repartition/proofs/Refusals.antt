@@ -91,7 +91,7 @@ refused-unchanged =
 -- ---- what a number means
 
 -- the refusal of a call that writes
-refusal-is : (refusal : ℕ) (object out : List ℕ) → writeAnswer refusal object out .0 .refusal ≡ refusal
+pub refusal-is : (refusal : ℕ) (object out : List ℕ) → writeAnswer refusal object out .0 .refusal ≡ refusal
 unfolding writeAnswer lengthAnswer
 refusal-is refusal object out = either (eqb refusal 0) (λ e. rw e (sym (eqb-true refusal 0 e))) (λ e. rw e)
 
@@ -133,9 +133,8 @@ was-heard area m e =
     (failed (not (heard area (messageSender m))) _ 15
     (neither (treesDue area m) _ 16 15
     (neither (allBelow (messageGhosts m) (ghostDue area m)) _ 17 15
-    (neither (allBelow (messageGhosts m) (ghostNew area m)) _ 18 15
-    (neither (leb (areaGhosts area + messageGhosts m) (areaBound area)) 0 19 15 (λ z. omega arith) (λ z. omega arith))
-    (λ z. omega arith)) (λ z. omega arith)) (λ z. omega arith)) e15)
+    (neither (allBelow (messageGhosts m) (ghostNew area m)) 0 18 15 (λ z. omega arith) (λ z. omega arith))
+    (λ z. omega arith)) (λ z. omega arith)) e15)
 
 some-unheard : (area out : List ℕ) → closeOf area out .0 .refusal ≡ 20 → allHeard area ≡ false
 unfolding closeOf closeChecks firstFailed

@@ -3,6 +3,8 @@ pub mod Run
 pub mod Lists
 pub mod Demand
 pub mod AfterList
+pub mod Words
+pub mod Deliveries
 pub mod Promises
 pub mod Refusals
 pub mod Examples

@@ -550,7 +550,7 @@ fn many_senders(run: &mut Run) {
 
 fn many_ranks(run: &mut Run) {
     run.cases(3, |random, calls| {
-        let ranks = random.pick(&[MAX_RANKS, 1_000, 65]);
+        let ranks = random.pick(&[1_024, 1_000, 65]);
         let trees = ranks as u32;
         let mut case = Case::random(random, trees as usize, ranks);
         case.old = bytes_of(&(0..=ranks as i64).collect::<Vec<i64>>());
@@ -577,7 +577,7 @@ fn many_ranks(run: &mut Run) {
         let part = case.new_part(q);
         assert_eq!(calls.close_area(&full, &vec![0; part.len()]).1, part);
         // a bit of a rank that there isn't
-        if ranks < MAX_RANKS {
+        if ranks < 1_024 {
             let mut more = full;
             more[words_at(ranks) + ranks / 8] |= 1 << (ranks % 8);
             assert_eq!(calls.read_area(&more), 10);
@@ -932,15 +932,16 @@ fn null_pointers(run: &mut Run) {
 /// Lengths of the largest areas; one of many trees goes through a repartition.
 fn tree_limits(run: &mut Run) {
     let all = MAX_TREES as i64;
-    let on_first = [&[0][..], &[all; MAX_RANKS]].concat();
-    for (old, new, rank) in
-        [(&[0, all][..], &[0, all][..], 0), (&on_first, &on_first, 0), (&on_first, &on_first, 1_023)]
+    let on_first = |ranks| [vec![0], vec![all; ranks]].concat();
+    let (few, many) = (on_first(1_024), on_first(MAX_RANKS));
+    for (table, rank, words) in
+        [(&vec![0, all], 0, 16), (&few, 0, 16), (&few, 1_023, 16), (&many, 0, 256), (&many, 16_383, 256)]
     {
-        let tables = Tables::of(old, new);
+        let tables = Tables::of(table, table);
         let trees = if rank == 0 { MAX_TREES as u64 } else { 0 };
         for (dimension, faces) in [(2, 4), (3, 6)] {
             let got = run.calls.area_length(&tables, rank, dimension);
-            assert_eq!(got.length, 32 + 2 * 8 * old.len() as u64 + 128 + (64 + 40 * faces) * trees);
+            assert_eq!(got.length, 32 + 2 * 8 * table.len() as u64 + 8 * words + (64 + 40 * faces) * trees);
         }
     }
     run.cases(1, |random, calls| {

@@ -5,7 +5,14 @@ use crate::model::{self, Answer, Pair, MAX_RANKS};
 use crate::part_model::{self, fits, form_faults, header, Part, Share, Tree, GHOST, HEADER, TREE};
 use std::collections::BTreeSet;
 
-const WORDS: usize = 16;
+/// How many heard words an area of so many ranks has.
+pub fn words(ranks: usize) -> usize {
+    if ranks <= 1_024 {
+        16
+    } else {
+        256
+    }
+}
 
 #[derive(Clone, Debug)]
 pub struct Area {
@@ -37,7 +44,7 @@ pub fn words_at(ranks: usize) -> usize {
 
 /// Where its tree slots begin.
 pub fn trees_at(ranks: usize) -> usize {
-    words_at(ranks) + 8 * WORDS
+    words_at(ranks) + 8 * words(ranks)
 }
 
 impl Area {
@@ -63,7 +70,7 @@ impl Area {
             header([self.epoch, self.dimension, trees, ranks, rank, self.trees.len() as u32, ghosts as u32, 0]);
         bytes.extend(&self.old);
         bytes.extend(&self.new);
-        let mut words = [0u64; WORDS];
+        let mut words = vec![0u64; words(ranks as usize)];
         for &sender in &self.heard {
             words[sender as usize / 64] |= 1 << (sender % 64);
         }
@@ -192,8 +199,8 @@ pub fn read(bytes: &[u8]) -> Result<Area, BTreeSet<Fault>> {
         let word = &bytes[words_at(ranks as usize) + 8 * (sender as usize / 64)..][..8];
         u64::from_le_bytes(word.try_into().unwrap()) >> (sender % 64) & 1 == 1
     };
-    let heard: BTreeSet<u32> = (0..64 * WORDS as u32).filter(|&sender| bit(sender)).collect();
-    let mut pair = Pair::new(old, new).expect("valid tables of the same P and K");
+    let heard: BTreeSet<u32> = (0..64 * words(ranks as usize) as u32).filter(|&sender| bit(sender)).collect();
+    let pair = Pair::new(old, new).expect("valid tables of the same P and K");
     if !heard.is_subset(&pair.receive_set(rank)) {
         faults.insert(Fault::Bits);
     }

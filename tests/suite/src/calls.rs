@@ -94,7 +94,7 @@ pub fn written<T: Copy>(before: &[T], answer: &Answer<Vec<T>>) -> Vec<T> {
 
 impl Calls {
     pub fn new() -> Calls {
-        let tables = || Arena::new(20_000);
+        let tables = || Arena::new(200_000);
         let list = || Arena::new(4 * model::MAX_TREES + 8_192);
         Calls {
             seen: Seen::default(),

@@ -1,5 +1,5 @@
 //! Tables, partitions and leaf counts to try, and ways to spoil them.
-use crate::model::{self, Trees, MAX_RANKS, MAX_TREES};
+use crate::model::{self, Trees, MAX_TREES};
 use crate::random::Random;
 
 /// A valid partition. Every one can come out: a rank's end is not below the last one's, and what lies between is its own,
@@ -49,7 +49,7 @@ pub fn lists(random: &mut Random, partition: &[Trees]) -> (Vec<u32>, Vec<u32>) {
 
 /// Any 32-bit number, often one at a limit.
 pub fn number(random: &mut Random) -> u32 {
-    let limits = [0, 1, 2, 1_024, 1_048_576, 16_777_216, 1 << 31, u32::MAX];
+    let limits = [0, 1, 2, 1_024, 16_384, 1_048_576, 16_777_216, 1 << 31, u32::MAX];
     match random.below(3) {
         0 => random.next() as u32,
         1 => random.pick(&limits).wrapping_add(random.number(0, 4)).wrapping_sub(2),
@@ -84,11 +84,11 @@ pub fn spoilt_table(random: &mut Random, mut table: Vec<i64>) -> Vec<i64> {
     table
 }
 
-/// A rank count of any size up to the limit, mostly small.
+/// A rank count up to 1,024, mostly small: the second implementation takes P² steps. Larger ones are in the group `ranks`.
 pub fn ranks(random: &mut Random) -> usize {
     match random.below(16) {
-        0 => MAX_RANKS,
-        1 => random.number(1, MAX_RANKS as u32) as usize,
+        0 => 1_024,
+        1 => random.number(1, 1_024) as usize,
         2 | 3 => random.number(1, 100) as usize,
         _ => random.number(1, 9) as usize,
     }

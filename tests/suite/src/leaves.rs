@@ -104,6 +104,7 @@ fn million_trees(run: &mut Run) {
     for count in [1, MAX_LEAVES] {
         let leaves = vec![count; MAX_TREES];
         assert_eq!(accepted(&leaves, 1_024), bytes_of(&even(1_024)));
+        assert_eq!(accepted(&leaves, 16_384), bytes_of(&even(16_384)));
         assert_eq!(accepted(&leaves, 1), bytes_of(&[0, MAX_TREES as i64]));
         accepted(&leaves, 1_023);
     }
@@ -161,14 +162,14 @@ fn list_lengths(run: &mut Run) {
 }
 
 fn rank_limits(run: &mut Run) {
-    let room = [6; 8 * 1_030];
-    for ranks in [1, 2, 1_023, 1_024] {
+    let room = [6; 8 * (MAX_RANKS + 6)];
+    for ranks in [1, 2, 1_023, 1_024, 1_025, 16_384] {
         for leaves in [vec![1], vec![1, 1], vec![1_024], vec![1_023], vec![3, 5_000, 1], vec![2; 512], vec![1; 1_025]] {
             let (got, _) = run.calls.table_from_leaves(ranks, &leaves, &room);
             assert_eq!(got, Length { refusal: 0, length: 8 * (u64::from(ranks) + 1) });
         }
     }
-    for ranks in [0, 1_025, 1_026, 1 << 16, 1 << 31, u32::MAX] {
+    for ranks in [0, 16_385, 16_386, 1 << 16, 1 << 31, u32::MAX] {
         assert_eq!(run.calls.table_from_leaves(ranks, &[4, 4], &room).0, refused(2), "{ranks}");
     }
 }

@@ -55,6 +55,7 @@ groups! {
     faults
     refusals
     nearest
+    ranks
 }
 
 /// What a test is given.

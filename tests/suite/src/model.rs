@@ -1,7 +1,7 @@
 //! The second implementation: document 01's sentences, plainly, by definition and by search. Nothing here is fast.
 use std::collections::{BTreeMap, BTreeSet};
 
-pub const MAX_RANKS: usize = 1_024;
+pub const MAX_RANKS: usize = 16_384;
 pub const MAX_TREES: usize = 1_048_576;
 pub const MAX_LEAVES: u32 = 16_777_216;
 
@@ -37,7 +37,7 @@ impl Trees {
 
 /// The entries of a table, 2 where no P within its limits has that length.
 pub fn entries(bytes: &[u8]) -> Answer<Vec<i64>> {
-    let of_some_rank_count = (1..=MAX_RANKS).any(|ranks| bytes.len() == 8 * (ranks + 1));
+    let of_some_rank_count = bytes.len() % 8 == 0 && (2..=MAX_RANKS + 1).contains(&(bytes.len() / 8));
     if !of_some_rank_count {
         return Err(2);
     }
@@ -329,7 +329,8 @@ impl Pair {
     }
 
     /// Every p from which q gets a tree.
-    pub fn receive_set(&mut self, q: u32) -> BTreeSet<u32> {
-        self.sent().keys().filter(|&&(_, to)| to == q).map(|&(from, _)| from).collect()
+    pub fn receive_set(&self, q: u32) -> BTreeSet<u32> {
+        let trees = self.new[q as usize].first..self.new[q as usize].end;
+        trees.map(|k| self.sender(k as u32, q).expect("a tree of f'(q)")).collect()
     }
 }

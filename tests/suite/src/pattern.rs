@@ -178,7 +178,7 @@ fn large_pairs(run: &mut Run) {
 
 fn largest(run: &mut Run) {
     run.cases(3, |random, calls| {
-        let (ranks, trees) = (MAX_RANKS, MAX_TREES as u32);
+        let (ranks, trees) = (1_024, MAX_TREES as u32);
         let old = cases::table(random, ranks, trees);
         let new = cases::table(random, ranks, trees);
         let mut tables = Tables::of(&old, &new);

@@ -31,7 +31,7 @@ pub fn kinds() -> Vec<(Vec<u8>, u32)> {
     kinds.extend(other_ranks.map(|table| (bytes_of(table), 0)));
     kinds.extend(other_trees.map(|table| (bytes_of(table), 0)));
     kinds.extend(invalid.map(|table| (bytes_of(table), 3)));
-    kinds.extend([0, 7, 8, 15, 31, 33, 8_208].map(|length| (vec![0; length], 2)));
+    kinds.extend([0, 7, 8, 15, 31, 33, 131_088].map(|length| (vec![0; length], 2)));
     kinds
 }
 
@@ -86,7 +86,7 @@ fn one_table(run: &mut Run) {
 }
 
 fn writing(run: &mut Run) {
-    for (ranks, bad_ranks) in [(3, 0), (0, 2), (1_025, 2), (u32::MAX, 2)] {
+    for (ranks, bad_ranks) in [(3, 0), (0, 2), (16_385, 2), (u32::MAX, 2)] {
         for (first, count, bad_lists) in [
             (vec![0, 1, 2], vec![1, 1, 1], 0),
             (vec![0, 1, 2], vec![1, 1], 6),
@@ -94,7 +94,7 @@ fn writing(run: &mut Run) {
             (vec![], vec![], 6),
             (vec![0, 1, 3], vec![1, 1, 1], 6),
             (vec![0, 0, 0], vec![0, 0, 0], 6),
-            (vec![0; 1_025], vec![1; 1_025], 6),
+            (vec![0; 16_385], vec![1; 16_385], 6),
         ] {
             for (room, bad_room) in [(32, 0), (40, 0), (31, 22), (8, 22), (0, 22)] {
                 let (got, _) = run.calls.write_table(ranks, &first, &count, &vec![5; room]);
@@ -109,7 +109,7 @@ fn writing(run: &mut Run) {
 }
 
 fn leaves(run: &mut Run) {
-    for (ranks, bad_ranks) in [(3, 0), (0, 2), (1_025, 2), (u32::MAX, 2)] {
+    for (ranks, bad_ranks) in [(3, 0), (0, 2), (16_385, 2), (u32::MAX, 2)] {
         for (leaves, bad_leaves) in
             [(vec![4, 4], 0), (vec![], 6), (vec![0, 4], 6), (vec![4, 0], 6), (vec![1, MAX_LEAVES + 1], 6)]
         {

@@ -71,13 +71,13 @@ fn every_small(run: &mut Run) {
 }
 
 fn each_length(run: &mut Run) {
-    for length in (0..=8_300).chain(16_380..16_420) {
+    for length in (0..=8_300).chain(16_380..16_420).chain(131_060..131_100) {
         // all on the last rank: valid wherever the length is that of a table
         let mut table = vec![0; length];
         if let Some(at) = length.checked_sub(8) {
             table[at] = 1;
         }
-        let of_a_table = length % 8 == 0 && (2..=1_025).contains(&(length / 8));
+        let of_a_table = length % 8 == 0 && (2..=16_385).contains(&(length / 8));
         assert_eq!(run.calls.check_table(&table), if of_a_table { 0 } else { 2 }, "{length} bytes");
         assert_eq!(run.calls.table_range(&table, 0).refusal, if of_a_table { 0 } else { 2 }, "{length} bytes");
         // no trees at all
@@ -87,7 +87,7 @@ fn each_length(run: &mut Run) {
 }
 
 fn rank_limits(run: &mut Run) {
-    for (ranks, expected) in [(1, 0), (2, 0), (1_023, 0), (1_024, 0), (1_025, 2), (2_000, 2)] {
+    for (ranks, expected) in [(1, 0), (2, 0), (1_024, 0), (1_025, 0), (16_383, 0), (16_384, 0), (16_385, 2), (20_000, 2)] {
         for table in [vec![0; ranks], (0..ranks as i64).collect(), (0..ranks as i64).map(|p| -p.min(7)).collect()] {
             let mut table: Vec<i64> = table;
             table.push(ranks.max(7) as i64);
@@ -181,7 +181,7 @@ fn random_tables(run: &mut Run) {
 }
 
 fn lengths(run: &mut Run) {
-    for ranks in 0..=5_000 {
+    for ranks in 0..=20_000 {
         let got = run.calls.table_length(ranks);
         let fits = (1..=MAX_RANKS as u32).contains(&ranks);
         assert_eq!((got.refusal, got.length), if fits { (0, 8 * u64::from(ranks) + 8) } else { (2, 0) });

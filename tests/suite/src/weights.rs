@@ -105,7 +105,7 @@ fn every_small(run: &mut Run) {
 
 fn equal(run: &mut Run) {
     run.cases(800, |random, calls| {
-        let ranks = random.pick(&[1, 2, 3, 7, 64, 1_000, MAX_RANKS as usize]);
+        let ranks = random.pick(&[1, 2, 3, 7, 64, 1_000, 1_024]);
         let weight = random.pick(&[1, 2, 3, 255, MAX_WEIGHT]);
         let leaves: Vec<u32> = (0..random.number(1, 60)).map(|_| random.number(1, 50)).collect();
         let before = vec![7; 8 * (ranks + 1)];
@@ -123,7 +123,7 @@ fn some_weights(random: &mut Random, ranks: usize) -> Vec<u32> {
 
 fn random_weights(run: &mut Run) {
     run.cases(4_000, |random, calls| {
-        let ranks = random.pick(&[1, 2, 3, 5, 17, 100, 1_023, MAX_RANKS as usize, MAX_RANKS as usize + 1, 0]);
+        let ranks = random.pick(&[1, 2, 3, 5, 17, 100, 1_023, 1_024, MAX_RANKS + 1, 0]);
         let mut weights = some_weights(random, ranks);
         if ranks > 0 && random.chance(20) {
             let at = random.below(ranks as u64) as usize;

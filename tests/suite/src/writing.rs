@@ -181,7 +181,7 @@ fn limits(run: &mut Run) {
         let (got, _) = run.calls.write_table(first.len() as u32, &first, &count, &room);
         assert_eq!(got.refusal, expected, "{first:?} {count:?}");
     }
-    for ranks in [1_023u32, 1_024] {
+    for ranks in [1_023u32, 1_024, 1_025, 16_384] {
         // a tree each; all on tree 0; all trees on the last; an even share of the largest mesh
         let share = limit / ranks;
         let cases: [(Vec<u32>, Vec<u32>); 4] = [
@@ -205,8 +205,8 @@ fn limits(run: &mut Run) {
     let (got, _) = run.calls.write_table(1_024, &[0; 1_024], &[limit; 1_024], &room);
     assert_eq!(got, refused(6));
     // rank counts outside the limits, with lists of that length where there can be one
-    for ranks in [0, 1_025, 1_026, 4_096, 1 << 31, u32::MAX] {
-        let held = ranks.min(5_000) as usize;
+    for ranks in [0, 16_385, 16_386, 65_536, 1 << 31, u32::MAX] {
+        let held = ranks.min(20_000) as usize;
         let (got, _) = run.calls.write_table(ranks, &vec![0; held], &vec![1; held], &room);
         assert_eq!(got, refused(2), "{ranks}");
     }

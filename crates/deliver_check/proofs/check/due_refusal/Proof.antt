@@ -1,6 +1,6 @@
 use mathlib.Core.Path.{sym, _∙_}
 use borrow.Author.Tests.{not-true, not-false}
-use Rattle.deliver_check.proofs.Checking.{layout-header, ready-headed, sender-low, sender-rank, fails-sender, fails-heard, fails-trees, fails-ghosts, fails-new, fails-room, none-fails}
+use Rattle.deliver_check.proofs.Checking.{layout-header, sender-low, sender-rank, fails-sender, fails-heard, fails-trees, fails-ghosts, fails-new, none-fails}
 use borrow.Author.Needs.{needs}
 use Rattle.deliver_check.proofs.check.due_refusal.Statement.{statement}
 use Rattle.deliver_check.proofs.check.due_refusal.Tie as tie
@@ -81,40 +81,19 @@ returns-5 c =
     let ghosts-new = c .before .ghosts-new in
     fails-new _ _ (sender-due .ensures) (not-false _ (if1 .left)) (sender .ensures) (heard .ensures) (if2 .left) (trees-due .ensures) (not-false _ (if3 .left)) (ghosts-due .ensures) (not-false _ (if4 .left)) (ghosts-new .ensures) (not-true _ (c .if5 .taken))
 
-has-room-requires : tie.Need-has-room-requires
-has-room-requires c κs = ready-headed (c .before .before .before .before .before .before .before .before .before .before .before .before .before .before .before .pre .1)
-
 returns-6 : tie.Need-returns-6
 returns-6 c =
-    let sender-due = c .before .before .before .before .before .before .before .before .before .before .before .before .sender-due in
-    let if1 = c .before .before .before .before .before .before .before .before .before .before .before .if1 in
-    let sender = c .before .before .before .before .before .before .before .before .before .before .sender in
-    let heard = c .before .before .before .before .before .before .before .before .before .heard in
-    let if2 = c .before .before .before .before .before .before .before .before .if2 in
-    let trees-due = c .before .before .before .before .before .before .before .trees-due in
-    let if3 = c .before .before .before .before .before .before .if3 in
-    let ghosts-due = c .before .before .before .before .before .ghosts-due in
-    let if4 = c .before .before .before .before .if4 in
-    let ghosts-new = c .before .before .before .ghosts-new in
-    let if5 = c .before .before .if5 in
-    let has-room = c .before .has-room in
-    fails-room _ _ (sender-due .ensures) (not-false _ (if1 .left)) (sender .ensures) (heard .ensures) (if2 .left) (trees-due .ensures) (not-false _ (if3 .left)) (ghosts-due .ensures) (not-false _ (if4 .left)) (ghosts-new .ensures) (not-false _ (if5 .left)) (has-room .ensures) (not-true _ (c .if6 .taken))
-
-returns-7 : tie.Need-returns-7
-returns-7 c =
-    let sender-due = c .before .before .before .before .before .before .before .before .before .before .before .before .sender-due in
-    let if1 = c .before .before .before .before .before .before .before .before .before .before .before .if1 in
-    let sender = c .before .before .before .before .before .before .before .before .before .before .sender in
-    let heard = c .before .before .before .before .before .before .before .before .before .heard in
-    let if2 = c .before .before .before .before .before .before .before .before .if2 in
-    let trees-due = c .before .before .before .before .before .before .before .trees-due in
-    let if3 = c .before .before .before .before .before .before .if3 in
-    let ghosts-due = c .before .before .before .before .before .ghosts-due in
-    let if4 = c .before .before .before .before .if4 in
-    let ghosts-new = c .before .before .before .ghosts-new in
-    let if5 = c .before .before .if5 in
-    let has-room = c .before .has-room in
-    none-fails _ _ (sender-due .ensures) (not-false _ (if1 .left)) (sender .ensures) (heard .ensures) (if2 .left) (trees-due .ensures) (not-false _ (if3 .left)) (ghosts-due .ensures) (not-false _ (if4 .left)) (ghosts-new .ensures) (not-false _ (if5 .left)) (has-room .ensures) (not-false _ (c .if6 .left))
+    let sender-due = c .before .before .before .before .before .before .before .before .before .before .sender-due in
+    let if1 = c .before .before .before .before .before .before .before .before .before .if1 in
+    let sender = c .before .before .before .before .before .before .before .before .sender in
+    let heard = c .before .before .before .before .before .before .before .heard in
+    let if2 = c .before .before .before .before .before .before .if2 in
+    let trees-due = c .before .before .before .before .before .trees-due in
+    let if3 = c .before .before .before .before .if3 in
+    let ghosts-due = c .before .before .before .ghosts-due in
+    let if4 = c .before .before .if4 in
+    let ghosts-new = c .before .ghosts-new in
+    none-fails _ _ (sender-due .ensures) (not-false _ (if1 .left)) (sender .ensures) (heard .ensures) (if2 .left) (trees-due .ensures) (not-false _ (if3 .left)) (ghosts-due .ensures) (not-false _ (if4 .left)) (ghosts-new .ensures) (not-false _ (c .if5 .left))
 
 pub due-refusal-spec : {M : Type 1} → statement M
 due-refusal-spec =
@@ -132,6 +111,4 @@ due-refusal-spec =
     returns-4
     ghosts-new-requires
     returns-5
-    has-room-requires
-    returns-6
-    returns-7)
+    returns-6)

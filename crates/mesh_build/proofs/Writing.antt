@@ -1,18 +1,17 @@
 -- What the writers leave: the header, a record made of words, and the mesh tree by tree.
 use Prim.Native.Nat.{ℕ, _+_, _*_, _/_, _%_, _≤_, _<_}
 use native.Mathlib.Omega.{arith}
-use native.Mathlib.Nat.{zero-add}
 use native.Mathlib.Numerals.{add-one}
 use lib.Dec.{lit≤}
-use mathlib.Core.Path.{_≡_, refl, ap, _∙_}
-use mathlib.Core.List.{List, [], _∷_, _++_, append-assoc, append-nil}
-use lib.ListN.{length, length-append}
+use mathlib.Core.Path.{_≡_, refl, sym, ap, _∙_}
+use mathlib.Core.List.{List, [], _∷_, _++_}
+use lib.ListN.{length}
 use Rattle.encoding.specs.Numbers.{leBytes, putU32, lePut}
 use Rattle.encoding.specs.Pieces.{splice}
 use Rattle.encoding.specs.declared.record.Words40.{Words40}
 use Rattle.encoding.specs.Words.{wordBytes, bytes40, bytes64}
 use Rattle.encoding.proofs.Numbers.{bytes-length}
-use Rattle.encoding.proofs.Pieces.{splice-then}
+use Rattle.encoding.proofs.Pieces.{length-splice, splice-none, splice-then}
 use Rattle.records.specs.Shape.{dimensionOf, facesIn}
 use Rattle.records.specs.Record.{treeSize}
 use Rattle.records.specs.Links.{cell, neighbourBytes, codeBytes, withRows, Rows}
@@ -83,21 +82,28 @@ trees-more : (shape : ℕ) (link : ℕ → ℕ → Link) (k : ℕ) → builtTree
 unfolding builtTrees
 trees-more shape link k = rw add-one refl
 
+-- bs is the buffer with the header in it
 module _ (shape : ℕ) (link : ℕ → ℕ → Link) (K : ℕ) (bs : List ℕ) where
-  pub built-start : {mid : List ℕ} → mid ≡ splice bs 0 (newHeader shape K) → mid ≡ splice bs 0 (newHeader shape K ++ builtTrees shape link 0)
+  pub built-start : bs ≡ splice bs meshHeader (builtTrees shape link 0)
   unfolding builtTrees
-  built-start e = rw append-nil e
+  built-start = sym (splice-none bs meshHeader)
 
   pub built-next : {mid next : List ℕ} {rows : List (List ℕ)} (k : ℕ) → meshHeader + treeSize * K ≤ length bs → k < K
-      → mid ≡ splice bs 0 (newHeader shape K ++ builtTrees shape link k) → rows ≡ treeRows shape (link k) → next ≡ splice mid (meshHeader + treeSize * k) (newTree k shape rows)
-      → next ≡ splice bs 0 (newHeader shape K ++ builtTrees shape link (k + 1))
+      → mid ≡ splice bs meshHeader (builtTrees shape link k) → rows ≡ treeRows shape (link k) → next ≡ splice mid (meshHeader + treeSize * k) (newTree k shape rows)
+      → next ≡ splice bs meshHeader (builtTrees shape link (k + 1))
   built-next {mid} {next} {rows} k room h e r q =
-      let a : List ℕ = newHeader shape K ++ builtTrees shape link k in
       let b : List ℕ = newTree k shape (treeRows shape (link k)) in
-      let l : length a ≡ meshHeader + treeSize * k = rw (length-append, header-length shape K, trees-length shape link k) in
-      let q' : next ≡ splice mid (0 + (meshHeader + treeSize * k)) b = rw (zero-add, ← r) q in
-      splice-then bs 0 (meshHeader + treeSize * k) a b l (omega arith) e q' ∙ ap (splice bs 0) (append-assoc (newHeader shape K) (builtTrees shape link k) b ∙ ap (λ (t : List ℕ). newHeader shape K ++ t) (trees-more shape link k))
+      let q' : next ≡ splice mid (meshHeader + treeSize * k) b = rw r at q in
+      splice-then bs meshHeader (treeSize * k) (builtTrees shape link k) b (trees-length shape link k) (omega arith) e q' ∙ ap (splice bs meshHeader) (trees-more shape link k)
 
-  pub built-done : {last : List ℕ} (k : ℕ) → k ≤ K → K ≤ k → last ≡ splice bs 0 (newHeader shape K ++ builtTrees shape link k) → last ≡ splice bs 0 (builtMesh shape link K)
+  -- the buffer stays as long
+  pub built-same : {mid : List ℕ} (k : ℕ) → meshHeader + treeSize * K ≤ length bs → k ≤ K → mid ≡ splice bs meshHeader (builtTrees shape link k) → length mid ≡ length bs
+  built-same k room h e = ap length e ∙ length-splice bs meshHeader (builtTrees shape link k) (omega (arith, trees-length shape link k))
+
+  -- all of it, in the buffer before the header
+  pub built-done : (entry : List ℕ) {last : List ℕ} (k : ℕ) → meshHeader ≤ length entry → k ≤ K → K ≤ k → bs ≡ splice entry 0 (newHeader shape K)
+      → last ≡ splice bs meshHeader (builtTrees shape link k) → last ≡ splice entry 0 (builtMesh shape link K)
   unfolding builtMesh
-  built-done k p q e = let n : k ≡ K = omega arith in rw n at e
+  built-done entry k room p q b e =
+      let n : k ≡ K = omega arith in
+      splice-then entry 0 meshHeader (newHeader shape K) (builtTrees shape link K) (header-length shape K) (omega arith) b (rw n at e)

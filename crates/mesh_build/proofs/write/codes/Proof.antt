@@ -71,7 +71,14 @@ add-result-5 : tie.Need-add-result-5
 add-result-5 c = search needs
 
 returns : tie.Need-returns
-returns c = codes-word _ _ (c .before .before .before .before .before .before .before .before .before .before .before .before .pre) (c .before .before .before .before .before .before .before .before .before .before .code .ensures .0) (c .before .before .before .before .before .before .before .before .code2 .ensures .0) (c .before .before .before .before .before .before .code3 .ensures .0) (c .before .before .before .before .code4 .ensures .0) (c .before .before .code5 .ensures .0) (c .code6 .ensures .0)
+returns c =
+    let pre = c .before .before .before .before .before .before .before .before .before .before .before .before .pre in
+    let code = c .before .before .before .before .before .before .before .before .before .before .code in
+    let code2 = c .before .before .before .before .before .before .before .before .code2 in
+    let code3 = c .before .before .before .before .before .before .code3 in
+    let code4 = c .before .before .before .before .code4 in
+    let code5 = c .before .before .code5 in
+    codes-word _ _ pre (code .ensures .0) (code2 .ensures .0) (code3 .ensures .0) (code4 .ensures .0) (code5 .ensures .0) (c .code6 .ensures .0)
 
 pub codes-spec : {M : Type 1} → statement M
 codes-spec =

@@ -18,7 +18,12 @@ same-length : tie.Need-same-length
 same-length c = search needs
 
 returns : tie.Need-returns
-returns c = header-written _ _ _ (c .before .before .before .before .before .before .before .before .before .before .pre) (c .before .before .before .before .before .before .write-u32 .ensures ∙ ap (putU32 _ 0) (c .before .before .before .before .before .before .before .dimension-of .ensures)) (c .before .before .write-u322 .ensures)
+returns c =
+    let pre = c .before .before .before .before .before .before .before .before .before .before .pre in
+    let write-u32 = c .before .before .before .before .before .before .write-u32 in
+    let dimension-of = c .before .before .before .before .before .before .before .dimension-of in
+    let write-u322 = c .before .before .write-u322 in
+    header-written _ _ _ pre (write-u32 .ensures ∙ ap (putU32 _ 0) (dimension-of .ensures)) (write-u322 .ensures)
 
 pub header-spec : {M : Type 1} → statement M
 header-spec =

@@ -60,7 +60,11 @@ pair-requires-4 : tie.Need-pair-requires-4
 pair-requires-4 c κs = search needs
 
 codes-requires : tie.Need-codes-requires
-codes-requires c κs = rw (c .before .before .before .before .before .before .before .before .before .before .faces-in .ensures .0, c .before .before .before .before .before .before .before .before .before .before .before .dimension-of .ensures) (c .before .before .before .before .before .before .before .before .before .before .before .before .before .pre .1 .1)
+codes-requires c κs =
+    let faces-in = c .before .before .before .before .before .before .before .before .before .before .faces-in in
+    let dimension-of = c .before .before .before .before .before .before .before .before .before .before .before .dimension-of in
+    let pre = c .before .before .before .before .before .before .before .before .before .before .before .before .before .pre in
+    rw (faces-in .ensures .0, dimension-of .ensures) (pre .1 .1)
 
 tree-at-requires : tie.Need-tree-at-requires
 tree-at-requires c κs = search needs
@@ -72,7 +76,18 @@ same-length : tie.Need-same-length
 same-length c = search needs
 
 returns : tie.Need-returns
-returns c = tree-stored _ _ _ _ _ (c .before .before .before .before .before .before .before .before .before .before .before .before .before .before .before .before .before .before .before .pre .1 .0) (c .before .before .before .tree-at .ensures) (c .before .before .before .before .before .before .before .before .before .before .before .before .before .before .before .before .faces-in .ensures .0 ∙ ap facesIn (c .before .before .before .before .before .before .before .before .before .before .before .before .before .before .before .before .before .dimension-of .ensures)) (c .before .before .store64 .ensures) (c .before .before .before .before .before .before .before .before .before .before .before .before .before .before .before .pair .ensures) (c .before .before .before .before .before .before .before .before .before .before .before .before .pair2 .ensures) (c .before .before .before .before .before .before .before .before .before .pair3 .ensures) (c .before .before .before .before .before .before .pair4 .ensures) (c .before .before .before .before .before .codes .ensures)
+returns c =
+    let pre = c .before .before .before .before .before .before .before .before .before .before .before .before .before .before .before .before .before .before .before .pre in
+    let tree-at = c .before .before .before .tree-at in
+    let faces-in = c .before .before .before .before .before .before .before .before .before .before .before .before .before .before .before .before .faces-in in
+    let dimension-of = c .before .before .before .before .before .before .before .before .before .before .before .before .before .before .before .before .before .dimension-of in
+    let store64 = c .before .before .store64 in
+    let pair = c .before .before .before .before .before .before .before .before .before .before .before .before .before .before .before .pair in
+    let pair2 = c .before .before .before .before .before .before .before .before .before .before .before .before .pair2 in
+    let pair3 = c .before .before .before .before .before .before .before .before .before .pair3 in
+    let pair4 = c .before .before .before .before .before .before .pair4 in
+    let codes = c .before .before .before .before .before .codes in
+    tree-stored _ _ _ _ _ (pre .1 .0) (tree-at .ensures) (faces-in .ensures .0 ∙ ap facesIn (dimension-of .ensures)) (store64 .ensures) (pair .ensures) (pair2 .ensures) (pair3 .ensures) (pair4 .ensures) (codes .ensures)
 
 pub tree-spec : {M : Type 1} → statement M
 tree-spec =

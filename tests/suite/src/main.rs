@@ -43,6 +43,7 @@ groups! {
     blocks
     pattern
     mesh
+    brick
     second
     part
     message

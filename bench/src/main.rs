@@ -19,6 +19,7 @@ macro_rules! groups {
 }
 
 groups! {
+    bricks
     part
     message
     area

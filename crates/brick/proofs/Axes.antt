@@ -9,31 +9,31 @@ use lib.Arith.{digits-lt, digits-div, digits-mod}
 use lib.Dec.{eqb, lit≤}
 use borrow.Author.Tests.{eq-eqb, ne-eqb, eqb-true, eqb-false}
 use Rattle.encoding.proofs.Below.{tests, either}
-use Rattle.brick.specs.Brick.{placeOf, treeAt, axisOf, isHigh, opposite, across}
-use Rattle.brick.specs.Brick.Across.{boundary, tree}
+use Rattle.brick.specs.Brick.{placeOf, treeAt, axisOf, isHigh, opposite, stepAcross}
+use Rattle.brick.specs.Brick.Step.{boundary, tree}
 
 -- ---- one axis
 
 -- from the tree across a face, the opposite face leads back
-pub across-back : (high : Bool) (e : ℕ) (periodic : Bool) (x v : ℕ) → x < e → across high e periodic x ≡ tree v → (v < e) × (across (not high) e periodic v ≡ tree x)
-unfolding across
-across-back true e true x v h p =
+pub step-back : (high : Bool) (e : ℕ) (periodic : Bool) (x v : ℕ) → x < e → stepAcross high e periodic x ≡ tree v → (v < e) × (stepAcross (not high) e periodic v ≡ tree x)
+unfolding stepAcross
+step-back true e true x v h p =
     either (eqb (x + 1) e)
     (λ t. let t' : tree 0 ≡ tree v = rw t at p in let q : v ≡ 0 = cc in let s : e - 1 ≡ x = omega tests in rw q (omega arith, ap tree s))
     (λ t. let n : x + 1 ≡ e → ⊥ = eqb-false (x + 1) e t in let t' : tree (x + 1) ≡ tree v = rw t at p in let q : v ≡ x + 1 = cc in
     let s : x + 1 - 1 ≡ x = omega arith in rw (q, ne-eqb (x + 1) 0 (λ z. omega arith)) (omega arith, ap tree s))
-across-back true e false x v h p =
+step-back true e false x v h p =
     either (eqb (x + 1) e)
     (λ t. let t' : boundary ≡ tree v = rw t at p in let z : _≡_ {A = ℕ} 0 1 = cc in absurd (omega arith))
     (λ t. let n : x + 1 ≡ e → ⊥ = eqb-false (x + 1) e t in let t' : tree (x + 1) ≡ tree v = rw t at p in let q : v ≡ x + 1 = cc in
     let s : x + 1 - 1 ≡ x = omega arith in rw (q, ne-eqb (x + 1) 0 (λ z. omega arith)) (omega arith, ap tree s))
-across-back false e true x v h p =
+step-back false e true x v h p =
     either (eqb x 0)
     (λ t. let z : x ≡ 0 = eqb-true x 0 t in let t' : tree (e - 1) ≡ tree v = rw t at p in let q : v ≡ e - 1 = cc in
     let s : e - 1 + 1 ≡ e = omega arith in rw (q, s, eq-eqb e e refl, z) (omega arith, refl))
     (λ t. let n : x ≡ 0 → ⊥ = eqb-false x 0 t in let t' : tree (x - 1) ≡ tree v = rw t at p in let q : v ≡ x - 1 = cc in
     let s : x - 1 + 1 ≡ x = omega arith in rw (q, s, ne-eqb x e (λ z. omega arith)) (omega arith, refl))
-across-back false e false x v h p =
+step-back false e false x v h p =
     either (eqb x 0)
     (λ t. let t' : boundary ≡ tree v = rw t at p in let z : _≡_ {A = ℕ} 0 1 = cc in absurd (omega arith))
     (λ t. let n : x ≡ 0 → ⊥ = eqb-false x 0 t in let t' : tree (x - 1) ≡ tree v = rw t at p in let q : v ≡ x - 1 = cc in

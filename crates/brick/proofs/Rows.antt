@@ -12,16 +12,16 @@ use borrow.Author.Tests.{eqb-true, eqb-false, lt-ltb}
 use Rattle.encoding.proofs.Below.{either}
 use Rattle.records.specs.Shape.{faceCount}
 use Rattle.mesh_build.specs.Build.{faceRow, treeRows}
-use Rattle.brick.specs.Brick.{hexahedron, placeOf, treeAt, axisOf, isHigh, opposite, Across, across, linkAcross, brickLink}
-use Rattle.brick.specs.Brick.Across.{boundary, tree}
+use Rattle.brick.specs.Brick.{hexahedron, placeOf, treeAt, axisOf, isHigh, opposite, Step, stepAcross, linkByStep, brickLink}
+use Rattle.brick.specs.Brick.Step.{boundary, tree}
 use Rattle.brick.specs.Means.{Stands, OnAxis, lowRow, highRow}
 use Rattle.brick.proofs.Axes.{place-tree, place-inside}
 use Rattle.brick.proofs.Sound.{Within}
 
 -- the row of what stands across
-unfoldable acrossRow : (ℕ → ℕ) → ℕ → ℕ → ℕ → Across → List ℕ
-acrossRow n k f g boundary = k ∷ f ∷ 0 ∷ []
-acrossRow n k f g (tree v) = n v ∷ g ∷ 0 ∷ []
+unfoldable stepRow : (ℕ → ℕ) → ℕ → ℕ → ℕ → Step → List ℕ
+stepRow n k f g boundary = k ∷ f ∷ 0 ∷ []
+stepRow n k f g (tree v) = n v ∷ g ∷ 0 ∷ []
 
 -- n v is the tree with coordinate v on an axis
 module _ (n : ℕ → ℕ) (base s k x e : ℕ) (along : (v : ℕ) → n v ≡ base + s * v) (own : k ≡ base + s * x) (inside : x < e) (periodic : Bool) (f : ℕ) where
@@ -48,15 +48,15 @@ module _ (n : ℕ → ℕ) (base s k x e : ℕ) (along : (v : ℕ) → n v ≡ b
       let o : s * 0 ≡ 0 = mul-zero s in
       rw (along, own, m) (omega arith)
 
-  low-row : acrossRow n k f (f + 1) (across false e periodic x) ≡ lowRow k x e s periodic f
-  unfolding across acrossRow lowRow
+  low-row : stepRow n k f (f + 1) (stepAcross false e periodic x) ≡ lowRow k x e s periodic f
+  unfolding stepAcross stepRow lowRow
   low-row =
       either (eqb x 0)
       (λ t. rw t (either periodic (λ o. rw (o, down-round (eqb-true x 0 t))) (λ o. rw o)))
       (λ t. rw (t, down (eqb-false x 0 t)))
 
-  high-row : acrossRow n k f (f - 1) (across true e periodic x) ≡ highRow k x e s periodic f
-  unfolding across acrossRow highRow
+  high-row : stepRow n k f (f - 1) (stepAcross true e periodic x) ≡ highRow k x e s periodic f
+  unfolding stepAcross stepRow highRow
   high-row =
       either (eqb (x + 1) e)
       (λ t. rw t (either periodic (λ o. rw (o, up-round (eqb-true (x + 1) e t))) (λ o. rw o)))
@@ -75,10 +75,10 @@ along-third a b x y v = rw (mul-add a y (b * v), mul-assoc a b v) (omega arith)
 
 -- ---- of a brick
 
-link-row : (a b k f : ℕ) (s : Across)
-    → (linkAcross a b k f s .neighbour ∷ linkAcross a b k f s .face ∷ linkAcross a b k f s .orientation ∷ [])
-    ≡ acrossRow (λ v. treeAt a b (set (placeOf a b k) (axisOf f) v)) k f (opposite f) s
-unfolding linkAcross acrossRow
+link-row : (a b k f : ℕ) (s : Step)
+    → (linkByStep a b k f s .neighbour ∷ linkByStep a b k f s .face ∷ linkByStep a b k f s .orientation ∷ [])
+    ≡ stepRow (λ v. treeAt a b (set (placeOf a b k) (axisOf f) v)) k f (opposite f) s
+unfolding linkByStep stepRow
 link-row a b k f boundary = refl
 link-row a b k f (tree v) = refl
 
@@ -94,13 +94,13 @@ module _ (a b c : ℕ) (p q r : Bool) (ok : Within a b c) (k x y z : ℕ) (at : 
   -- the row of a face, by what stands across it
   face-row : (f : ℕ) → f < 6
       → faceRow hexahedron (brickLink a b c p q r k) f
-      ≡ acrossRow (λ v. treeAt a b (set (x ∷ y ∷ z ∷ []) (axisOf f) v)) k f (opposite f)
-      (across (isHigh f) (getD (a ∷ b ∷ c ∷ []) (axisOf f) 0) (getD (p ∷ q ∷ r ∷ []) (axisOf f) false) (getD (x ∷ y ∷ z ∷ []) (axisOf f) 0))
+      ≡ stepRow (λ v. treeAt a b (set (x ∷ y ∷ z ∷ []) (axisOf f) v)) k f (opposite f)
+      (stepAcross (isHigh f) (getD (a ∷ b ∷ c ∷ []) (axisOf f) 0) (getD (p ∷ q ∷ r ∷ []) (axisOf f) false) (getD (x ∷ y ∷ z ∷ []) (axisOf f) 0))
   unfolding faceRow faceCount brickLink
   face-row f h =
       rw (lt-ltb f 6 h)
-      (link-row a b k f (across (isHigh f) (getD (a ∷ b ∷ c ∷ []) (axisOf f) 0) (getD (p ∷ q ∷ r ∷ []) (axisOf f) false) (getD (placeOf a b k) (axisOf f) 0))
-      ∙ ap (λ s. acrossRow (λ v. treeAt a b (set s (axisOf f) v)) k f (opposite f) (across (isHigh f) (getD (a ∷ b ∷ c ∷ []) (axisOf f) 0) (getD (p ∷ q ∷ r ∷ []) (axisOf f) false) (getD s (axisOf f) 0))) place-at)
+      (link-row a b k f (stepAcross (isHigh f) (getD (a ∷ b ∷ c ∷ []) (axisOf f) 0) (getD (p ∷ q ∷ r ∷ []) (axisOf f) false) (getD (placeOf a b k) (axisOf f) 0))
+      ∙ ap (λ s. stepRow (λ v. treeAt a b (set s (axisOf f) v)) k f (opposite f) (stepAcross (isHigh f) (getD (a ∷ b ∷ c ∷ []) (axisOf f) 0) (getD (p ∷ q ∷ r ∷ []) (axisOf f) false) (getD s (axisOf f) 0))) place-at)
 
   row-0 : faceRow hexahedron (brickLink a b c p q r k) 0 ≡ lowRow k x a 1 p 0
   unfolding axisOf isHigh opposite treeAt

@@ -13,11 +13,11 @@ use Rattle.offsets.specs.Limits.{treeCountOk}
 use Rattle.records.specs.Shape.{faceCount, corners, cornersOf}
 use Rattle.mesh_build.specs.Build.{LinksFit}
 use Rattle.mesh_build.proofs.Building.{built-sound, built-length, built-neighbour, built-face, built-orientation}
-use Rattle.brick.specs.Brick.{hexahedron, placeOf, treeAt, axisOf, isHigh, opposite, Across, across, linkAcross, brickLink, brickMesh}
-use Rattle.brick.specs.Brick.Across.{boundary, tree}
+use Rattle.brick.specs.Brick.{hexahedron, placeOf, treeAt, axisOf, isHigh, opposite, Step, stepAcross, linkByStep, brickLink, brickMesh}
+use Rattle.brick.specs.Brick.Step.{boundary, tree}
 use Rattle.brick.specs.Calls.{extentOk, extentsOk}
 use Rattle.brick.specs.Theorems.{BrickSound, BrickLinks}
-use Rattle.brick.proofs.Axes.{across-back, tree-place, place-tree, tree-below, place-inside, opposite-face}
+use Rattle.brick.proofs.Axes.{step-back, tree-place, place-tree, tree-below, place-inside, opposite-face}
 
 -- ---- extents
 
@@ -86,9 +86,9 @@ module _ (a b c : ℕ) (x y z : ℕ) (hx : x < a) (hy : y < b) (hz : z < c) wher
 
 -- ---- links
 
-across-either : {C : Type 0} (s : Across) → (s ≡ boundary → C) → ((v : ℕ) → s ≡ tree v → C) → C
-across-either boundary g h = g refl
-across-either (tree v) g h = h v refl
+step-either : {C : Type 0} (s : Step) → (s ≡ boundary → C) → ((v : ℕ) → s ≡ tree v → C) → C
+step-either boundary g h = g refl
+step-either (tree v) g h = h v refl
 
 hexahedron-corners : (f : ℕ) → f < 6 → corners hexahedron f ≡ 4
 unfolding corners cornersOf faceCount
@@ -96,16 +96,16 @@ hexahedron-corners f h = rw (lt-ltb f 6 h)
 
 module _ (a b c : ℕ) (p q r : Bool) where
   -- what stands across face f of tree k
-  unfoldable acrossFace : ℕ → ℕ → Across
-  acrossFace k f = across (isHigh f) (getD (a ∷ b ∷ c ∷ []) (axisOf f) 0) (getD (p ∷ q ∷ r ∷ []) (axisOf f) false) (getD (placeOf a b k) (axisOf f) 0)
+  unfoldable faceStep : ℕ → ℕ → Step
+  faceStep k f = stepAcross (isHigh f) (getD (a ∷ b ∷ c ∷ []) (axisOf f) 0) (getD (p ∷ q ∷ r ∷ []) (axisOf f) false) (getD (placeOf a b k) (axisOf f) 0)
 
-  link-boundary : (k f : ℕ) → acrossFace k f ≡ boundary → brickLink a b c p q r k f ≡ record { neighbour = k; face = f; orientation = 0 }
-  unfolding brickLink acrossFace linkAcross
+  link-boundary : (k f : ℕ) → faceStep k f ≡ boundary → brickLink a b c p q r k f ≡ record { neighbour = k; face = f; orientation = 0 }
+  unfolding brickLink faceStep linkByStep
   link-boundary k f e = rw e
 
-  link-tree : (k f v : ℕ) → acrossFace k f ≡ tree v
+  link-tree : (k f v : ℕ) → faceStep k f ≡ tree v
       → brickLink a b c p q r k f ≡ record { neighbour = treeAt a b (set (placeOf a b k) (axisOf f) v); face = opposite f; orientation = 0 }
-  unfolding brickLink acrossFace linkAcross
+  unfolding brickLink faceStep linkByStep
   link-tree k f v e = rw e
 
   module _ (ok : Within a b c) (k : ℕ) (tree< : k < a * b * c) (f : ℕ) (six : f < 6) where
@@ -116,28 +116,28 @@ module _ (a b c : ℕ) (p q r : Bool) where
     axis = opposite-face f six .4
 
     -- the coordinate across is within its extent, and the opposite face there leads back
-    back : (v : ℕ) → acrossFace k f ≡ tree v
+    back : (v : ℕ) → faceStep k f ≡ tree v
         → (v < getD (a ∷ b ∷ c ∷ []) (axisOf f) 0)
-        × (across (not (isHigh f)) (getD (a ∷ b ∷ c ∷ []) (axisOf f) 0) (getD (p ∷ q ∷ r ∷ []) (axisOf f) false) v ≡ tree (getD (placeOf a b k) (axisOf f) 0))
-    unfolding acrossFace placeOf
-    back v e = across-back (isHigh f) (getD (a ∷ b ∷ c ∷ []) (axisOf f) 0) _ (getD (placeOf a b k) (axisOf f) 0) v (coordinate-inside a b c (k % a) (k / a % b) (k / a / b) (inside .0) (inside .1) (inside .2) (axisOf f) axis) e
+        × (stepAcross (not (isHigh f)) (getD (a ∷ b ∷ c ∷ []) (axisOf f) 0) (getD (p ∷ q ∷ r ∷ []) (axisOf f) false) v ≡ tree (getD (placeOf a b k) (axisOf f) 0))
+    unfolding faceStep placeOf
+    back v e = step-back (isHigh f) (getD (a ∷ b ∷ c ∷ []) (axisOf f) 0) _ (getD (placeOf a b k) (axisOf f) 0) v (coordinate-inside a b c (k % a) (k / a % b) (k / a / b) (inside .0) (inside .1) (inside .2) (axisOf f) axis) e
 
     brick-below : brickLink a b c p q r k f .neighbour < a * b * c
     unfolding placeOf
     brick-below =
-        across-either (acrossFace k f) (λ e. rw (link-boundary k f e) tree<)
+        step-either (faceStep k f) (λ e. rw (link-boundary k f e) tree<)
         (λ v e. rw (link-tree k f v e) (moved-below a b c (k % a) (k / a % b) (k / a / b) (inside .0) (inside .1) (inside .2) (axisOf f) v axis (back v e .0)))
 
     brick-face : brickLink a b c p q r k f .face < 6
-    brick-face = across-either (acrossFace k f) (λ e. rw (link-boundary k f e) six) (λ v e. rw (link-tree k f v e) (opposite-face f six .3))
+    brick-face = step-either (faceStep k f) (λ e. rw (link-boundary k f e) six) (λ v e. rw (link-tree k f v e) (opposite-face f six .3))
 
     pub brick-orientation : brickLink a b c p q r k f .orientation ≡ 0
-    brick-orientation = across-either (acrossFace k f) (λ e. rw (link-boundary k f e)) (λ v e. rw (link-tree k f v e))
+    brick-orientation = step-either (faceStep k f) (λ e. rw (link-boundary k f e)) (λ v e. rw (link-tree k f v e))
 
     brick-answers : brickLink a b c p q r (brickLink a b c p q r k f .neighbour) (brickLink a b c p q r k f .face) ≡ record { neighbour = k; face = f; orientation = 0 }
-    unfolding placeOf acrossFace
+    unfolding placeOf faceStep
     brick-answers =
-        across-either (acrossFace k f) (λ e. let l = link-boundary k f e in rw l l)
+        step-either (faceStep k f) (λ e. let l = link-boundary k f e in rw l l)
         (λ v e.
         let i : ℕ = axisOf f in
         let g : ℕ = opposite f in
@@ -145,7 +145,7 @@ module _ (a b c : ℕ) (p q r : Bool) where
         let o = opposite-face f six in
         let place : placeOf a b n ≡ set (placeOf a b k) i v = moved-place a b c (k % a) (k / a % b) (k / a / b) (inside .0) (inside .1) (inside .2) i v axis (back v e .0) in
         let at : getD (placeOf a b n) i 0 ≡ v = ap (λ s. getD s i 0) place ∙ moved-at a b c (k % a) (k / a % b) (k / a / b) (inside .0) (inside .1) (inside .2) i v axis in
-        let s : acrossFace n g ≡ tree (getD (placeOf a b k) i 0) = rw (o .0, o .1, at) (back v e .1) in
+        let s : faceStep n g ≡ tree (getD (placeOf a b k) i 0) = rw (o .0, o .1, at) (back v e .1) in
         let own : set (placeOf a b n) i (getD (placeOf a b k) i 0) ≡ placeOf a b k = rw place (moved-back a b c (k % a) (k / a % b) (k / a / b) (inside .0) (inside .1) (inside .2) i v axis) in
         let l : brickLink a b c p q r n g ≡ record { neighbour = k; face = f; orientation = 0 } =
         link-tree n g (getD (placeOf a b k) i 0) s ∙ rw (o .0, o .2, own, tree-place a b k) in

@@ -29,24 +29,26 @@ unfoldable pub opposite : ℕ → ℕ
 opposite f = cond (isHigh f) (f - 1) (f + 1)
 
 -- what stands across a face: the boundary, or the tree with that coordinate on the face's axis
-pub data Across : Type 0 where
-  boundary : Across
-  tree : ℕ → Across
+pub data Step : Type 0 where
+  boundary : Step
+  tree : ℕ → Step
 
 -- across the low or high face at coordinate x of an axis: the next tree; at an end, the boundary or, on a periodic axis, the tree at the other end
-unfoldable pub across : Bool → ℕ → Bool → ℕ → Across
-across high extent periodic x =
+unfoldable pub stepAcross : Bool → ℕ → Bool → ℕ → Step
+stepAcross high extent periodic x =
     cond (cond high (eqb (x + 1) extent) (eqb x 0)) (cond periodic (tree (cond high 0 (extent - 1))) boundary) (tree (cond high (x + 1) (x - 1)))
 
 -- the link of face f of tree k: the tree's own face at the boundary, else the opposite face; orientation 0 throughout
-unfoldable pub linkAcross : ℕ → ℕ → ℕ → ℕ → Across → Link
-linkAcross a b k f boundary = record { neighbour = k; face = f; orientation = 0 }
-linkAcross a b k f (tree y) = record { neighbour = treeAt a b (set (placeOf a b k) (axisOf f) y); face = opposite f; orientation = 0 }
+unfoldable pub linkByStep : ℕ → ℕ → ℕ → ℕ → Step → Link
+linkByStep a b k f boundary = record { neighbour = k; face = f; orientation = 0 }
+linkByStep a b k f (tree y) = record { neighbour = treeAt a b (set (placeOf a b k) (axisOf f) y); face = opposite f; orientation = 0 }
 
+-- the extents, and whether each axis is periodic
 module _ (a b c : ℕ) (p q r : Bool) where
+  -- face f of tree k
   unfoldable pub brickLink : ℕ → ℕ → Link
   brickLink k f =
-      linkAcross a b k f (across (isHigh f) (getD (a ∷ b ∷ c ∷ []) (axisOf f) 0) (getD (p ∷ q ∷ r ∷ []) (axisOf f) false) (getD (placeOf a b k) (axisOf f) 0))
+      linkByStep a b k f (stepAcross (isHigh f) (getD (a ∷ b ∷ c ∷ []) (axisOf f) 0) (getD (p ∷ q ∷ r ∷ []) (axisOf f) false) (getD (placeOf a b k) (axisOf f) 0))
 
   -- the whole mesh
   unfoldable pub brickMesh : List ℕ

@@ -4,7 +4,7 @@ use crate::cases;
 use crate::library::Length;
 use crate::mesh_cases;
 use crate::mesh_model::Record;
-use crate::model::Answer;
+use crate::model::{bytes_of, Answer};
 use crate::random::Random;
 use crate::refusals::expect_seen;
 use crate::{Run, Test};
@@ -220,7 +220,7 @@ fn parts(run: &mut Run) {
         let mesh = sound_brick(calls, extents, some_flags(random));
         let trees = extents.iter().product();
         let ranks = random.number(1, 6);
-        let table = cases::valid_table(random, ranks, trees);
+        let table = bytes_of(&cases::table(random, ranks as usize, trees));
         let rank = random.number(0, ranks - 1);
         let length = calls.part_length(&mesh, &table, rank).length as usize;
         let (got, part) = calls.cut_part(&mesh, &table, rank, &vec![0; length]);

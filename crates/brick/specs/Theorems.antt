@@ -3,14 +3,21 @@ use Prim.Native.Nat.{ℕ, _*_, _<_}
 use mathlib.Core.Path.{_≡_}
 use mathlib.Core.Bool.{Bool, true}
 use mathlib.Core.List.{List}
+use lib.ListN.{take}
 use Rattle.records.specs.Record.{neighbourOf, faceOf, orientationOf}
-use Rattle.mesh.specs.Mesh.{meshCore, meshSound}
+use Rattle.mesh.specs.Mesh.{meshCore, meshSound, meshRefusal}
 use Rattle.brick.specs.Brick.{brickLink, brickMesh}
 use Rattle.brick.specs.Calls.{extentsOk, brickLengthOf, writeBrickOf}
 
 -- the mesh of a brick is sound, for all extents and whichever axes are periodic
 abbrev pub BrickSound : Type 0
 BrickSound = (a b c : ℕ) (p q r : Bool) → extentsOk a b c ≡ true → meshSound (brickMesh a b c p q r) ≡ true
+
+-- so what an accepted call writes passes the check of a whole mesh
+abbrev pub WritesSound : Type 0
+WritesSound =
+    (a b c p q r : ℕ) (out : List ℕ) → writeBrickOf a b c p q r out .0 .refusal ≡ 0
+    → meshRefusal (take (writeBrickOf a b c p q r out .0 .length) (writeBrickOf a b c p q r out .1)) ≡ 0
 
 -- the record of tree k says of each face what stands across it
 abbrev pub BrickLinks : Type 0

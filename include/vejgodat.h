@@ -231,6 +231,8 @@
  * Each call checks its input itself and returns a refusal: 0, or the number of
  * the first check that fails. The checks come in the order 2, 30, 3 to 8, 24,
  * 23, 25, 31, 32, 9 to 22, and each is made of all arguments before the next one is
+ * the first check that fails. The checks come in the order 26, 2, 30, 3 to 8,
+ * 24, 23, 25, 9 to 22, and each is made of all arguments before the next one is
  * made of any: of two tables, a bad length (2) decides before bad entries (3),
  * whichever of the two has them. The numbers of this header's calls are those
  * of \ref VEJGODAT_OK and the names that follow it, and
@@ -293,6 +295,9 @@ extern "C" {
 
 /** The largest weight of a rank. */
 #define VEJGODAT_MAX_WEIGHT 65535
+
+/** The largest extent of a brick. */
+#define VEJGODAT_MAX_EXTENT 64
 
 /** The neighbour at a face that the shape doesn't have. */
 #define VEJGODAT_UNUSED 4294967295u
@@ -365,6 +370,10 @@ enum
   VEJGODAT_SHAPE = 24,          /**< A shape has no refinement strings. */
   VEJGODAT_LEAVES = 25,         /**< A tree has too many leaves. */
   VEJGODAT_WEIGHTS = 30,        /**< All weights are 0, or one is above
+  VEJGODAT_EXTENT = 26,         /**< An extent of a brick is 0 or above
+                                     \ref VEJGODAT_MAX_EXTENT. Checked before
+                                     anything else. */
+  VEJGODAT_WEIGHTS = 30         /**< All weights are 0, or one is above
                                      \ref VEJGODAT_MAX_WEIGHT. Checked after
                                      \ref VEJGODAT_RANKS (2) and before
                                      \ref VEJGODAT_PARTITION (6). */
@@ -443,6 +452,8 @@ vejgodat_refusal_text (uint32_t refusal)
       " strings";
   case VEJGODAT_LEAVES:
     return "a tree has over 16,777,216 leaves";
+  case VEJGODAT_EXTENT:
+    return "an extent is outside its limits (1 to 64)";
   case VEJGODAT_WEIGHTS:
     return "all weights are 0, or one is above 65,535";
   case VEJGODAT_PROBE:
@@ -815,6 +826,56 @@ uint32_t            vejgodat_corners (uint32_t shape, uint32_t face)
  */
 uint32_t            vejgodat_check_mesh (const uint8_t * mesh,
                                          size_t mesh_len)
+  VEJGODAT_USE_RESULT;
+
+/** Compute the length of the mesh of a brick, see \ref vejgodat_write_brick.
+ *
+ * Checks: \ref VEJGODAT_EXTENT (26) if an extent isn't from 1 to
+ * \ref VEJGODAT_MAX_EXTENT.
+ * Cost: constant.
+ *
+ * \param [in] a          The number of trees on the first axis; any number.
+ * \param [in] b          On the second axis.
+ * \param [in] c          On the third axis.
+ * \return                8 + 64 a b c, which \ref vejgodat_write_brick needs as
+ *                        buffer.
+ */
+vejgodat_length     vejgodat_brick_length (uint32_t a, uint32_t b, uint32_t c)
+  VEJGODAT_USE_RESULT;
+
+/** Write the whole mesh of a brick of a by b by c hexahedra.
+ *
+ * Tree numbers run along the first axis fastest: the tree at x, y, z has the
+ * number x + a (y + b z). Faces 0 and 1 are low and high on the first axis, 2
+ * and 3 on the second, 4 and 5 on the third. Across a face stands the next tree
+ * on its axis, with its opposite face; at an end, the boundary or, on a periodic
+ * axis, the tree at the other end. So on a periodic axis of extent 1 a tree is
+ * its own neighbour across two faces, and on one of extent 2 two trees meet
+ * twice. Orientations and regions are 0, and tree data is zero. The mesh is
+ * sound.
+ *
+ * Checks, in this order: \ref VEJGODAT_EXTENT (26) as
+ * \ref vejgodat_brick_length, before anything else; \ref VEJGODAT_BUFFER (22)
+ * if \a out_len is below 8 + 64 a b c.
+ * Cost: O(a b c), one pass over the bytes that are written.
+ *
+ * \param [in] a          The number of trees on the first axis; any number.
+ * \param [in] b          On the second axis.
+ * \param [in] c          On the third axis.
+ * \param [in] periodic_a Whether the first axis is periodic: 0 is no, any other
+ *                        number yes.
+ * \param [in] periodic_b Whether the second axis is.
+ * \param [in] periodic_c Whether the third axis is.
+ * \param [out] out       Its first bytes become the mesh; the bytes behind them
+ *                        stay. When refused, all of them stay.
+ * \param [in] out_len    The number of bytes of \a out.
+ * \return                The bytes written, 8 + 64 a b c.
+ */
+vejgodat_length     vejgodat_write_brick (uint32_t a, uint32_t b, uint32_t c,
+                                          uint32_t periodic_a,
+                                          uint32_t periodic_b,
+                                          uint32_t periodic_c,
+                                          uint8_t * out, size_t out_len)
   VEJGODAT_USE_RESULT;
 
 /** @} */

@@ -21,6 +21,7 @@ macro_rules! groups {
 mod checking;
 
 groups! {
+    bricks
     part
     probes
     message

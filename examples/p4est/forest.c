@@ -4,6 +4,8 @@
  *  - leaves_of, and vejgodat_table_from_leaves: a forest's leaf counts become a table;
  *  - table_of: a forest's own partition becomes a table.
  *
+ * In dimension 3, p4est's bricks with their trees renumbered by position are those of vejgodat_write_brick.
+ *
  * The program refines forests over several of p4est's connectivities, lets p4est share them out equally, compares the
  * tables, and moves each rank's part of the coarse mesh along: mpirun -n 4 ./forest2d */
 #ifdef FOREST_3D
@@ -239,6 +241,83 @@ run (const char *name, p4est_connectivity_t * conn, uint32_t steps)
   return wrong;
 }
 
+#ifdef FOREST_3D
+/* p4est's brick, its trees renumbered by position, the first axis fastest, beside the one that vejgodat_write_brick
+ * writes: whether their bytes differ. */
+static int
+brick_differs (const int extents[3], const int periodic[3])
+{
+  p4est_connectivity_t *conn =
+    p8est_connectivity_new_brick (extents[0], extents[1], extents[2],
+                                  periodic[0], periodic[1], periodic[2]);
+  const uint32_t      trees = (uint32_t) conn->num_trees;
+  const size_t        mesh_len = VEJGODAT_MESH_BYTES (trees);
+  uint8_t            *mesh = malloc (mesh_len), *theirs = malloc (mesh_len);
+  uint8_t            *ours = malloc (mesh_len), *record;
+  uint32_t           *number = malloc (trees * sizeof *number), k, face;
+  const double       *corner;
+  int                 differs;
+
+  /* the low corner of a tree has its coordinates */
+  for (k = 0; k < trees; ++k) {
+    corner = conn->vertices + 3 * conn->tree_to_vertex[P4EST_CHILDREN * k];
+    number[k] = (uint32_t) (corner[0] + extents[0] *
+                            (corner[1] + extents[1] * corner[2]));
+  }
+  mesh_of (conn, mesh);
+  memset (theirs, 255, mesh_len);
+  memcpy (theirs, mesh, 8);
+  for (k = 0; k < trees; ++k) {
+    record = theirs + VEJGODAT_MESH_BYTES (number[k]);
+    memcpy (record, mesh + VEJGODAT_MESH_BYTES (k), 64);
+    put_number (record, number[k]);
+    for (face = 0; face < P4EST_FACES; ++face) {
+      put_number (record + 8 + 4 * face,
+                  number[conn->tree_to_tree[P4EST_FACES * k + face]]);
+    }
+  }
+  must (vejgodat_write_brick ((uint32_t) extents[0], (uint32_t) extents[1],
+                              (uint32_t) extents[2], (uint32_t) periodic[0],
+                              (uint32_t) periodic[1], (uint32_t) periodic[2],
+                              ours, mesh_len).refusal,
+        "vejgodat_write_brick");
+  differs = memcmp (theirs, ours, mesh_len) != 0;
+  p4est_connectivity_destroy (conn);
+  free (number);
+  free (ours);
+  free (theirs);
+  free (mesh);
+  return differs;
+}
+
+/* Bricks of all extents up to 4 and some longer ones, each axis periodic or not. Gives how many differ. */
+static int
+bricks (void)
+{
+  static const int    longer[4][3] =
+    { {7, 5, 3}, {1, 9, 1}, {64, 1, 2}, {6, 16, 5} };
+  int                 i, count = 0, wrong = 0, extents[3], periodic[3], rank;
+
+  for (i = 0; i < 8 * (64 + 4); ++i) {
+    const int           brick = i / 8;
+
+    extents[0] = brick < 64 ? 1 + brick % 4 : longer[brick - 64][0];
+    extents[1] = brick < 64 ? 1 + brick / 4 % 4 : longer[brick - 64][1];
+    extents[2] = brick < 64 ? 1 + brick / 16 : longer[brick - 64][2];
+    periodic[0] = i % 2;
+    periodic[1] = i / 2 % 2;
+    periodic[2] = i / 4 % 2;
+    wrong += brick_differs (extents, periodic);
+    ++count;
+  }
+  MPI_Comm_rank (MPI_COMM_WORLD, &rank);
+  if (rank == 0) {
+    printf ("bricks: %d beside ours, %d differences\n", count, wrong);
+  }
+  return wrong;
+}
+#endif
+
 int
 main (int argc, char **argv)
 {
@@ -261,6 +340,7 @@ main (int argc, char **argv)
   }
 #ifdef FOREST_3D
   wrong += run ("brick", p8est_connectivity_new_brick (3, 4, 5, 0, 1, 0), 4);
+  wrong += bricks ();
 #else
   wrong += run ("brick", p4est_connectivity_new_brick (9, 7, 1, 0), 5);
 #endif

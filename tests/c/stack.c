@@ -13,6 +13,7 @@
 #define PAINT 0x5a
 
 static uint8_t      mesh[VEJGODAT_MESH_BYTES (TREES)];
+static uint8_t      brick[VEJGODAT_MESH_BYTES (8 * 8 * 8)];
 static uint8_t      part[VEJGODAT_PART_BYTES (TREES, 0)], joined[sizeof part];
 static uint8_t      message[sizeof part], table[24], other[24];
 static uint8_t      area[VEJGODAT_AREA_BYTES (2, TREES, 4)];
@@ -98,6 +99,9 @@ TAKE_LENGTH (trees_sent, vejgodat_trees_sent (OLD, NEW, 0, 1))
 TAKE_LENGTH (send_set, vejgodat_send_set (OLD, NEW, 0, list, 2))
 TAKE_LENGTH (receive_set, vejgodat_receive_set (OLD, NEW, 0, list, 2))
 TAKE (check_mesh, vejgodat_check_mesh (mesh, sizeof mesh))
+TAKE_LENGTH (brick_length, vejgodat_brick_length (8, 8, 8))
+TAKE_LENGTH (write_brick,
+             vejgodat_write_brick (8, 8, 8, 0, 1, 0, brick, sizeof brick))
 TAKE_LENGTH (part_length, vejgodat_part_length (mesh, sizeof mesh, OLD, 0))
 TAKE_LENGTH (cut_part,
              vejgodat_cut_part (mesh, sizeof mesh, OLD, 0, part, sizeof part))
@@ -204,7 +208,8 @@ main (void)
     CALL (table_range), CALL (write_table), CALL (table_from_leaves),
     CALL (sender_of),
     CALL (trees_sent), CALL (send_set), CALL (receive_set),
-    CALL (check_mesh), CALL (part_length), CALL (cut_part),
+    CALL (check_mesh), CALL (brick_length), CALL (write_brick),
+    CALL (part_length), CALL (cut_part),
     CALL (check_part), CALL (neighbour_of), CALL (lookup),
     CALL (message_length), CALL (build_message), CALL (check_message),
     CALL (area_length), CALL (open_area), CALL (deliver),

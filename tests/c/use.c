@@ -334,6 +334,52 @@ check_mesh (void)
   EXPECT (vejgodat_check_mesh (NULL, 0) == VEJGODAT_MESH);
 }
 
+/* Face f of tree k of a mesh of hexahedra meets face g of tree n, with orientation 0. */
+static int
+meets (const uint8_t * mesh, uint32_t k, uint32_t f, uint32_t n, uint32_t g)
+{
+  const uint8_t      *record = mesh + VEJGODAT_MESH_BYTES (k);
+
+  return record[8 + 4 * f] == n && record[32 + f] == g;
+}
+
+/* Three by one by two hexahedra, the second axis periodic. */
+static void
+bricks (void)
+{
+  static const uint8_t zero[26] = { 0 };
+  uint8_t             mesh[VEJGODAT_MESH_BYTES (6) + 1];
+  vejgodat_length     answer;
+  uint32_t            k;
+
+  answer = vejgodat_brick_length (3, 1, 2);
+  EXPECT (answer.refusal == VEJGODAT_OK && answer.length == sizeof mesh - 1);
+  memset (mesh, 7, sizeof mesh);
+  answer = vejgodat_write_brick (3, 1, 2, 0, 9, 0, mesh, sizeof mesh);
+  EXPECT (answer.refusal == VEJGODAT_OK && answer.length == sizeof mesh - 1);
+  EXPECT (mesh[sizeof mesh - 1] == 7);
+  EXPECT (vejgodat_check_mesh (mesh, sizeof mesh - 1) == VEJGODAT_OK);
+  EXPECT (meets (mesh, 0, 0, 0, 0) && meets (mesh, 0, 1, 1, 0));
+  EXPECT (meets (mesh, 2, 0, 1, 1) && meets (mesh, 2, 1, 2, 1));
+  EXPECT (meets (mesh, 4, 4, 1, 5) && meets (mesh, 4, 5, 4, 5));
+  for (k = 0; k < 6; ++k) {
+    /* alone on a periodic axis */
+    EXPECT (meets (mesh, k, 2, k, 3) && meets (mesh, k, 3, k, 2));
+    EXPECT (memcmp (mesh + VEJGODAT_MESH_BYTES (k) + 38, zero, 26) == 0);
+  }
+
+  answer = vejgodat_write_brick (3, 1, 2, 0, 0, 0, mesh, sizeof mesh - 2);
+  EXPECT (answer.refusal == VEJGODAT_BUFFER && answer.length == 0);
+  answer = vejgodat_write_brick (3, 0, 2, 0, 0, 0, mesh, sizeof mesh);
+  EXPECT (answer.refusal == VEJGODAT_EXTENT && answer.length == 0);
+  EXPECT (meets (mesh, 0, 2, 0, 3));
+  /* before the buffer */
+  answer = vejgodat_write_brick (3, 1, VEJGODAT_MAX_EXTENT + 1, 0, 0, 0, NULL, 0);
+  EXPECT (answer.refusal == VEJGODAT_EXTENT && answer.length == 0);
+  answer = vejgodat_brick_length (VEJGODAT_MAX_EXTENT + 1, 1, 1);
+  EXPECT (answer.refusal == VEJGODAT_EXTENT && answer.length == 0);
+}
+
 static int
 is_neighbour (vejgodat_neighbour got, uint32_t kind, uint32_t index,
               uint32_t face)
@@ -950,6 +996,7 @@ main (void)
   empty_set ();
   corners ();
   check_mesh ();
+  bricks ();
   parts ();
   messages ();
   areas ();

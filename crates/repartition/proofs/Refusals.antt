@@ -19,6 +19,7 @@ use Rattle.leaves.specs.Calls.{tableFromLeaves, tableFromWeights, tableFromBloc
 use Rattle.plan_text.specs.Plan.{planAnswer, planOutputAnswer}
 use Rattle.refinement.specs.Calls.{countAnswer, leafCounts}
 use Rattle.regions.specs.Calls.{regionCountsOf}
+use Rattle.brick.specs.Calls.{writeBrickOf}
 use Rattle.pattern.specs.Sets.{sendsTo}
 use Rattle.pattern.specs.Calls.{tableChecks, ranksAnswer, setAnswer, sendSetOf, receiveSetOf}
 use Rattle.part.specs.Part.{partSound}
@@ -68,7 +69,7 @@ refused-deliver area m declined =
     (λ e. rw e)
 
 pub refused-unchanged : RefusedUnchanged
-unfolding writeTable tableFromLeaves tableFromWeights tableFromBlocks planAnswer planOutputAnswer leafCounts regionCountsOf cutPartOf buildMessageOf openAreaOf closeOf sendSetOf receiveSetOf
+unfolding writeTable tableFromLeaves tableFromWeights tableFromBlocks planAnswer planOutputAnswer leafCounts regionCountsOf writeBrickOf cutPartOf buildMessageOf openAreaOf closeOf sendSetOf receiveSetOf
 refused-unchanged =
     record {
       write-table = λ P first count out. refused-writes _ _ out;
@@ -77,6 +78,7 @@ refused-unchanged =
       table-from-blocks = λ P ls sums out. refused-writes _ _ out;
       plan = λ text out. refused-writes _ _ out;
       plan-output = λ text out. refused-writes _ _ out;
+      write-brick = λ a b c p q r out. refused-writes _ _ out;
       cut-part = λ mesh table rank out. refused-writes _ _ out;
       build-message = λ part old new p q epoch out. refused-writes _ _ out;
       open-area = λ old new rank dimension epoch out. refused-writes _ _ out;

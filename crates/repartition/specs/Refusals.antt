@@ -10,6 +10,7 @@ use Rattle.leaves.specs.Calls.{tableFromLeaves, tableFromWeights, tableFromBloc
 use Rattle.plan_text.specs.Plan.{planAnswer, planOutputAnswer}
 use Rattle.refinement.specs.Calls.{leafCounts}
 use Rattle.regions.specs.Calls.{regionCountsOf}
+use Rattle.brick.specs.Calls.{writeBrickOf}
 use Rattle.pattern.specs.declared.Ranks.{Ranks}
 use lib.IntN.{pos}
 use Rattle.pattern.specs.Sets.{sendsTo}
@@ -38,6 +39,7 @@ pub record RefusedUnchanged : Type 0 where
   pub table-from-blocks : (P : ℕ) (ls sums out : List ℕ) → Unchanged (tableFromBlocks P ls sums out) out
   pub plan : (text out : List ℕ) → Unchanged (planAnswer text out) out
   pub plan-output : (text out : List ℕ) → Unchanged (planOutputAnswer text out) out
+  pub write-brick : (a b c p q r : ℕ) (out : List ℕ) → Unchanged (writeBrickOf a b c p q r out) out
   pub cut-part : (mesh table : List ℕ) (rank : ℕ) (out : List ℕ) → Unchanged (cutPartOf mesh table rank out) out
   pub build-message : (part old new : List ℕ) (p q epoch : ℕ) (out : List ℕ) → Unchanged (buildMessageOf part old new p q epoch out) out
   pub open-area : (old new : List ℕ) (rank dimension epoch : ℕ) (out : List ℕ) → Unchanged (openAreaOf old new rank dimension epoch out) out

@@ -5,6 +5,7 @@ ghost use Rattle.offsets_write.specs.Calls.{tableLengthAnswer, writeTable};
 ghost use Rattle.records.specs.Shape.{corners};
 ghost use Rattle.leaves.specs.Calls.{tableFromLeaves, tableFromWeights, tableFromBlocks};
 ghost use Rattle.mesh.specs.Mesh.{meshRefusal};
+ghost use Rattle.brick.specs.Calls.{brickLengthOf, writeBrickOf};
 ghost use Rattle.area_open.specs.Calls.{areaLengthOf, openAreaOf, progressOf};
 ghost use Rattle.area.specs.Close.{closeLengthOf, closeOf};
 ghost use Rattle.area.specs.Deliver.{deliverOf};
@@ -128,6 +129,28 @@ pub extern "C" fn vejgodat_check_mesh(mesh: &[u8]) -> u32
     ensures { λ r. ⌜ r ≡ meshRefusal (now (mesh .entry)) ⌝ }
 {
     mesh::check_mesh(mesh)
+}
+
+#[no_mangle]
+pub extern "C" fn vejgodat_brick_length(a: u32, b: u32, c: u32) -> Length
+    ensures { λ r. ⌜ r ≡ brickLengthOf a b c ⌝ }
+{
+    brick::brick_length(a, b, c)
+}
+
+#[no_mangle]
+pub extern "C" fn vejgodat_write_brick(
+    a: u32,
+    b: u32,
+    c: u32,
+    p: u32,
+    q: u32,
+    r: u32,
+    out: &mut [u8],
+) -> Length
+    ensures { λ l. ⌜ (l, now (out .exit)) ≡ writeBrickOf a b c p q r (now (out .entry)) ⌝ }
+{
+    brick::write_brick(a, b, c, p, q, r, out)
 }
 
 #[no_mangle]

@@ -44,6 +44,7 @@ groups! {
     blocks
     pattern
     mesh
+    brick
     second
     part
     message

@@ -229,11 +229,9 @@
  * ## Refusals
  *
  * Each call checks its input itself and returns a refusal: 0, or the number of
- * the first check that fails. The checks come in the order 2, 30, 3 to 8, 24,
- * 23, 25, 31, 32, 9 to 22, and each is made of all arguments before the next one is
- * the first check that fails. The checks come in the order 26, 2, 30, 3 to 8,
- * 24, 23, 25, 9 to 22, and each is made of all arguments before the next one is
- * made of any: of two tables, a bad length (2) decides before bad entries (3),
+ * the first check that fails. The checks come in the order 26, 27, 28, 29, 2,
+ * 30, 3 to 8, 24, 23, 25, 31, 32, 33, 9 to 22, and each is made of all arguments
+ * before the next one is made of any: of two tables, a bad length (2) decides before bad entries (3),
  * whichever of the two has them. The numbers of this header's calls are those
  * of \ref VEJGODAT_OK and the names that follow it, and
  * \ref vejgodat_refusal_text has words for them. Only \ref vejgodat_lookup,
@@ -369,11 +367,10 @@ enum
                                      early, has bytes left or goes too deep. */
   VEJGODAT_SHAPE = 24,          /**< A shape has no refinement strings. */
   VEJGODAT_LEAVES = 25,         /**< A tree has too many leaves. */
-  VEJGODAT_WEIGHTS = 30,        /**< All weights are 0, or one is above
   VEJGODAT_EXTENT = 26,         /**< An extent of a brick is 0 or above
                                      \ref VEJGODAT_MAX_EXTENT. Checked before
                                      anything else. */
-  VEJGODAT_WEIGHTS = 30         /**< All weights are 0, or one is above
+  VEJGODAT_WEIGHTS = 30,        /**< All weights are 0, or one is above
                                      \ref VEJGODAT_MAX_WEIGHT. Checked after
                                      \ref VEJGODAT_RANKS (2) and before
                                      \ref VEJGODAT_PARTITION (6). */

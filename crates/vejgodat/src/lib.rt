@@ -380,6 +380,9 @@ pub extern "C" fn vejgodat_trees_between(
     ensures { λ r. ⌜ (r, now (out .exit)) ≡ treesNear (now (part .entry)) (now (table .entry)) rank (Probe.Slab axis lower upper) (now (out .entry)) ⌝ }
 {
     probes::trees_near(part, table, rank, Probe::Slab(axis, lower, upper), out)
+}
+
+#[no_mangle]
 pub extern "C" fn vejgodat_table_fault(table: &[u8]) -> Fault
     ensures { λ r. ⌜ r ≡ tableFaultOf (now (table .entry)) ⌝ }
 {

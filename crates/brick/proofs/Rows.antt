@@ -161,14 +161,6 @@ pub stands-first : (a b c : ℕ) → Within a b c → Stands a b 0 0 0 0
 stands-first a b c ok = record { first = ok .first .0; second = ok .second .0; number = sym (rw (mul-zero b, mul-zero a)) }
 
 module _ (a b k x y z : ℕ) (at : Stands a b k x y z) where
-  pub next-first : x + 1 < a → Stands a b (k + 1) (x + 1) y z
-  next-first h = record { first = h; second = at .second; number = omega (arith, at .number) }
-
-  pub next-second : a ≤ x + 1 → y + 1 < b → Stands a b (k + 1) 0 (y + 1) z
-  next-second h g =
-      let n : a * (y + 1 + b * z) ≡ a * (y + b * z) + a = ap (λ t. a * t) (omega arith) ∙ mul-suc a (y + b * z) in
-      record { first = omega (arith, at .first); second = g; number = omega (arith, at .number, at .first) }
-
   -- the third coordinate is at most the number
   pub third-most : z ≤ k
   third-most =
@@ -176,6 +168,7 @@ module _ (a b k x y z : ℕ) (at : Stands a b k x y z) where
       let n : 1 * (y + b * z) ≤ a * (y + b * z) = mul-le-mul-right (y + b * z) (omega (arith, at .first)) in
       omega (arith, at .number)
 
+  -- from the end of a layer to the next one; the other steps are plain sums
   pub next-third : a ≤ x + 1 → b ≤ y + 1 → Stands a b (k + 1) 0 0 (z + 1)
   next-third h g =
       let s : b * (z + 1) ≡ b * z + b = ap (λ t. b * t) (add-one z) ∙ mul-suc b z in

@@ -1,0 +1,2 @@
+// Whole meshes written from a function of links.
+pub mod write;

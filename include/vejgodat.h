@@ -228,8 +228,8 @@
  *
  * Each call checks its input itself and returns a refusal: 0, or the number of
  * the first check that fails. The checks come in the order 2, 30, 3 to 8, 24,
- * 23, 25, 9 to 22, and each is made of all arguments before the next one is
- * made of any: of two tables, a bad length (2) decides before bad entries (3),
+ * 23, 25, 9 to 22, where 27, 28 and 29 come first in the import of element
+ * files, and each is made of all arguments before the next one is made of any: of two tables, a bad length (2) decides before bad entries (3),
  * whichever of the two has them. The numbers of this header's calls are those
  * of \ref VEJGODAT_OK and the names that follow it, and
  * \ref vejgodat_refusal_text has words for them. Only \ref vejgodat_lookup,
@@ -256,8 +256,10 @@
  *    \ref vejgodat_build_message and \ref vejgodat_deliver take a set of
  *    128 KiB there and less than 1 KiB more, every other call less than 1 KiB;
  *    \ref VEJGODAT_STACK_BYTES are enough for any. A thread made with a stack
- *    of 128 KiB is too small. No call can see this: too little stack breaks the
- *    program.
+ *    of 128 KiB is too small. Only \ref vejgodat_triangle_length and
+ *    \ref vejgodat_import_triangle take more, 1.75 MiB whatever the file is;
+ *    \ref VEJGODAT_IMPORT_STACK_BYTES are enough for them. No call can see
+ *    this: too little stack breaks the program.
  */
 #ifndef VEJGODAT_H
 #define VEJGODAT_H
@@ -294,8 +296,13 @@ extern "C" {
 /** The neighbour at a face that the shape doesn't have. */
 #define VEJGODAT_UNUSED 4294967295u
 
-/** Bytes of stack that are enough for any call. */
+/** Bytes of stack that are enough for any call but those that read an element
+ * file. */
 #define VEJGODAT_STACK_BYTES 147456
+
+/** Bytes of stack that are enough for \ref vejgodat_triangle_length and
+ * \ref vejgodat_import_triangle, and so for any call. */
+#define VEJGODAT_IMPORT_STACK_BYTES 1851392
 
 /** The bytes of an offset table of P ranks. */
 #define VEJGODAT_TABLE_BYTES(P) (8 * ((size_t) (P) + 1))
@@ -357,6 +364,12 @@ enum
                                      early, has bytes left or goes too deep. */
   VEJGODAT_SHAPE = 24,          /**< A shape has no refinement strings. */
   VEJGODAT_LEAVES = 25,         /**< A tree has too many leaves. */
+  VEJGODAT_TEXT = 27,           /**< A text hasn't the form of an element file.
+                                     Checked before all others. */
+  VEJGODAT_TWICE = 28,          /**< A triangle has a vertex twice. Checked
+                                     after \ref VEJGODAT_TEXT (27). */
+  VEJGODAT_EDGE = 29,           /**< Three faces have the same two vertices.
+                                     Checked after \ref VEJGODAT_TWICE (28). */
   VEJGODAT_WEIGHTS = 30         /**< All weights are 0, or one is above
                                      \ref VEJGODAT_MAX_WEIGHT. Checked after
                                      \ref VEJGODAT_RANKS (2) and before
@@ -430,6 +443,12 @@ vejgodat_refusal_text (uint32_t refusal)
       " strings";
   case VEJGODAT_LEAVES:
     return "a tree has over 16,777,216 leaves";
+  case VEJGODAT_TEXT:
+    return "the text hasn't the form of an element file";
+  case VEJGODAT_TWICE:
+    return "a triangle has a vertex twice";
+  case VEJGODAT_EDGE:
+    return "three faces have one vertex set";
   case VEJGODAT_WEIGHTS:
     return "all weights are 0, or one is above 65,535";
   default:
@@ -1490,6 +1509,71 @@ vejgodat_length     vejgodat_table_from_blocks (uint32_t ranks,
                                                 size_t sums_len,
                                                 uint8_t * out,
                                                 size_t out_len)
+  VEJGODAT_USE_RESULT;
+
+/** @} */
+
+/** \name Element files of Triangle
+ *
+ * The program Triangle writes its triangles as text, in a file whose name ends
+ * in `.ele`. These calls take that text and make a whole mesh of triangles of
+ * it.
+ *
+ * The first line has three numbers: that of the triangles, from 1 to
+ * \ref VEJGODAT_MAX_TRIANGLES, then 3 and 0. A line for each triangle follows:
+ * its number and three vertex numbers. Triangles number from 0 or from 1,
+ * rising by one. A number has 1 to 8 digits; zeros may stand in front. Spaces
+ * and tabs part numbers and may stand at a line's ends. A comment runs from `#`
+ * to the line's end. Blank lines, and those with only a comment, are skipped
+ * wherever they stand. Every line ends in LF, the last one too, and CR stands in
+ * comments only.
+ *
+ * Tree t of the mesh is the triangle of the t-th line, its face i the one across
+ * from corner i: faces 0, 1 and 2 have corners 1 and 2, 0 and 2, 0 and 1. Two
+ * faces with the same two vertices are neighbours, every other face is the
+ * boundary. The orientation is 0 if the lower-numbered corners of both faces are
+ * the same vertex, else 1. Regions and tree data are zero. The mesh is always
+ * one that \ref vejgodat_check_mesh accepts.
+ * @{
+ */
+
+/** The largest number of triangles of an element file. */
+#define VEJGODAT_MAX_TRIANGLES 65536
+
+/** Say how long the mesh of an element file is.
+ *
+ * Checks, in this order: \ref VEJGODAT_TEXT (27) if the text has another form;
+ * \ref VEJGODAT_TWICE (28) if a triangle has a vertex twice;
+ * \ref VEJGODAT_EDGE (29) if three faces have the same two vertices.
+ * Cost: two passes over the text and a search for each face among those with the
+ * same hash, some 2 on meshes; a file made to give all faces one hash takes a
+ * quarter of a minute. Stack: \ref VEJGODAT_IMPORT_STACK_BYTES.
+ *
+ * \param [in] text       The text; any bytes. Not changed.
+ * \param [in] text_len   The number of bytes.
+ * \return                The length, 8 + 64 n for n triangles.
+ */
+vejgodat_length     vejgodat_triangle_length (const uint8_t * text,
+                                              size_t text_len)
+  VEJGODAT_USE_RESULT;
+
+/** Write the whole mesh of an element file.
+ *
+ * Checks, in this order: those of \ref vejgodat_triangle_length (27, 28, 29);
+ * \ref VEJGODAT_BUFFER (22) if \a out_len is below 8 + 64 n.
+ * Cost: that of \ref vejgodat_triangle_length, another search for each face and
+ * one pass over the mesh. Stack: \ref VEJGODAT_IMPORT_STACK_BYTES.
+ *
+ * \param [in] text       The text; any bytes. Not changed.
+ * \param [in] text_len   The number of bytes.
+ * \param [out] out       Its first 8 + 64 n bytes become the mesh; the bytes
+ *                        behind them stay. When refused, all of them stay.
+ * \param [in] out_len    The number of bytes of \a out.
+ * \return                The bytes written, 8 + 64 n.
+ */
+vejgodat_length     vejgodat_import_triangle (const uint8_t * text,
+                                              size_t text_len,
+                                              uint8_t * out, size_t out_len)
   VEJGODAT_USE_RESULT;
 
 /** @} */

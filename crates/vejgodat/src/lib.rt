@@ -14,6 +14,7 @@ ghost use Rattle.part_check.specs.Calls.{partRefusal};
 ghost use Rattle.part_neighbour.specs.Calls.{neighbourAnswer};
 ghost use Rattle.lookup.specs.Lookup.{foundRecord};
 ghost use Rattle.part_neighbour.specs.Neighbour.{flatAnswer};
+ghost use Rattle.ele_mesh.specs.Calls.{triangleLength, importTriangle};
 ghost use Rattle.refinement.specs.Calls.{countLeaves, leafCounts};
 ghost use Rattle.pattern.specs.Calls.{senderOf, treesSent, sendSetOf, receiveSetOf};
 ghost use Rattle.regions.specs.Calls.{regionCountsOf};
@@ -307,4 +308,18 @@ pub extern "C" fn vejgodat_table_from_blocks(
     ensures { λ r. ⌜ (r, now (out .exit)) ≡ tableFromBlocks ranks (now (leaves .entry)) (now (sums .entry)) (now (out .entry)) ⌝ }
 {
     leaves::table_from_blocks(ranks, leaves, sums, out)
+}
+
+#[no_mangle]
+pub extern "C" fn vejgodat_triangle_length(text: &[u8]) -> Length
+    ensures { λ r. ⌜ r ≡ triangleLength (now (text .entry)) ⌝ }
+{
+    ele_mesh::triangle_length(text)
+}
+
+#[no_mangle]
+pub extern "C" fn vejgodat_import_triangle(text: &[u8], out: &mut [u8]) -> Length
+    ensures { λ r. ⌜ (r, now (out .exit)) ≡ importTriangle (now (text .entry)) (now (out .entry)) ⌝ }
+{
+    ele_mesh::import_triangle(text, out)
 }

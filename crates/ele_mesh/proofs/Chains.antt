@@ -6,53 +6,53 @@ use mathlib.Core.List.{List}
 use native.Mathlib.Nat.{zero-add}
 use native.Mathlib.Numerals.{add-one}
 use native.Mathlib.Omega.{arith}
-use lib.Dec.{leb, eqb}
+use lib.Dec.{leb, ltb, eqb}
 use lib.ListN.{length, getD, set, length-set}
 use lib.Seq.{getD-set-same, getD-set-other}
-use borrow.Author.Tests.{eqb-true, eqb-false, eq-eqb, ne-eqb, le-leb, lt-leb}
+use borrow.Author.Tests.{ltb-true, eqb-true, eqb-false, eq-eqb, ne-eqb, le-leb, lt-leb}
 use Rattle.encoding.specs.Below.{allBelow, anyBelow, countBelow}
-use Rattle.encoding.proofs.Below.{tests, either, clash, and-snd, below-suc, count-le, count-more, all-same, all-more, all-fails, all-to, any-not}
+use Rattle.encoding.proofs.Below.{tests, either, and-fst, and-snd, count-le, count-more, all-same, all-more, all-fails, all-to, any-not}
 use Rattle.ele_text.specs.Text.{maxTriangles}
 use Rattle.ele_mesh.specs.Faces.{cornerOf, vertexTwice, verticesDiffer, sameSet, threeFaces, latestBelow, meets, partner}
-use Rattle.ele_mesh.specs.Means.{hashes, hashOf, latestHashed, Whole, Chained, Unchained, Ready}
+use Rattle.ele_mesh.specs.Means.{hashes, hashOf, latestHashed, Whole, Modulus, Chained, Blank, Room, Ready}
 use Rattle.ele_mesh.proofs.Pairs.{same-hash}
 use Rattle.ele_mesh.proofs.Latest.{latest-most, latest-passes, latest-through, count-through, two-count}
 
 -- ---- making chains
 
 -- f faces are chained so far
-pub record Chaining (vs heads₀ links₀ heads links : List ℕ) (f : ℕ) : Type 0 where
+pub record Chaining (vs : List ℕ) (m : ℕ) (heads₀ links₀ heads links : List ℕ) (f : ℕ) : Type 0 where
   pub within : f ≤ length vs
   pub heads-same : length heads ≡ length heads₀
   pub links-same : length links ≡ length links₀
   pub hashed : hashes ≤ length heads
   pub faces : 3 * maxTriangles ≤ length links
-  pub chains : Chained vs heads links f
+  pub chains : Chained vs m heads links f
 
-pub chaining-none : (vs heads links : List ℕ) → Unchained heads links → Chaining vs heads links heads links 0
+pub chaining-none : (vs : List ℕ) (m : ℕ) (heads links : List ℕ) → Modulus m → hashes ≤ length heads → 3 * maxTriangles ≤ length links → Blank heads hashes → Chaining vs m heads links heads links 0
 unfolding latestHashed latestBelow
-chaining-none vs heads links u =
+chaining-none vs m heads links o a b u =
     record {
       within = omega arith;
       heads-same = refl;
       links-same = refl;
-      hashed = u .hashed;
-      faces = u .faces;
-      chains = record { head = u .blank; link = λ f h. absurd (omega arith) };
+      hashed = a;
+      faces = b;
+      chains = record { head = λ h l. u h (omega (arith, o .most)); link = λ f h. absurd (omega arith) };
     }
 
-module _ (vs : List ℕ) (f h : ℕ) where
-  latest-same : hashOf vs f ≡ h → latestHashed vs (suc f) h ≡ suc f
+module _ (vs : List ℕ) (m f h : ℕ) where
+  latest-same : hashOf vs m f ≡ h → latestHashed vs m (suc f) h ≡ suc f
   unfolding latestHashed latestBelow
-  latest-same e = rw (eq-eqb (hashOf vs f) h e)
+  latest-same e = rw (eq-eqb (hashOf vs m f) h e)
 
-  latest-other : (hashOf vs f ≡ h → ⊥) → latestHashed vs (suc f) h ≡ latestHashed vs f h
+  latest-other : (hashOf vs m f ≡ h → ⊥) → latestHashed vs m (suc f) h ≡ latestHashed vs m f h
   unfolding latestHashed latestBelow
-  latest-other e = rw (ne-eqb (hashOf vs f) h e)
+  latest-other e = rw (ne-eqb (hashOf vs m f) h e)
 
-module _ (vs : List ℕ) {heads₀ links₀ heads links : List ℕ} {f : ℕ} (c : Chaining vs heads₀ links₀ heads links f) (w : Whole vs) (l : f < length vs) {h : ℕ} (e : h ≡ hashOf vs f)
-    (b : h < hashes) where
-  pub chaining-more : Chaining vs heads₀ links₀ (set heads h (f + 1)) (set links f (getD heads h 0)) (f + 1)
+module _ (vs : List ℕ) (m : ℕ) {heads₀ links₀ heads links : List ℕ} {f : ℕ} (c : Chaining vs m heads₀ links₀ heads links f) (w : Whole vs) (o : Modulus m) (l : f < length vs) {h : ℕ} (e : h ≡ hashOf vs m f)
+    (b : h < m) where
+  pub chaining-more : Chaining vs m heads₀ links₀ (set heads h (f + 1)) (set links f (getD heads h 0)) (f + 1)
   chaining-more =
       record {
         within = omega arith;
@@ -63,49 +63,49 @@ module _ (vs : List ℕ) {heads₀ links₀ heads links : List ℕ} {f : ℕ} (c
         chains = record { head = head-more; link = link-more };
       }
     where
-      head-more : (k : ℕ) → k < hashes → getD (set heads h (f + 1)) k 0 ≡ latestHashed vs (f + 1) k
-      head-more k m =
+      head-more : (k : ℕ) → k < m → getD (set heads h (f + 1)) k 0 ≡ latestHashed vs m (f + 1) k
+      head-more k n =
           either (eqb k h)
           (λ p. let q : k ≡ h = eqb-true k h p in
-          rw (q, getD-set-same heads h (f + 1) 0 (omega (arith, c .hashed)), add-one f) (sym (latest-same vs f h (sym e))))
+          rw (q, getD-set-same heads h (f + 1) 0 (omega (arith, c .hashed, o .most)), add-one f) (sym (latest-same vs m f h (sym e))))
           (λ p. let q : (k ≡ h) → ⊥ = eqb-false k h p in
-          rw (getD-set-other heads h k (f + 1) 0 q, add-one f) (c .chains .head k m ∙ sym (latest-other vs f k (λ z. q (sym z ∙ sym e)))))
+          rw (getD-set-other heads h k (f + 1) 0 q, add-one f) (c .chains .head k n ∙ sym (latest-other vs m f k (λ z. q (sym z ∙ sym e)))))
 
-      link-more : (g : ℕ) → g < f + 1 → getD (set links f (getD heads h 0)) g 0 ≡ latestHashed vs g (hashOf vs g)
-      link-more g m =
+      link-more : (g : ℕ) → g < f + 1 → getD (set links f (getD heads h 0)) g 0 ≡ latestHashed vs m g (hashOf vs m g)
+      link-more g n =
           either (eqb g f)
           (λ p. let q : g ≡ f = eqb-true g f p in
           rw (q, getD-set-same links f (getD heads h 0) 0 (omega (arith, c .faces, w .most)), ← e) (c .chains .head h b))
           (λ p. let q : (g ≡ f) → ⊥ = eqb-false g f p in
           rw (getD-set-other links f g (getD heads h 0) 0 q) (c .chains .link g (omega arith)))
 
-pub chaining-done : (vs : List ℕ) {heads₀ links₀ heads links : List ℕ} {f : ℕ} → Chaining vs heads₀ links₀ heads links f → Whole vs → length vs ≤ f → Ready vs heads links
-chaining-done vs {heads₀} {links₀} {heads} {links} {f} c w l =
+pub chaining-done : (vs : List ℕ) (m : ℕ) {heads₀ links₀ heads links : List ℕ} {f : ℕ} → Chaining vs m heads₀ links₀ heads links f → Whole vs → Modulus m → length vs ≤ f → Ready vs m heads links
+chaining-done vs m {heads₀} {links₀} {heads} {links} {f} c w o l =
     let e : f ≡ length vs = omega (arith, c .within) in
-    record { whole = w; hashed = c .hashed; faces = c .faces; chains = rw (← e) (c .chains) }
+    record { whole = w; modulus = o; hashed = c .hashed; faces = c .faces; chains = rw (← e) (c .chains) }
 
 -- ---- walking along a chain
 
-module _ (vs heads links : List ℕ) (r : Ready vs heads links) (f : ℕ) (l : f < length vs) where
+module _ (vs : List ℕ) (m : ℕ) (heads links : List ℕ) (r : Ready vs m heads links) (f : ℕ) (l : f < length vs) where
   -- the place is that of a face with the hash of f, or the end
   abbrev pub Hashed : ℕ → Type 0
-  Hashed at = (c : ℕ) → at ≡ suc c → hashOf vs c ≡ hashOf vs f
+  Hashed at = (c : ℕ) → at ≡ suc c → hashOf vs m c ≡ hashOf vs m f
 
-  latest-hashed : (n : ℕ) {a : ℕ} → a ≡ latestHashed vs n (hashOf vs f) → Hashed a
+  latest-hashed : (n : ℕ) {a : ℕ} → a ≡ latestHashed vs m n (hashOf vs m f) → Hashed a
   unfolding latestHashed
-  latest-hashed n e c q = eqb-true (hashOf vs c) (hashOf vs f) (latest-passes n (λ g. eqb (hashOf vs g) (hashOf vs f)) c (sym e ∙ q))
+  latest-hashed n e c q = eqb-true (hashOf vs m c) (hashOf vs m f) (latest-passes n (λ g. eqb (hashOf vs m g) (hashOf vs m f)) c (sym e ∙ q))
 
-  latest-below : (n : ℕ) {a : ℕ} → a ≡ latestHashed vs n (hashOf vs f) → a ≤ n
+  latest-below : (n : ℕ) {a : ℕ} → a ≡ latestHashed vs m n (hashOf vs m f) → a ≤ n
   unfolding latestHashed
-  latest-below n e = omega (arith, latest-most n (λ g. eqb (hashOf vs g) (hashOf vs f)))
+  latest-below n e = omega (arith, latest-most n (λ g. eqb (hashOf vs m g) (hashOf vs m f)))
 
-  next-hashed : (at : ℕ) {a : ℕ} → 0 < at → at ≤ length vs → Hashed at → a ≡ getD links (at - 1) 0 → a ≡ latestHashed vs (at - 1) (hashOf vs f)
-  next-hashed at p m h e =
+  next-hashed : (at : ℕ) {a : ℕ} → 0 < at → at ≤ length vs → Hashed at → a ≡ getD links (at - 1) 0 → a ≡ latestHashed vs m (at - 1) (hashOf vs m f)
+  next-hashed at p n h e =
       let s : at ≡ suc (at - 1) = omega arith in
-      e ∙ (r .chains .link (at - 1) (omega arith) ∙ ap (latestHashed vs (at - 1)) (h (at - 1) s))
+      e ∙ (r .chains .link (at - 1) (omega arith) ∙ ap (latestHashed vs m (at - 1)) (h (at - 1) s))
 
-  same-hashed : (g : ℕ) → sameSet vs f g ≡ true → eqb (hashOf vs g) (hashOf vs f) ≡ true
-  same-hashed g e = eq-eqb (hashOf vs g) (hashOf vs f) (same-hash vs f g e)
+  same-hashed : (g : ℕ) → sameSet vs f g ≡ true → eqb (hashOf vs m g) (hashOf vs m f) ≡ true
+  same-hashed g e = eq-eqb (hashOf vs m g) (hashOf vs m f) (same-hash vs m f g e)
 
   -- n faces with the vertex set are behind, those below `at` to come
   pub record Counted (n at : ℕ) : Type 0 where
@@ -113,9 +113,9 @@ module _ (vs heads links : List ℕ) (r : Ready vs heads links) (f : ℕ) (l : f
     pub hashed : Hashed at
     pub counted : countBelow f (sameSet vs f) ≡ n + countBelow at (sameSet vs f)
 
-  count-on : (n : ℕ) {a : ℕ} → a ≡ latestHashed vs n (hashOf vs f) → countBelow n (sameSet vs f) ≡ countBelow a (sameSet vs f)
+  count-on : (n : ℕ) {a : ℕ} → a ≡ latestHashed vs m n (hashOf vs m f) → countBelow n (sameSet vs f) ≡ countBelow a (sameSet vs f)
   unfolding latestHashed
-  count-on n e = count-through (sameSet vs f) (λ g. eqb (hashOf vs g) (hashOf vs f)) n same-hashed ∙ ap (λ (k : ℕ). countBelow k (sameSet vs f)) (sym e)
+  count-on n e = count-through (sameSet vs f) (λ g. eqb (hashOf vs m g) (hashOf vs m f)) n same-hashed ∙ ap (λ (k : ℕ). countBelow k (sameSet vs f)) (sym e)
 
   pub counted-start : {a : ℕ} → a ≡ getD links f 0 → Counted 0 a
   counted-start e =
@@ -126,7 +126,7 @@ module _ (vs heads links : List ℕ) (r : Ready vs heads links) (f : ℕ) (l : f
   counted-small c = omega (arith, c .counted, count-le f (sameSet vs f), r .whole .most)
 
   module _ {n at : ℕ} (c : Counted n at) (p : 0 < at) {b : ℕ} (eb : b ≡ cond (sameSet vs f (at - 1)) 1 0) {a : ℕ} (ea : a ≡ getD links (at - 1) 0) where
-    next : a ≡ latestHashed vs (at - 1) (hashOf vs f)
+    next : a ≡ latestHashed vs m (at - 1) (hashOf vs m f)
     next = next-hashed at p (omega (arith, c .below)) (c .hashed) ea
 
     pub counted-less : a < at
@@ -153,18 +153,18 @@ module _ (vs heads links : List ℕ) (r : Ready vs heads links) (f : ℕ) (l : f
     pub hashed : Hashed at
     pub sought : partner vs f ≡ latestBelow at (meets vs f)
 
-  meets-hashed : (g : ℕ) → meets vs f g ≡ true → eqb (hashOf vs g) (hashOf vs f) ≡ true
+  meets-hashed : (g : ℕ) → meets vs f g ≡ true → eqb (hashOf vs m g) (hashOf vs m f) ≡ true
   unfolding meets
   meets-hashed g e = same-hashed g (and-snd (not (eqb g f)) _ e)
 
-  seek-on : (n : ℕ) {a : ℕ} → a ≡ latestHashed vs n (hashOf vs f) → latestBelow n (meets vs f) ≡ latestBelow a (meets vs f)
+  seek-on : (n : ℕ) {a : ℕ} → a ≡ latestHashed vs m n (hashOf vs m f) → latestBelow n (meets vs f) ≡ latestBelow a (meets vs f)
   unfolding latestHashed
-  seek-on n e = latest-through (meets vs f) (λ g. eqb (hashOf vs g) (hashOf vs f)) n meets-hashed ∙ ap (λ (k : ℕ). latestBelow k (meets vs f)) (sym e)
+  seek-on n e = latest-through (meets vs f) (λ g. eqb (hashOf vs m g) (hashOf vs m f)) n meets-hashed ∙ ap (λ (k : ℕ). latestBelow k (meets vs f)) (sym e)
 
-  pub sought-start : {h : ℕ} → h ≡ hashOf vs f → h < hashes → {a : ℕ} → a ≡ getD heads h 0 → Sought a
+  pub sought-start : {h : ℕ} → h ≡ hashOf vs m f → h < m → {a : ℕ} → a ≡ getD heads h 0 → Sought a
   unfolding partner
   sought-start {h} eh b e =
-      let q = e ∙ (r .chains .head h b ∙ ap (latestHashed vs (length vs)) eh) in
+      let q = e ∙ (r .chains .head h b ∙ ap (latestHashed vs m (length vs)) eh) in
       record { below = latest-below (length vs) q; hashed = latest-hashed (length vs) q; sought = seek-on (length vs) q }
 
   module _ {at : ℕ} (c : Sought at) (p : 0 < at) {b : Bool} (eb : b ≡ sameSet vs f (at - 1)) where
@@ -178,7 +178,7 @@ module _ (vs heads links : List ℕ) (r : Ready vs heads links) (f : ℕ) (l : f
         back ∙ sym (c .sought ∙ (ap (λ (i : ℕ). latestBelow i (meets vs f)) back ∙ s))
 
     module _ (t : (not (eqb (at - 1) f) && b) ≡ false) {a : ℕ} (ea : a ≡ getD links (at - 1) 0) where
-      onward : a ≡ latestHashed vs (at - 1) (hashOf vs f)
+      onward : a ≡ latestHashed vs m (at - 1) (hashOf vs m f)
       onward = next-hashed at p (c .below) (c .hashed) ea
 
       pub sought-less : a < at
@@ -249,3 +249,19 @@ module _ (vs : List ℕ) where
 
     pub paired-not : f < length vs → 1 < n → false ≡ allBelow (length vs) paired
     paired-not l h = sym (all-fails (length vs) paired f l (lt-leb (countBelow f (sameSet vs f)) 1 (omega arith)))
+
+-- ---- clearing
+
+pub blank-none : (heads : List ℕ) → Blank heads 0
+blank-none heads h l = absurd (omega arith)
+
+pub blank-more : (heads : List ℕ) (n : ℕ) → n < length heads → Blank heads n → Blank (set heads n 0) (n + 1)
+blank-more heads n l b h k =
+    either (eqb h n)
+    (λ p. let q : h ≡ n = eqb-true h n p in rw (q, getD-set-same heads n 0 0 l))
+    (λ p. let q : (h ≡ n) → ⊥ = eqb-false h n p in rw (getD-set-other heads n h 0 0 q) (b h (omega arith)))
+
+-- ---- trying numbers of hashes
+
+pub trying : (j n : ℕ) → (ltb j 64 && ltb 1572864 n) ≡ true → j < 64
+trying j n e = ltb-true j 64 (and-fst (ltb j 64) _ e)

@@ -185,8 +185,8 @@ module _ (vs : List ℕ) (n : ℕ) (some : 1 ≤ n) (most : n ≤ maxTriangles) 
         boundary = λ k f h l. boundary k f h (rw three-faces at l);
       }
 
-pub drawn-fit : {vs heads links : List ℕ} {n : ℕ} → Drawn vs heads links n → LinksFit 1 (faceLink vs) n
-drawn-fit {vs} {heads} {links} {n} d = links-fit vs n (d .some) (omega (arith, d .ready .whole .most, d .many)) (d .many) (d .pairs)
+pub drawn-fit : {vs : List ℕ} {m : ℕ} {heads links : List ℕ} {n : ℕ} → Drawn vs m heads links n → LinksFit 1 (faceLink vs) n
+drawn-fit {vs} {m} {heads} {links} {n} d = links-fit vs n (d .some) (omega (arith, d .ready .whole .most, d .many)) (d .many) (d .pairs)
 
 pub length-on : {a b c : ℕ} → b ≡ c → a ≡ b → a ≡ c
 length-on p q = q ∙ p

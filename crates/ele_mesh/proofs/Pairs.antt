@@ -3,13 +3,14 @@ use Prim.Native.Nat.{ℕ, _+_, _*_, _/_, _%_, _≤_, _<_}
 use mathlib.Core.Path.{_≡_, refl, sym, ap, _∙_}
 use mathlib.Core.Bool.{Bool, true, false, cond, _&&_, _||_}
 use mathlib.Core.List.{List}
+use native.Mathlib.Nat.{mod-lt}
 use native.Mathlib.Omega.{arith}
 use lib.Dec.{ltb, eqb}
 use lib.ListN.{getD}
 use borrow.Author.Tests.{eqb-true, eq-eqb, ne-eqb, lt-ltb, le-ltb}
 use Rattle.encoding.proofs.Below.{tests, either, and-fst, and-snd, and-intro}
 use Rattle.ele_mesh.specs.Faces.{cornerOf, firstVertex, secondVertex, sameSet, turnOf}
-use Rattle.ele_mesh.specs.Means.{hashes, mixed, hashOf}
+use Rattle.ele_mesh.specs.Means.{mixed, hashOf}
 
 -- ---- the vertices of a face
 
@@ -120,22 +121,22 @@ module _ (vs : List ℕ) where
 
   -- ---- hashes
 
-  hash-ends : (f : ℕ) → hashOf vs f ≡ (4294967296 * lowOf f + highOf f) % hashes
+  hash-ends : (m f : ℕ) → hashOf vs m f ≡ (4294967296 * lowOf f + highOf f) % m
   unfolding hashOf mixed lowOf highOf low high
-  hash-ends f = either (ltb (firstVertex vs f) (secondVertex vs f)) (λ p. rw p) (λ p. rw p)
+  hash-ends m f = either (ltb (firstVertex vs f) (secondVertex vs f)) (λ p. rw p) (λ p. rw p)
 
-  pub same-hash : (f g : ℕ) → sameSet vs f g ≡ true → hashOf vs g ≡ hashOf vs f
-  same-hash f g e =
-      hash-ends g ∙ (ap (λ (n : ℕ). (4294967296 * n + highOf g) % hashes) (sym (same-ends f g e .0)) ∙ (ap (λ (n : ℕ). (4294967296 * lowOf f + n) % hashes) (sym (same-ends f g e .1)) ∙ sym (hash-ends f)))
+  pub same-hash : (m f g : ℕ) → sameSet vs f g ≡ true → hashOf vs m g ≡ hashOf vs m f
+  same-hash m f g e =
+      hash-ends m g ∙ (ap (λ (n : ℕ). (4294967296 * n + highOf g) % m) (sym (same-ends f g e .0)) ∙ (ap (λ (n : ℕ). (4294967296 * lowOf f + n) % m) (sym (same-ends f g e .1)) ∙ sym (hash-ends m f)))
 
-  module _ (f : ℕ) {a b : ℕ} (ea : a ≡ firstVertex vs f) (eb : b ≡ secondVertex vs f) where
-    pub hash-rising : a < b → ((4294967296 * a + b) % hashes ≡ hashOf vs f) × ((4294967296 * a + b) % hashes < hashes)
+  module _ (m f : ℕ) (some : 1 ≤ m) {a b : ℕ} (ea : a ≡ firstVertex vs f) (eb : b ≡ secondVertex vs f) where
+    pub hash-rising : a < b → ((4294967296 * a + b) % m ≡ hashOf vs m f) × ((4294967296 * a + b) % m < m)
     unfolding hashOf mixed
-    hash-rising l = (rw (← ea, ← eb, lt-ltb a b l), omega arith)
+    hash-rising l = (rw (← ea, ← eb, lt-ltb a b l), mod-lt _ some)
 
-    pub hash-falling : b ≤ a → ((4294967296 * b + a) % hashes ≡ hashOf vs f) × ((4294967296 * b + a) % hashes < hashes)
+    pub hash-falling : b ≤ a → ((4294967296 * b + a) % m ≡ hashOf vs m f) × ((4294967296 * b + a) % m < m)
     unfolding hashOf mixed
-    hash-falling l = (rw (← ea, ← eb, le-ltb a b l), omega arith)
+    hash-falling l = (rw (← ea, ← eb, le-ltb a b l), mod-lt _ some)
 
   -- ---- orientation
 

@@ -5,7 +5,7 @@ use mathlib.Core.Bool.{Bool, true, false, cond, not, _&&_, _||_}
 use mathlib.Core.List.{List, [], _∷_}
 use native.Mathlib.Omega.{arith}
 use lib.Dec.{leb, eqb}
-use lib.ListN.{length, take, replicate, getD-replicate, length-replicate}
+use lib.ListN.{length, take}
 use borrow.Author.Tests.{leb-true, eqb-true, eqb-false, eq-eqb, ne-eqb, not-true, not-false, le-leb, lt-leb}
 use Rattle.encoding.specs.Answer.{lengthRefused, lengthAnswer, written, writeAnswer}
 use Rattle.encoding.specs.declared.answer.Length.{Length}
@@ -22,7 +22,7 @@ use Rattle.ele_text.specs.Means.{TextRead}
 use Rattle.ele_mesh.specs.declared.check.Found.{Found}
 use Rattle.ele_mesh.specs.Faces.{verticesDiffer, threeFaces, faceLink}
 use Rattle.ele_mesh.specs.Calls.{triangleMesh, triangleBytes, triangleRefusal, importRefusal, triangleLength, importTriangle}
-use Rattle.ele_mesh.specs.Means.{hashes, Whole, Unchained, Ready, Surveyed, Drawn}
+use Rattle.ele_mesh.specs.Means.{Whole, Ready, Surveyed, Drawn}
 use Rattle.ele_mesh.proofs.Chains.{edges-pairs, paired}
 
 -- ---- how many triangles a text has
@@ -100,12 +100,12 @@ module _ (text : List ℕ) where
 
 -- ---- the survey
 
-refused-survey : (text vs heads links : List ℕ) (n : ℕ) → 1 ≤ n → n ≡ triangleRefusal text → Surveyed text vs heads links (record { refusal = n; count = 0 })
+refused-survey : (text vs heads links : List ℕ) (n : ℕ) → 1 ≤ n → n ≡ triangleRefusal text → Surveyed text vs heads links (record { refusal = n; count = 0; modulus = 0 })
 refused-survey text vs heads links n h e =
     record { refusal = e; count = λ z. absurd (omega arith); within = omega arith; filled = λ z. absurd (omega arith); ready = λ z. absurd (omega arith) }
 
 module _ (text vs : List ℕ) (f : File) (r : TextRead text vs f) where
-  pub survey-form : not (f .ok) ≡ true → {heads links : List ℕ} → Surveyed text vs heads links (record { refusal = 27; count = 0 })
+  pub survey-form : not (f .ok) ≡ true → {heads links : List ℕ} → Surveyed text vs heads links (record { refusal = 27; count = 0; modulus = 0 })
   survey-form e {heads} {links} = refused-survey text vs heads links 27 (omega arith) (refused-form text (sym (r .ok) ∙ not-true (f .ok) e))
 
   module _ (ok : not (f .ok) ≡ false) where
@@ -122,10 +122,10 @@ module _ (text vs : List ℕ) (f : File) (r : TextRead text vs f) where
     pub slice-whole : Whole (take (3 * f .count) vs)
     slice-whole = rw slice (text-whole text form)
 
-    pub survey-twice : {b : Bool} → b ≡ verticesDiffer (take (3 * f .count) vs) → not b ≡ true → {heads links : List ℕ} → Surveyed text vs heads links (record { refusal = 28; count = 0 })
+    pub survey-twice : {b : Bool} → b ≡ verticesDiffer (take (3 * f .count) vs) → not b ≡ true → {heads links : List ℕ} → Surveyed text vs heads links (record { refusal = 28; count = 0; modulus = 0 })
     survey-twice {b} e q {heads} {links} = refused-survey text vs heads links 28 (omega arith) (refused-twice text form (rw (← slice) (sym e ∙ not-true b q)))
 
-    module _ {d : Bool} (ed : d ≡ verticesDiffer (take (3 * f .count) vs)) (pd : not d ≡ false) {heads links : List ℕ} (ready : Ready (take (3 * f .count) vs) heads links) {b : Bool}
+    module _ {d : Bool} (ed : d ≡ verticesDiffer (take (3 * f .count) vs)) (pd : not d ≡ false) {m : ℕ} {heads links : List ℕ} (ready : Ready (take (3 * f .count) vs) m heads links) {b : Bool}
         (e : b ≡ Rattle.encoding.specs.Below.allBelow (length (take (3 * f .count) vs)) (paired (take (3 * f .count) vs))) where
       differ : verticesDiffer (vertices text) ≡ true
       differ = rw (← slice) (sym ed ∙ not-false d pd)
@@ -133,10 +133,10 @@ module _ (text vs : List ℕ) (f : File) (r : TextRead text vs f) where
       pairs : b ≡ not (threeFaces (vertices text))
       pairs = e ∙ (edges-pairs (take (3 * f .count) vs) ∙ ap (λ (l : List ℕ). not (threeFaces l)) slice)
 
-      pub survey-three : not b ≡ true → Surveyed text vs heads links (record { refusal = 29; count = 0 })
+      pub survey-three : not b ≡ true → Surveyed text vs heads links (record { refusal = 29; count = 0; modulus = 0 })
       survey-three q = refused-survey text vs heads links 29 (omega arith) (refused-three text form differ (not-false _ (sym pairs ∙ not-true b q)))
 
-      pub survey-good : not b ≡ false → Surveyed text vs heads links (record { refusal = 0; count = f .count })
+      pub survey-good : not b ≡ false → Surveyed text vs heads links (record { refusal = 0; count = f .count; modulus = m })
       survey-good q =
           record {
             refusal = refused-none text form differ (not-true _ (sym pairs ∙ not-false b q));
@@ -145,16 +145,6 @@ module _ (text vs : List ℕ) (f : File) (r : TextRead text vs f) where
             filled = λ z. slice;
             ready = λ z. rw (← slice) ready;
           }
-
--- ---- the arrays at first
-
-pub blank-heads : {heads links : List ℕ} → heads ≡ replicate hashes 0 → 3 * maxTriangles ≤ length links → Unchained heads links
-blank-heads {heads} {links} e l =
-    record {
-      blank = λ h m. rw e (getD-replicate hashes h 0 0 m);
-      hashed = rw (e, length-replicate {A = ℕ} hashes 0) (omega arith);
-      faces = l;
-    }
 
 -- ---- the calls
 
@@ -175,7 +165,7 @@ module _ (text vs heads links : List ℕ) (r : Found) (s : Surveyed text vs head
     unfolding triangleLength lengthAnswer
     length-given = rw (none, bytes)
 
-    pub ready-drawn : Drawn (take (3 * r .count) vs) heads links (r .count)
+    pub ready-drawn : Drawn (take (3 * r .count) vs) (r .modulus) heads links (r .count)
     ready-drawn =
         let p : Passes text = refusal-none text none in
         let b : (1 ≤ triangles text) × (triangles text ≤ maxTriangles) = triangles-bounds text (p .form) in

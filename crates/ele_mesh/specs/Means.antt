@@ -11,20 +11,25 @@ use Rattle.ele_mesh.specs.declared.check.Found.{Found}
 use Rattle.ele_mesh.specs.Faces.{firstVertex, secondVertex, latestBelow, threeFaces}
 use Rattle.ele_mesh.specs.Calls.{triangleRefusal}
 
--- how many hashes there are
+-- how many hashes there are at most
 abbrev pub hashes : ℕ
 hashes = 65521
 
--- of the two vertices, whichever stands first
-unfoldable pub mixed : ℕ → ℕ → ℕ
-mixed a b = cond (ltb a b) ((4294967296 * a + b) % hashes) ((4294967296 * b + a) % hashes)
+-- a number of hashes
+pub record Modulus (m : ℕ) : Type 0 where
+  pub some : 1 ≤ m
+  pub most : m ≤ hashes
 
-unfoldable pub hashOf : List ℕ → ℕ → ℕ
-hashOf vs f = mixed (firstVertex vs f) (secondVertex vs f)
+-- of the two vertices, whichever stands first, one of m hashes
+unfoldable pub mixed : ℕ → ℕ → ℕ → ℕ
+mixed m a b = cond (ltb a b) ((4294967296 * a + b) % m) ((4294967296 * b + a) % m)
+
+unfoldable pub hashOf : List ℕ → ℕ → ℕ → ℕ
+hashOf vs m f = mixed m (firstVertex vs f) (secondVertex vs f)
 
 -- the latest face below n with hash h, and 1 more; 0 where there is none
-unfoldable pub latestHashed : List ℕ → ℕ → ℕ → ℕ
-latestHashed vs n h = latestBelow n (λ f. eqb (hashOf vs f) h)
+unfoldable pub latestHashed : List ℕ → ℕ → ℕ → ℕ → ℕ
+latestHashed vs m n h = latestBelow n (λ f. eqb (hashOf vs m f) h)
 
 -- vertices of whole triangles
 pub record Whole (vs : List ℕ) : Type 0 where
@@ -32,22 +37,26 @@ pub record Whole (vs : List ℕ) : Type 0 where
   pub most : length vs ≤ 3 * maxTriangles
 
 -- the n first faces are chained: for each hash its latest face, for each face the latest before it with its hash
-pub record Chained (vs heads links : List ℕ) (n : ℕ) : Type 0 where
-  pub head : (h : ℕ) → h < hashes → getD heads h 0 ≡ latestHashed vs n h
-  pub link : (f : ℕ) → f < n → getD links f 0 ≡ latestHashed vs f (hashOf vs f)
+pub record Chained (vs : List ℕ) (m : ℕ) (heads links : List ℕ) (n : ℕ) : Type 0 where
+  pub head : (h : ℕ) → h < m → getD heads h 0 ≡ latestHashed vs m n h
+  pub link : (f : ℕ) → f < n → getD links f 0 ≡ latestHashed vs m f (hashOf vs m f)
 
--- room for chains, none yet
-pub record Unchained (heads links : List ℕ) : Type 0 where
-  pub blank : (h : ℕ) → h < hashes → getD heads h 0 ≡ 0
+-- the first places hold 0
+abbrev pub Blank : List ℕ → ℕ → Type 0
+Blank heads n = (h : ℕ) → h < n → getD heads h 0 ≡ 0
+
+-- room for chains
+pub record Room (heads links : List ℕ) : Type 0 where
   pub hashed : hashes ≤ length heads
   pub faces : 3 * maxTriangles ≤ length links
 
 -- all faces are chained
-pub record Ready (vs heads links : List ℕ) : Type 0 where
+pub record Ready (vs : List ℕ) (m : ℕ) (heads links : List ℕ) : Type 0 where
   pub whole : Whole vs
+  pub modulus : Modulus m
   pub hashed : hashes ≤ length heads
   pub faces : 3 * maxTriangles ≤ length links
-  pub chains : Chained vs heads links (length vs)
+  pub chains : Chained vs m heads links (length vs)
 
 -- a link as a row
 abbrev pub linkRow : Link → List ℕ
@@ -59,11 +68,11 @@ pub record Surveyed (text vs heads links : List ℕ) (r : Found) : Type 0 where
   pub count : r .refusal ≡ 0 → r .count ≡ triangles text
   pub within : r .count ≤ maxTriangles
   pub filled : r .refusal ≡ 0 → take (3 * r .count) vs ≡ vertices text
-  pub ready : r .refusal ≡ 0 → Ready (vertices text) heads links
+  pub ready : r .refusal ≡ 0 → Ready (vertices text) (r .modulus) heads links
 
 -- n triangles whose mesh can be written
-pub record Drawn (vs heads links : List ℕ) (n : ℕ) : Type 0 where
+pub record Drawn (vs : List ℕ) (m : ℕ) (heads links : List ℕ) (n : ℕ) : Type 0 where
   pub some : 1 ≤ n
   pub many : length vs ≡ 3 * n
-  pub ready : Ready vs heads links
+  pub ready : Ready vs m heads links
   pub pairs : threeFaces vs ≡ false

@@ -5,12 +5,13 @@ ghost use Prim.Native.Nat.{_*_, _≤_};
 ghost use lib.ListN.{length};
 ghost use Rattle.ele_text.specs.Text.{maxTriangles};
 ghost use Rattle.ele_mesh.specs.Faces.{verticesDiffer};
-ghost use Rattle.ele_mesh.specs.Means.{Whole, Unchained, Surveyed};
+ghost use Rattle.ele_mesh.specs.Means.{Whole, Room, Surveyed};
 
-// The refusal, or 0 and the number of triangles.
+// The refusal, or 0, the number of triangles, and by how many hashes their faces are chained.
 pub struct Found {
     pub refusal: u32,
     pub count: u32,
+    pub modulus: u64,
 }
 
 fn vertices_differ(vs: &[u32]) -> bool
@@ -33,7 +34,7 @@ fn vertices_differ(vs: &[u32]) -> bool
 
 // Reads the text and chains its faces (27, 28, 29).
 pub fn survey(text: &[u8], vertices: &mut [u32], heads: &mut [u32], links: &mut [u32]) -> Found
-    requires { ⌜ (3 * maxTriangles ≤ length (now vertices)) × Unchained (now heads) (now links) ⌝ }
+    requires { ⌜ (3 * maxTriangles ≤ length (now vertices)) × Room (now heads) (now links) ⌝ }
     ensures { λ r. ⌜ Surveyed (now (text .entry)) (now (vertices .exit)) (now (heads .exit)) (now (links .exit)) r ⌝ }
 {
     let file = ele_text::file::read(text, &mut *vertices);
@@ -41,6 +42,7 @@ pub fn survey(text: &[u8], vertices: &mut [u32], heads: &mut [u32], links: &mut 
         return Found {
             refusal: 27,
             count: 0,
+            modulus: 0,
         };
     }
     let e = 3 * (file.count as usize);
@@ -48,17 +50,21 @@ pub fn survey(text: &[u8], vertices: &mut [u32], heads: &mut [u32], links: &mut 
         return Found {
             refusal: 28,
             count: 0,
+            modulus: 0,
         };
     }
-    chain::chain(&vertices[..e], &mut *heads, &mut *links);
-    if !chain::edges_ok(&vertices[..e], &*heads, &*links) {
+    let m = chain::modulus(&vertices[..e], &mut *heads);
+    chain::chain(&vertices[..e], m, &mut *heads, &mut *links);
+    if !chain::edges_ok(&vertices[..e], m, &*heads, &*links) {
         return Found {
             refusal: 29,
             count: 0,
+            modulus: 0,
         };
     }
     Found {
         refusal: 0,
         count: file.count,
+        modulus: m,
     }
 }

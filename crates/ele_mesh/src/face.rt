@@ -1,9 +1,9 @@
 // Faces of triangles, by their vertices.
 ghost use mathlib.Core.Path.{_≡_};
-ghost use Prim.Native.Nat.{_<_, _^_};
+ghost use Prim.Native.Nat.{_≤_, _<_, _^_};
 ghost use lib.ListN.{length};
 ghost use Rattle.ele_mesh.specs.Faces.{firstVertex, secondVertex, sameSet};
-ghost use Rattle.ele_mesh.specs.Means.{hashes, hashOf, Whole};
+ghost use Rattle.ele_mesh.specs.Means.{hashOf, Whole};
 
 // The vertex at the lower-numbered corner of a face.
 pub fn first_vertex(vs: &[u32], f: usize) -> u32
@@ -40,15 +40,15 @@ fn wide(x: u32) -> u64
     x as u64
 }
 
-// A hash of a face's vertex set.
-pub fn hash_of(vs: &[u32], f: usize) -> usize
-    requires { ⌜ Whole (now vs) × (f < length (now vs)) ⌝ }
-    ensures { λ r. ⌜ (r ≡ hashOf (now (vs .entry)) f) × (r < hashes) ⌝ }
+// A hash of a face's vertex set, below m.
+pub fn hash_of(vs: &[u32], m: u64, f: usize) -> usize
+    requires { ⌜ Whole (now vs) × (f < length (now vs)) × (1 ≤ m) ⌝ }
+    ensures { λ r. ⌜ (r ≡ hashOf (now (vs .entry)) m f) × (r < m) ⌝ }
 {
     let a = wide(first_vertex(vs, f));
     let b = wide(second_vertex(vs, f));
     if a < b {
-        return ((4294967296 * a + b) % 65521) as usize;
+        return ((4294967296 * a + b) % m) as usize;
     }
-    ((4294967296 * b + a) % 65521) as usize
+    ((4294967296 * b + a) % m) as usize
 }

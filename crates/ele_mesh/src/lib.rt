@@ -3,7 +3,7 @@ use check::survey;
 use encoding::answer::Length;
 use encoding::answer::refused;
 ghost use mathlib.Core.Path.{_≡_};
-ghost use lib.ListN.{length, replicate};
+ghost use lib.ListN.{length};
 ghost use Rattle.ele_mesh.specs.Calls.{triangleLength, importTriangle};
 ghost use Rattle.ele_mesh.specs.Means.{hashes};
 
@@ -19,7 +19,7 @@ fn faces() -> [u32; 196608]
 }
 
 fn heads() -> [u32; 65521]
-    ensures { λ r. ⌜ r ≡ replicate hashes 0 ⌝ }
+    ensures { λ r. ⌜ hashes ≡ length r ⌝ }
 {
     [0; 65521]
 }
@@ -57,7 +57,14 @@ pub fn import_triangle(text: &[u8], out: &mut [u8]) -> Length
         return refused(22);
     }
     let e = 3 * (s.count as usize);
-    write::write(&vertices[..e], &heads, &links, s.count, &mut *out);
+    write::write(
+        &vertices[..e],
+        s.modulus,
+        &heads,
+        &links,
+        s.count,
+        &mut *out,
+    );
     Length {
         refusal: 0,
         length: n as u64,

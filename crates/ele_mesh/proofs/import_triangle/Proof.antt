@@ -1,4 +1,4 @@
-use Rattle.ele_mesh.proofs.Surveys.{blank-heads, import-refused, import-short, ready-drawn, import-written}
+use Rattle.ele_mesh.proofs.Surveys.{import-refused, import-short, ready-drawn, import-written}
 use lib.Seq.{length-take-le}
 use mathlib.Core.Path.{sym}
 use native.Mathlib.Omega.{arith}
@@ -39,7 +39,7 @@ slice-aggregate-survey-3 c = search needs
 
 -- src/lib.rt:51:9
 survey-requires : tie.Need-survey-requires
-survey-requires c κs = (omega (arith, c .before .before .before .before .before .faces .ensures), blank-heads (c .before .before .before .before .heads .ensures) (omega (arith, c .before .before .before .faces2 .ensures)))
+survey-requires c κs = (omega (arith, c .before .before .before .before .before .faces .ensures), record { hashed = omega (arith, c .before .before .before .before .heads .ensures); faces = omega (arith, c .before .before .before .faces2 .ensures) })
 
 -- src/lib.rt:53:9
 refused-requires : tie.Need-refused-requires
@@ -85,11 +85,11 @@ array-share-prefix-vertices c = search needs
 slice-aggregate-write : tie.Need-slice-aggregate-write
 slice-aggregate-write c = sym (length-take-le _ _ (omega (arith, c .before .before .before .before .before .before .before .before .before .survey .ensures .within, c .before .before .before .before .before .before .before .before .before .before .before .before .before .before .before .faces .ensures)))
 
--- src/lib.rt:60:34
+-- src/lib.rt:60:45
 slice-aggregate-write-2 : tie.Need-slice-aggregate-write-2
 slice-aggregate-write-2 c = search needs
 
--- src/lib.rt:60:42
+-- src/lib.rt:60:53
 slice-aggregate-write-3 : tie.Need-slice-aggregate-write-3
 slice-aggregate-write-3 c = search needs
 

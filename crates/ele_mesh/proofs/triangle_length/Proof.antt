@@ -1,4 +1,4 @@
-use Rattle.ele_mesh.proofs.Surveys.{blank-heads, length-refused, length-given}
+use Rattle.ele_mesh.proofs.Surveys.{length-refused, length-given}
 use native.Mathlib.Omega.{arith}
 use borrow.Author.Needs.{needs}
 use Rattle.ele_mesh.proofs.triangle_length.Statement.{statement}
@@ -36,7 +36,7 @@ slice-aggregate-survey-3 c = search needs
 
 -- src/lib.rt:34:9
 survey-requires : tie.Need-survey-requires
-survey-requires c κs = (omega (arith, c .before .before .before .before .before .faces .ensures), blank-heads (c .before .before .before .before .heads .ensures) (omega (arith, c .before .before .before .faces2 .ensures)))
+survey-requires c κs = (omega (arith, c .before .before .before .before .before .faces .ensures), record { hashed = omega (arith, c .before .before .before .before .heads .ensures); faces = omega (arith, c .before .before .before .faces2 .ensures) })
 
 -- src/lib.rt:36:9
 refused-requires : tie.Need-refused-requires

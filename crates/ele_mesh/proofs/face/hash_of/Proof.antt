@@ -33,9 +33,13 @@ mul-result c = search needs
 add-result : tie.Need-add-result
 add-result c = search needs
 
+-- src/face.rt:51:17
+rem-result : tie.Need-rem-result
+rem-result c = search needs
+
 -- src/face.rt:51:9
 returns : tie.Need-returns
-returns c = hash-rising _ _ (c .before .before .before .wide .ensures .0 ∙ c .before .before .before .before .first-vertex .ensures) (c .before .wide2 .ensures .0 ∙ c .before .before .second-vertex .ensures) (c .if1 .taken)
+returns c = hash-rising _ _ _ (c .before .before .before .before .before .before .pre .2) (c .before .before .before .wide .ensures .0 ∙ c .before .before .before .before .first-vertex .ensures) (c .before .wide2 .ensures .0 ∙ c .before .before .second-vertex .ensures) (c .if1 .taken)
 
 -- src/face.rt:53:7
 mul-result-2 : tie.Need-mul-result-2
@@ -45,9 +49,13 @@ mul-result-2 c = search needs
 add-result-2 : tie.Need-add-result-2
 add-result-2 c = search needs
 
+-- src/face.rt:53:6
+rem-result-2 : tie.Need-rem-result-2
+rem-result-2 c = search needs
+
 -- src/face.rt:44:1
 returns-2 : tie.Need-returns-2
-returns-2 c = hash-falling _ _ (c .before .before .before .wide .ensures .0 ∙ c .before .before .before .before .first-vertex .ensures) (c .before .wide2 .ensures .0 ∙ c .before .before .second-vertex .ensures) (c .if1 .left)
+returns-2 c = hash-falling _ _ _ (c .before .before .before .before .before .before .pre .2) (c .before .before .before .wide .ensures .0 ∙ c .before .before .before .before .first-vertex .ensures) (c .before .wide2 .ensures .0 ∙ c .before .before .second-vertex .ensures) (c .if1 .left)
 
 pub hash-of-spec : {M : Type 1} → statement M
 hash-of-spec =
@@ -59,7 +67,9 @@ hash-of-spec =
     wide-requires-2
     mul-result
     add-result
+    rem-result
     returns
     mul-result-2
     add-result-2
+    rem-result-2
     returns-2)

@@ -1545,9 +1545,10 @@ vejgodat_length     vejgodat_table_from_blocks (uint32_t ranks,
  * Checks, in this order: \ref VEJGODAT_TEXT (27) if the text has another form;
  * \ref VEJGODAT_TWICE (28) if a triangle has a vertex twice;
  * \ref VEJGODAT_EDGE (29) if three faces have the same two vertices.
- * Cost: two passes over the text and a search for each face among those with the
- * same hash, some 2 on meshes; a file made to give all faces one hash takes a
- * quarter of a minute. Stack: \ref VEJGODAT_IMPORT_STACK_BYTES.
+ * Cost: near that of three passes over the text; the faces are found by a hash
+ * of their vertices. 65,536 triangles take some ten milliseconds, and files made
+ * to give many faces one hash took half a second.
+ * Stack: \ref VEJGODAT_IMPORT_STACK_BYTES, whatever the file is.
  *
  * \param [in] text       The text; any bytes. Not changed.
  * \param [in] text_len   The number of bytes.
@@ -1561,8 +1562,9 @@ vejgodat_length     vejgodat_triangle_length (const uint8_t * text,
  *
  * Checks, in this order: those of \ref vejgodat_triangle_length (27, 28, 29);
  * \ref VEJGODAT_BUFFER (22) if \a out_len is below 8 + 64 n.
- * Cost: that of \ref vejgodat_triangle_length, another search for each face and
- * one pass over the mesh. Stack: \ref VEJGODAT_IMPORT_STACK_BYTES.
+ * Cost: that of \ref vejgodat_triangle_length, once more for the search of
+ * faces, and one pass over the mesh.
+ * Stack: \ref VEJGODAT_IMPORT_STACK_BYTES, whatever the file is.
  *
  * \param [in] text       The text; any bytes. Not changed.
  * \param [in] text_len   The number of bytes.

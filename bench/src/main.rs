@@ -21,6 +21,7 @@ macro_rules! groups {
 groups! {
     part
     message
+    triangles
     area
 }
 

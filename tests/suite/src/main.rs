@@ -12,6 +12,7 @@ mod model;
 mod part_model;
 mod random;
 mod refinement_model;
+mod triangles_model;
 
 use calls::Calls;
 use random::Random;
@@ -49,6 +50,7 @@ groups! {
     area
     refinement
     regions
+    triangles
     refusals
     nearest
 }

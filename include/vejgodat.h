@@ -229,9 +229,19 @@
  * ## Refusals
  *
  * Each call checks its input itself and returns a refusal: 0, or the number of
+@@@@@@@ OURS
  * the first check that fails. The checks come in the order 26, 27, 28, 29, 2,
  * 30, 3 to 8, 24, 23, 25, 31, 32, 33, 9 to 22, and each is made of all arguments
  * before the next one is made of any: of two tables, a bad length (2) decides before bad entries (3),
+@@@@@@@ BASE
+ * the first check that fails. The checks come in the order 2, 30, 3 to 8, 24,
+ * 23, 25, 9 to 22, and each is made of all arguments before the next one is
+ * made of any: of two tables, a bad length (2) decides before bad entries (3),
+@@@@@@@ THEIRS
+ * the first check that fails. The checks come in the order 2, 30, 3 to 8, 24,
+ * 23, 25, 9 to 22, where 27, 28 and 29 come first in the import of element
+ * files, and each is made of all arguments before the next one is made of any: of two tables, a bad length (2) decides before bad entries (3),
+@@@@@@@ END
  * whichever of the two has them. The numbers of this header's calls are those
  * of \ref VEJGODAT_OK and the names that follow it, and
  * \ref vejgodat_refusal_text has words for them. Only \ref vejgodat_lookup,
@@ -259,8 +269,10 @@
  *    \ref vejgodat_build_message and \ref vejgodat_deliver take a set of
  *    128 KiB there and less than 1 KiB more, every other call less than 1 KiB;
  *    \ref VEJGODAT_STACK_BYTES are enough for any. A thread made with a stack
- *    of 128 KiB is too small. No call can see this: too little stack breaks the
- *    program.
+ *    of 128 KiB is too small. Only \ref vejgodat_triangle_length and
+ *    \ref vejgodat_import_triangle take more, 1.75 MiB whatever the file is;
+ *    \ref VEJGODAT_IMPORT_STACK_BYTES are enough for them. No call can see
+ *    this: too little stack breaks the program.
  */
 #ifndef VEJGODAT_H
 #define VEJGODAT_H
@@ -300,8 +312,13 @@ extern "C" {
 /** The neighbour at a face that the shape doesn't have. */
 #define VEJGODAT_UNUSED 4294967295u
 
-/** Bytes of stack that are enough for any call. */
+/** Bytes of stack that are enough for any call but those that read an element
+ * file. */
 #define VEJGODAT_STACK_BYTES 147456
+
+/** Bytes of stack that are enough for \ref vejgodat_triangle_length and
+ * \ref vejgodat_import_triangle, and so for any call. */
+#define VEJGODAT_IMPORT_STACK_BYTES 1851392
 
 /** The bytes of an offset table of P ranks. */
 #define VEJGODAT_TABLE_BYTES(P) (8 * ((size_t) (P) + 1))
@@ -367,10 +384,22 @@ enum
                                      early, has bytes left or goes too deep. */
   VEJGODAT_SHAPE = 24,          /**< A shape has no refinement strings. */
   VEJGODAT_LEAVES = 25,         /**< A tree has too many leaves. */
+@@@@@@@ OURS
   VEJGODAT_EXTENT = 26,         /**< An extent of a brick is 0 or above
                                      \ref VEJGODAT_MAX_EXTENT. Checked before
                                      anything else. */
   VEJGODAT_WEIGHTS = 30,        /**< All weights are 0, or one is above
+@@@@@@@ BASE
+  VEJGODAT_WEIGHTS = 30         /**< All weights are 0, or one is above
+@@@@@@@ THEIRS
+  VEJGODAT_TEXT = 27,           /**< A text hasn't the form of an element file.
+                                     Checked before all others. */
+  VEJGODAT_TWICE = 28,          /**< A triangle has a vertex twice. Checked
+                                     after \ref VEJGODAT_TEXT (27). */
+  VEJGODAT_EDGE = 29,           /**< Three faces have the same two vertices.
+                                     Checked after \ref VEJGODAT_TWICE (28). */
+  VEJGODAT_WEIGHTS = 30         /**< All weights are 0, or one is above
+@@@@@@@ END
                                      \ref VEJGODAT_MAX_WEIGHT. Checked after
                                      \ref VEJGODAT_RANKS (2) and before
                                      \ref VEJGODAT_PARTITION (6). */
@@ -451,6 +480,12 @@ vejgodat_refusal_text (uint32_t refusal)
     return "a tree has over 16,777,216 leaves";
   case VEJGODAT_EXTENT:
     return "an extent is outside its limits (1 to 64)";
+  case VEJGODAT_TEXT:
+    return "the text hasn't the form of an element file";
+  case VEJGODAT_TWICE:
+    return "a triangle has a vertex twice";
+  case VEJGODAT_EDGE:
+    return "three faces have one vertex set";
   case VEJGODAT_WEIGHTS:
     return "all weights are 0, or one is above 65,535";
   case VEJGODAT_PROBE:
@@ -1861,6 +1896,73 @@ vejgodat_count      vejgodat_trees_between (const uint8_t * part,
                                             uint32_t axis, float lower,
                                             float upper,
                                             uint32_t * out, size_t out_len)
+  VEJGODAT_USE_RESULT;
+
+/** @} */
+
+/** \name Element files of Triangle
+ *
+ * The program Triangle writes its triangles as text, in a file whose name ends
+ * in `.ele`. These calls take that text and make a whole mesh of triangles of
+ * it.
+ *
+ * The first line has three numbers: that of the triangles, from 1 to
+ * \ref VEJGODAT_MAX_TRIANGLES, then 3 and 0. A line for each triangle follows:
+ * its number and three vertex numbers. Triangles number from 0 or from 1,
+ * rising by one. A number has 1 to 8 digits; zeros may stand in front. Spaces
+ * and tabs part numbers and may stand at a line's ends. A comment runs from `#`
+ * to the line's end. Blank lines, and those with only a comment, are skipped
+ * wherever they stand. Every line ends in LF, the last one too, and CR stands in
+ * comments only.
+ *
+ * Tree t of the mesh is the triangle of the t-th line, its face i the one across
+ * from corner i: faces 0, 1 and 2 have corners 1 and 2, 0 and 2, 0 and 1. Two
+ * faces with the same two vertices are neighbours, every other face is the
+ * boundary. The orientation is 0 if the lower-numbered corners of both faces are
+ * the same vertex, else 1. Regions and tree data are zero. The mesh is always
+ * one that \ref vejgodat_check_mesh accepts.
+ * @{
+ */
+
+/** The largest number of triangles of an element file. */
+#define VEJGODAT_MAX_TRIANGLES 65536
+
+/** Say how long the mesh of an element file is.
+ *
+ * Checks, in this order: \ref VEJGODAT_TEXT (27) if the text has another form;
+ * \ref VEJGODAT_TWICE (28) if a triangle has a vertex twice;
+ * \ref VEJGODAT_EDGE (29) if three faces have the same two vertices.
+ * Cost: near that of three passes over the text; the faces are found by a hash
+ * of their vertices. 65,536 triangles take some ten milliseconds, and files made
+ * to give many faces one hash took half a second.
+ * Stack: \ref VEJGODAT_IMPORT_STACK_BYTES, whatever the file is.
+ *
+ * \param [in] text       The text; any bytes. Not changed.
+ * \param [in] text_len   The number of bytes.
+ * \return                The length, 8 + 64 n for n triangles.
+ */
+vejgodat_length     vejgodat_triangle_length (const uint8_t * text,
+                                              size_t text_len)
+  VEJGODAT_USE_RESULT;
+
+/** Write the whole mesh of an element file.
+ *
+ * Checks, in this order: those of \ref vejgodat_triangle_length (27, 28, 29);
+ * \ref VEJGODAT_BUFFER (22) if \a out_len is below 8 + 64 n.
+ * Cost: that of \ref vejgodat_triangle_length, once more for the search of
+ * faces, and one pass over the mesh.
+ * Stack: \ref VEJGODAT_IMPORT_STACK_BYTES, whatever the file is.
+ *
+ * \param [in] text       The text; any bytes. Not changed.
+ * \param [in] text_len   The number of bytes.
+ * \param [out] out       Its first 8 + 64 n bytes become the mesh; the bytes
+ *                        behind them stay. When refused, all of them stay.
+ * \param [in] out_len    The number of bytes of \a out.
+ * \return                The bytes written, 8 + 64 n.
+ */
+vejgodat_length     vejgodat_import_triangle (const uint8_t * text,
+                                              size_t text_len,
+                                              uint8_t * out, size_t out_len)
   VEJGODAT_USE_RESULT;
 
 /** @} */

@@ -25,6 +25,7 @@ groups! {
     part
     probes
     message
+    triangles
     area
     fixed
     ranks

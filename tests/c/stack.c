@@ -1,5 +1,6 @@
 /* How much stack each call takes: it runs on a painted stack of its own, and the deepest byte that it changed is looked
- * for. None may need more than VEJGODAT_STACK_BYTES. The mesh is a row of quadrilaterals in which each ghost is far away. */
+ * for. None may need more than VEJGODAT_STACK_BYTES, or VEJGODAT_IMPORT_STACK_BYTES where it reads an element file. The
+ * mesh is a row of quadrilaterals in which each ghost is far away. */
 #define _POSIX_C_SOURCE 200809L
 #include <vejgodat.h>
 
@@ -9,7 +10,7 @@
 #include <string.h>
 
 #define TREES 4096
-#define STACK (1 << 20)
+#define STACK (1 << 22)
 #define PAINT 0x5a
 
 static uint8_t      mesh[VEJGODAT_MESH_BYTES (TREES)];
@@ -167,6 +168,15 @@ TAKE_LENGTH (table_from_blocks,
                                          sizeof sums / sizeof sums[0],
                                          of_many, sizeof of_many))
 
+static const uint8_t elements[] = "1 3 0\n0 5 6 7\n";
+static uint8_t      triangle[VEJGODAT_MESH_BYTES (1)];
+
+TAKE_LENGTH (triangle_length,
+             vejgodat_triangle_length (elements, sizeof elements - 1))
+TAKE_LENGTH (import_triangle,
+             vejgodat_import_triangle (elements, sizeof elements - 1,
+                                       triangle, sizeof triangle))
+
 /* Run a call on a painted stack and return how deep it went; 0 where no thread could be made. */
 static size_t
 depth (void *(*call) (void *))
@@ -215,12 +225,19 @@ main (void)
     CALL (area_length), CALL (open_area), CALL (deliver),
     CALL (progress_of), CALL (part_of_area_length), CALL (close_area),
     CALL (region_counts),
+@@@@@@@ OURS
     CALL (trees_at_point), CALL (trees_below), CALL (trees_between),
     CALL (region_counts), CALL (table_fault), CALL (mesh_fault),
     CALL (part_fault),
     CALL (table_from_weights), CALL (table_from_blocks)
+@@@@@@@ BASE
+    CALL (table_from_weights), CALL (table_from_blocks)
+@@@@@@@ THEIRS
+    CALL (table_from_weights), CALL (table_from_blocks),
+    CALL (triangle_length), CALL (import_triangle)
+@@@@@@@ END
   };
-  size_t              i, used, base, most = 0;
+  size_t              i, used, base, limit, most = 0;
   int                 wrong = 0;
 
   make_mesh ();
@@ -240,11 +257,15 @@ main (void)
       continue;
     }
     used -= base;
+    limit = VEJGODAT_STACK_BYTES;
+    if (calls[i].call == triangle_length || calls[i].call == import_triangle) {
+      limit = VEJGODAT_IMPORT_STACK_BYTES;
+    }
     most = used > most ? used : most;
     if (getenv ("STACK_TABLE") != NULL) {
       printf ("%8lu  vejgodat_%s\n", (unsigned long) used, calls[i].name);
     }
-    if (used > VEJGODAT_STACK_BYTES) {
+    if (used > limit) {
       printf ("stack: vejgodat_%s takes %lu bytes\n", calls[i].name,
               (unsigned long) used);
       ++wrong;

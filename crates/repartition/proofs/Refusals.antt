@@ -18,6 +18,7 @@ use Rattle.offsets_write.specs.Calls.{writeTable}
 use Rattle.leaves.specs.Calls.{tableFromLeaves, tableFromWeights, tableFromBlocks}
 use Rattle.plan_text.specs.Plan.{planAnswer, planOutputAnswer}
 use Rattle.refinement.specs.Calls.{countAnswer, leafCounts}
+use Rattle.ele_mesh.specs.Calls.{importTriangle}
 use Rattle.regions.specs.Calls.{regionCountsOf}
 use Rattle.brick.specs.Calls.{writeBrickOf}
 use Rattle.pattern.specs.Sets.{sendsTo}
@@ -69,7 +70,13 @@ refused-deliver area m declined =
     (λ e. rw e)
 
 pub refused-unchanged : RefusedUnchanged
+@@@@@@@ OURS
 unfolding writeTable tableFromLeaves tableFromWeights tableFromBlocks planAnswer planOutputAnswer leafCounts regionCountsOf writeBrickOf cutPartOf buildMessageOf openAreaOf closeOf sendSetOf receiveSetOf
+@@@@@@@ BASE
+unfolding writeTable tableFromLeaves tableFromWeights tableFromBlocks planAnswer planOutputAnswer leafCounts regionCountsOf cutPartOf buildMessageOf openAreaOf closeOf sendSetOf receiveSetOf
+@@@@@@@ THEIRS
+unfolding writeTable tableFromLeaves tableFromWeights tableFromBlocks planAnswer planOutputAnswer leafCounts importTriangle regionCountsOf cutPartOf buildMessageOf openAreaOf closeOf sendSetOf receiveSetOf
+@@@@@@@ END
 refused-unchanged =
     record {
       write-table = λ P first count out. refused-writes _ _ out;
@@ -87,6 +94,7 @@ refused-unchanged =
       send-set = λ old new p out. refused-set _ _ out;
       receive-set = λ old new q out. refused-set _ _ out;
       leaf-counts = λ shapes lengths bits out. refused-counts _ _ _ out;
+      import-triangle = λ text out. refused-writes _ _ out;
       region-counts = λ part table rank out. refused-list _ _ out;
     }
 

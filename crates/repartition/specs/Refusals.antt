@@ -9,6 +9,7 @@ use Rattle.offsets_write.specs.Calls.{writeTable}
 use Rattle.leaves.specs.Calls.{tableFromLeaves, tableFromWeights, tableFromBlocks}
 use Rattle.plan_text.specs.Plan.{planAnswer, planOutputAnswer}
 use Rattle.refinement.specs.Calls.{leafCounts}
+use Rattle.ele_mesh.specs.Calls.{importTriangle}
 use Rattle.regions.specs.Calls.{regionCountsOf}
 use Rattle.brick.specs.Calls.{writeBrickOf}
 use Rattle.pattern.specs.declared.Ranks.{Ranks}
@@ -48,6 +49,7 @@ pub record RefusedUnchanged : Type 0 where
   pub send-set : (old new : List ℕ) (p : ℕ) (out : List ℕ) → SetUnchanged (sendSetOf old new p out) out
   pub receive-set : (old new : List ℕ) (q : ℕ) (out : List ℕ) → SetUnchanged (receiveSetOf old new q out) out
   pub leaf-counts : (shapes lengths bits out : List ℕ) → (leafCounts shapes lengths bits out .0 .refusal ≡ 0 → ⊥) → (leafCounts shapes lengths bits out .0 .count ≡ 0) × (leafCounts shapes lengths bits out .1 ≡ out)
+  pub import-triangle : (text out : List ℕ) → Unchanged (importTriangle text out) out
   pub region-counts : (part table : List ℕ) (rank : ℕ) (out : List ℕ) → (regionCountsOf part table rank out .0 ≡ 0 → ⊥) → regionCountsOf part table rank out .1 ≡ out
 
 -- "nothing for you", "already heard" and "not all heard" hold only where the tables and bits say so

@@ -15,6 +15,7 @@ ghost use Rattle.part_check.specs.Calls.{partRefusal};
 ghost use Rattle.part_neighbour.specs.Calls.{neighbourAnswer};
 ghost use Rattle.lookup.specs.Lookup.{foundRecord};
 ghost use Rattle.part_neighbour.specs.Neighbour.{flatAnswer};
+ghost use Rattle.ele_mesh.specs.Calls.{triangleLength, importTriangle};
 ghost use Rattle.refinement.specs.Calls.{countLeaves, leafCounts};
 ghost use Rattle.pattern.specs.Calls.{senderOf, treesSent, sendSetOf, receiveSetOf};
 ghost use Rattle.regions.specs.Calls.{regionCountsOf};
@@ -401,4 +402,18 @@ pub extern "C" fn vejgodat_part_fault(part: &[u8], table: &[u8], rank: u32) -> F
     ensures { λ r. ⌜ r ≡ partFaultOf (now (part .entry)) (now (table .entry)) rank ⌝ }
 {
     part_fault::part_fault(part, table, rank)
+}
+
+#[no_mangle]
+pub extern "C" fn vejgodat_triangle_length(text: &[u8]) -> Length
+    ensures { λ r. ⌜ r ≡ triangleLength (now (text .entry)) ⌝ }
+{
+    ele_mesh::triangle_length(text)
+}
+
+#[no_mangle]
+pub extern "C" fn vejgodat_import_triangle(text: &[u8], out: &mut [u8]) -> Length
+    ensures { λ r. ⌜ (r, now (out .exit)) ≡ importTriangle (now (text .entry)) (now (out .entry)) ⌝ }
+{
+    ele_mesh::import_triangle(text, out)
 }

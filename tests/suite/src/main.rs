@@ -13,6 +13,7 @@ mod model;
 mod part_model;
 mod random;
 mod refinement_model;
+mod triangles_model;
 
 use calls::Calls;
 use random::Random;
@@ -54,6 +55,7 @@ groups! {
     tree_data
     probes
     faults
+    triangles
     refusals
     nearest
     ranks

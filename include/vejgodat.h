@@ -229,19 +229,9 @@
  * ## Refusals
  *
  * Each call checks its input itself and returns a refusal: 0, or the number of
-@@@@@@@ OURS
  * the first check that fails. The checks come in the order 26, 27, 28, 29, 2,
  * 30, 3 to 8, 24, 23, 25, 31, 32, 33, 9 to 22, and each is made of all arguments
  * before the next one is made of any: of two tables, a bad length (2) decides before bad entries (3),
-@@@@@@@ BASE
- * the first check that fails. The checks come in the order 2, 30, 3 to 8, 24,
- * 23, 25, 9 to 22, and each is made of all arguments before the next one is
- * made of any: of two tables, a bad length (2) decides before bad entries (3),
-@@@@@@@ THEIRS
- * the first check that fails. The checks come in the order 2, 30, 3 to 8, 24,
- * 23, 25, 9 to 22, where 27, 28 and 29 come first in the import of element
- * files, and each is made of all arguments before the next one is made of any: of two tables, a bad length (2) decides before bad entries (3),
-@@@@@@@ END
  * whichever of the two has them. The numbers of this header's calls are those
  * of \ref VEJGODAT_OK and the names that follow it, and
  * \ref vejgodat_refusal_text has words for them. Only \ref vejgodat_lookup,
@@ -384,31 +374,28 @@ enum
                                      early, has bytes left or goes too deep. */
   VEJGODAT_SHAPE = 24,          /**< A shape has no refinement strings. */
   VEJGODAT_LEAVES = 25,         /**< A tree has too many leaves. */
-@@@@@@@ OURS
   VEJGODAT_EXTENT = 26,         /**< An extent of a brick is 0 or above
                                      \ref VEJGODAT_MAX_EXTENT. Checked before
                                      anything else. */
-  VEJGODAT_WEIGHTS = 30,        /**< All weights are 0, or one is above
-@@@@@@@ BASE
-  VEJGODAT_WEIGHTS = 30         /**< All weights are 0, or one is above
-@@@@@@@ THEIRS
   VEJGODAT_TEXT = 27,           /**< A text hasn't the form of an element file.
                                      Checked before all others. */
   VEJGODAT_TWICE = 28,          /**< A triangle has a vertex twice. Checked
                                      after \ref VEJGODAT_TEXT (27). */
   VEJGODAT_EDGE = 29,           /**< Three faces have the same two vertices.
                                      Checked after \ref VEJGODAT_TWICE (28). */
-  VEJGODAT_WEIGHTS = 30         /**< All weights are 0, or one is above
-@@@@@@@ END
+  VEJGODAT_WEIGHTS = 30,        /**< All weights are 0, or one is above
                                      \ref VEJGODAT_MAX_WEIGHT. Checked after
                                      \ref VEJGODAT_RANKS (2) and before
                                      \ref VEJGODAT_PARTITION (6). */
   VEJGODAT_PROBE = 31,          /**< A probe has a NaN, an axis above 2 or a
                                      lower limit above its upper. Checked after
                                      \ref VEJGODAT_PART (8) and before
-                                     \ref VEJGODAT_BUFFER (22), as the next. */
-  VEJGODAT_BOX = 32             /**< A tree's box has a NaN or low above
+                                     \ref VEJGODAT_BUFFER (22), as the next
+                                     two. */
+  VEJGODAT_BOX = 32,            /**< A tree's box has a NaN or low above
                                      high. */
+  VEJGODAT_COLUMNS = 33         /**< A column file isn't that of a sound
+                                     part. */
 };
 
 /** Say what a refusal means, as part of a sentence without its full stop.

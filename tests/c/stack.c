@@ -225,17 +225,11 @@ main (void)
     CALL (area_length), CALL (open_area), CALL (deliver),
     CALL (progress_of), CALL (part_of_area_length), CALL (close_area),
     CALL (region_counts),
-@@@@@@@ OURS
     CALL (trees_at_point), CALL (trees_below), CALL (trees_between),
     CALL (region_counts), CALL (table_fault), CALL (mesh_fault),
     CALL (part_fault),
-    CALL (table_from_weights), CALL (table_from_blocks)
-@@@@@@@ BASE
-    CALL (table_from_weights), CALL (table_from_blocks)
-@@@@@@@ THEIRS
     CALL (table_from_weights), CALL (table_from_blocks),
     CALL (triangle_length), CALL (import_triangle)
-@@@@@@@ END
   };
   size_t              i, used, base, limit, most = 0;
   int                 wrong = 0;

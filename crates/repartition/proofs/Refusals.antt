@@ -70,13 +70,7 @@ refused-deliver area m declined =
     (λ e. rw e)
 
 pub refused-unchanged : RefusedUnchanged
-@@@@@@@ OURS
-unfolding writeTable tableFromLeaves tableFromWeights tableFromBlocks planAnswer planOutputAnswer leafCounts regionCountsOf writeBrickOf cutPartOf buildMessageOf openAreaOf closeOf sendSetOf receiveSetOf
-@@@@@@@ BASE
-unfolding writeTable tableFromLeaves tableFromWeights tableFromBlocks planAnswer planOutputAnswer leafCounts regionCountsOf cutPartOf buildMessageOf openAreaOf closeOf sendSetOf receiveSetOf
-@@@@@@@ THEIRS
-unfolding writeTable tableFromLeaves tableFromWeights tableFromBlocks planAnswer planOutputAnswer leafCounts importTriangle regionCountsOf cutPartOf buildMessageOf openAreaOf closeOf sendSetOf receiveSetOf
-@@@@@@@ END
+unfolding writeTable tableFromLeaves tableFromWeights tableFromBlocks planAnswer planOutputAnswer leafCounts importTriangle regionCountsOf writeBrickOf cutPartOf buildMessageOf openAreaOf closeOf sendSetOf receiveSetOf
 refused-unchanged =
     record {
       write-table = λ P first count out. refused-writes _ _ out;

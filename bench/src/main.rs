@@ -22,6 +22,7 @@ groups! {
     part
     message
     area
+    columns
 }
 
 const RANKS: i64 = 1_024;
@@ -219,6 +220,7 @@ fn mesh_check(name: &str, power: u32, mut mesh: Vec<u8>) {
 }
 
 fn main() {
+    if std::env::args().nth(1).is_some() { columns::rows(); return; }
     println!("| call | library, µs | ns per tree | ratio to trusting | ratio to checking |");
     println!("|---|---:|---:|---:|---:|");
     table_check();

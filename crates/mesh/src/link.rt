@@ -18,7 +18,7 @@ pub fn orientation_ok(bs: &[u8], at: usize, face: u32) -> bool
 }
 
 // The neighbour's face of a code, by F of the dimension.
-fn face_in(dimension: u32, code: u32) -> u32
+pub fn face_in(dimension: u32, code: u32) -> u32
     ensures { λ r. ⌜ (r ≡ code % facesIn dimension) × (r < 6) ⌝ }
 {
     if dimension == 2 {
@@ -27,7 +27,7 @@ fn face_in(dimension: u32, code: u32) -> u32
     code % 6
 }
 
-fn orientation_in(dimension: u32, code: u32) -> u32
+pub fn orientation_in(dimension: u32, code: u32) -> u32
     ensures { λ r. ⌜ r ≡ code / facesIn dimension ⌝ }
 {
     if dimension == 2 {
@@ -37,7 +37,7 @@ fn orientation_in(dimension: u32, code: u32) -> u32
 }
 
 // Whether two faces have as many corners, and the orientation is below these. All faces of two hexahedra, or of two tetrahedra, are alike: most meshes need no more.
-fn corners_fit(orientation: u32, shape: u32, face: u32, other: u32, there: u32) -> bool
+pub fn corners_fit(orientation: u32, shape: u32, face: u32, other: u32, there: u32) -> bool
     requires { ⌜ (face < 6) × (there < 6) ⌝ }
     ensures { λ r. ⌜ r ≡ cornersFit orientation shape face other there ⌝ }
 {

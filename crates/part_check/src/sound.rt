@@ -30,7 +30,7 @@ ghost use Rattle.mesh.specs.Means.{linkByDimension};
 ghost use Rattle.part_check.specs.Means.{treeFace, treeStored, treeNumbered, ghostBehind, ghostNumbered, numbersSound, ghostFace, ghostStored, recordsSound, PartLaid, PartNumbered};
 
 // Whether the header is as table and rank say, and the length as the header says.
-fn header_sound(part: &[u8], table: &[u8], rank: u32) -> bool
+pub fn header_sound(part: &[u8], table: &[u8], rank: u32) -> bool
     requires { ⌜ RankKnown (now table) rank ⌝ }
     ensures { λ r. ⌜ r ≡ (partHeaderSound (now (part .entry)) (now (table .entry)) rank && eqb (length (now (part .entry))) (partSize (partCount (now (part .entry))) (partGhostCount (now (part .entry))))) ⌝ }
 {

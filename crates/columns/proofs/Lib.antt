@@ -1,0 +1,1 @@
+-- Laws, for this crate's proofs and for the crates above.

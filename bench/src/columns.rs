@@ -128,5 +128,5 @@ pub fn rows() {
         column_rows("a brick", &brick(powers.map(|power| power as u32)), &bytes_of([0, 1 << power].into_iter()), 0);
     }
     column_rows("a brick, a quarter of it", &brick([6, 7, 7]), &quarters(1 << 20), 1);
-    if false { column_rows("random links, a quarter of them", &tangle(20), &quarters(1 << 20), 1); }
+    column_rows("random links, a quarter of them", &tangle(20), &quarters(1 << 20), 1);
 }

@@ -220,7 +220,6 @@ fn mesh_check(name: &str, power: u32, mut mesh: Vec<u8>) {
 }
 
 fn main() {
-    if std::env::args().nth(1).is_some() { columns::rows(); return; }
     println!("| call | library, µs | ns per tree | ratio to trusting | ratio to checking |");
     println!("|---|---:|---:|---:|---:|");
     table_check();

@@ -5,12 +5,12 @@ use mathlib.Core.List.{List}
 use lib.ListN.{length, getD, set}
 
 -- n bytes are there, from off on, each step behind the one before
-abbrev pub Line : List ℕ → ℕ → ℕ → ℕ → Type 0
-Line bs off step n = (i : ℕ) → i < n → off + step * i < length bs
+pub record Line (bs : List ℕ) (off step n : ℕ) : Type 0 where
+  pub at : (i : ℕ) → i < n → off + step * i < length bs
 
 -- w lines are there, each leap behind the one before
-abbrev pub Lines : List ℕ → ℕ → ℕ → ℕ → ℕ → ℕ → Type 0
-Lines bs off step leap n w = (j : ℕ) → j < w → Line bs (off + leap * j) step n
+pub record Lines (bs : List ℕ) (off step leap n w : ℕ) : Type 0 where
+  pub line : (j : ℕ) → j < w → Line bs (off + leap * j) step n
 
 -- a line is moved: n bytes of src, from a on and each step behind, go to b and each gap behind
 unfoldable pub lineOf : List ℕ → ℕ → ℕ → List ℕ → ℕ → ℕ → ℕ → List ℕ

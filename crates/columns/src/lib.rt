@@ -10,9 +10,12 @@ mod turn;
 pub fn part_to_columns(part: &[u8], table: &[u8], rank: u32, out: &mut [u8]) -> Length
     ensures { λ r. ⌜ (r, now (out .exit)) ≡ partToColumns (now (part .entry)) (now (table .entry)) rank (now (out .entry)) ⌝ }
 {
-    let refusal = part_check::check_part(part, table, rank);
+    let refusal = part::range::rank_refusal(table, rank);
     if refusal != 0 {
         return refused(refusal);
+    }
+    if !part_check::sound::part_sound(part, table, rank) {
+        return refused(8);
     }
     if out.len() < part.len() {
         return refused(22);

@@ -32,12 +32,20 @@ fn band(
     count: usize,
     width: usize,
 )
-    requires { ⌜ Lines (now src) from step leap count width × (Lines (now dst) to gap span count width × (0 < count)) ⌝ }
+    requires { ⌜ Lines (now src) from step leap count width × Lines (now dst) to gap span count width × (0 < count) ⌝ }
     ensures { λ u. ⌜ now (dst .exit) ≡ bandOf (now (src .entry)) from step leap (now (dst .entry)) to gap span count width ⌝ }
 {
     let mut j = 0;
     while j < width {
-        line(src, from + leap * j, step, &mut *dst, to + span * j, gap, count);
+        line(
+            src,
+            from + leap * j,
+            step,
+            &mut *dst,
+            to + span * j,
+            gap,
+            count,
+        );
         j += 1;
     }
 }
@@ -65,7 +73,7 @@ fn turn(
     count: usize,
     width: usize,
 )
-    requires { ⌜ Lines (now src) at step leap count width × (Lines (now dst) at gap span count width × (0 < width)) ⌝ }
+    requires { ⌜ Lines (now src) at step leap count width × Lines (now dst) at gap span count width × (0 < width) ⌝ }
     ensures { λ u. ⌜ Moved (now (src .entry)) at step leap (now (dst .entry)) (now (dst .exit)) at gap span count width ⌝ }
 {
     let mut i = 0;

@@ -50,7 +50,7 @@ rows-are bs off w n (suc m) = ap (λ (l : List ℕ). l ++ spaced bs (off + m) n 
 -- ---- one number of two
 
 -- a number below a times b is in column q at place r
-place : {C : Type 0} (a b k : ℕ) → k < a * b → ((q r : ℕ) → q < b → r < a → k ≡ a * q + r → C) → C
+pub place : {C : Type 0} (a b k : ℕ) → k < a * b → ((q r : ℕ) → q < b → r < a → k ≡ a * q + r → C) → C
 place zero b k h f = absurd (omega arith)
 place (suc a) b k h f =
     let p : 0 < suc a = omega arith in
@@ -68,7 +68,7 @@ pub record Turned (x p : List ℕ) (n g : ℕ) : Type 0 where
   pub ghosts : (i j : ℕ) → i < g → j < 40 → getD x (32 + (64 * n + (g * j + i))) 0 ≡ getD p (32 + (64 * n + (40 * i + j))) 0
 
 -- a byte is one of the header, of the trees or of the ghosts, and past the end there is none
-zones : {C : Type 0} (n g k : ℕ) → (k < 32 → C) → ((m : ℕ) → m < 64 * n → k ≡ 32 + m → C) → ((m : ℕ) → m < 40 * g → k ≡ 32 + (64 * n + m) → C) → (partSize n g ≤ k → C) → C
+pub zones : {C : Type 0} (n g k : ℕ) → (k < 32 → C) → ((m : ℕ) → m < 64 * n → k ≡ 32 + m → C) → ((m : ℕ) → m < 40 * g → k ≡ 32 + (64 * n + m) → C) → (partSize n g ≤ k → C) → C
 zones n g k a b c d =
     either (ltb k 32) (λ p. a (omega tests))
     (λ p. either (ltb k (32 + 64 * n)) (λ q. b (k - 32) (omega tests) (omega tests))

@@ -49,6 +49,7 @@ groups! {
     area
     refinement
     regions
+    columns
     refusals
     nearest
 }

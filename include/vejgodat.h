@@ -480,6 +480,8 @@ vejgodat_refusal_text (uint32_t refusal)
       " upper";
   case VEJGODAT_BOX:
     return "a tree's box has a NaN or low above high";
+  case VEJGODAT_COLUMNS:
+    return "the column file isn't that of a sound part";
   default:
     return refusal <= 33 ? "reserved: no call of this version gives it"
       : "no refusal of this library";
@@ -1704,6 +1706,75 @@ vejgodat_fault      vejgodat_part_fault (const uint8_t * part,
                                          size_t part_len,
                                          const uint8_t * table,
                                          size_t table_len, uint32_t rank)
+  VEJGODAT_USE_RESULT;
+
+/** @} */
+
+/** \name Parts stored by columns
+ *
+ * A column file is a part in another order of bytes, which backup tools pack
+ * better: the header's 32 bytes; then byte 0 of every tree record, byte 1 of
+ * every tree record and so on to byte 63; then likewise the ghosts' 40. Byte j
+ * of tree i stands at 32 + j n + i, byte j of ghost i at 32 + 64 n + j g + i.
+ * It is as long as the part. For every sound part the way back gives its bytes,
+ * and for every file that is accepted the way there gives the file; two parts
+ * have equal files exactly when they are equal.
+ * @{
+ */
+
+/** Write a part by columns.
+ *
+ * Checks, in this order: those of \ref vejgodat_check_table (2, 3);
+ * \ref VEJGODAT_INDEX (5) if \a rank is not below P; \ref VEJGODAT_PART (8) if
+ * the part isn't sound; \ref VEJGODAT_BUFFER (22) if \a out_len is below
+ * \a part_len.
+ * Cost: that of \ref vejgodat_check_part, and one pass over the bytes.
+ *
+ * \param [in] part       Any bytes. Not changed.
+ * \param [in] part_len   The number of its bytes.
+ * \param [in] table      Any bytes. Not changed.
+ * \param [in] table_len  The number of its bytes.
+ * \param [in] rank       A rank; any number.
+ * \param [out] out       Its first \a part_len bytes become the column file;
+ *                        the bytes behind them stay. When refused, all of them
+ *                        stay.
+ * \param [in] out_len    The number of bytes of \a out.
+ * \return                The bytes written, \a part_len.
+ */
+vejgodat_length     vejgodat_part_to_columns (const uint8_t * part,
+                                              size_t part_len,
+                                              const uint8_t * table,
+                                              size_t table_len,
+                                              uint32_t rank, uint8_t * out,
+                                              size_t out_len)
+  VEJGODAT_USE_RESULT;
+
+/** Write the part of a column file.
+ *
+ * Checks, in this order: those of \ref vejgodat_check_table (2, 3);
+ * \ref VEJGODAT_INDEX (5) if \a rank is not below P; \ref VEJGODAT_COLUMNS
+ * (33) if the bytes aren't the column file of a part that is sound for the table
+ * and the rank, a length that isn't the header's included;
+ * \ref VEJGODAT_BUFFER (22) if \a out_len is below \a columns_len.
+ * Cost: that of the checks of \ref vejgodat_check_part, made on the columns, and
+ * one pass over the bytes; for links between ghosts a search by halves.
+ *
+ * \param [in] columns    Any bytes. Not changed.
+ * \param [in] columns_len  The number of its bytes.
+ * \param [in] table      Any bytes. Not changed.
+ * \param [in] table_len  The number of its bytes.
+ * \param [in] rank       A rank; any number.
+ * \param [out] out       Its first \a columns_len bytes become the part; the
+ *                        bytes behind them stay. When refused, all of them stay.
+ * \param [in] out_len    The number of bytes of \a out.
+ * \return                The bytes written, \a columns_len.
+ */
+vejgodat_length     vejgodat_columns_to_part (const uint8_t * columns,
+                                              size_t columns_len,
+                                              const uint8_t * table,
+                                              size_t table_len,
+                                              uint32_t rank, uint8_t * out,
+                                              size_t out_len)
   VEJGODAT_USE_RESULT;
 
 /** @} */

@@ -30,6 +30,7 @@ groups! {
     fixed
     ranks
     faults
+    columns
 }
 
 const RANKS: i64 = 1_024;

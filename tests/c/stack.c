@@ -17,6 +17,7 @@ static uint8_t      mesh[VEJGODAT_MESH_BYTES (TREES)];
 static uint8_t      brick[VEJGODAT_MESH_BYTES (8 * 8 * 8)];
 static uint8_t      part[VEJGODAT_PART_BYTES (TREES, 0)], joined[sizeof part];
 static uint8_t      message[sizeof part], table[24], other[24];
+static uint8_t      columns[sizeof part];
 static uint8_t      area[VEJGODAT_AREA_BYTES (2, TREES, 4)];
 static uint32_t     leaves[TREES], list[2], first[2] = { 0, TREES / 2 };
 static uint32_t     count[2] = { TREES / 2, TREES / 2 };
@@ -161,6 +162,12 @@ part_fault (void *none)
   return none;
 }
 
+TAKE_LENGTH (part_to_columns,
+             vejgodat_part_to_columns (part, part_len, OLD, 0, columns,
+                                       sizeof columns))
+TAKE_LENGTH (columns_to_part,
+             vejgodat_columns_to_part (columns, part_len, OLD, 0, joined,
+                                       sizeof joined))
 TAKE_LENGTH (table_from_weights,
              vejgodat_table_from_weights (count, 2, leaves, TREES, OLD))
 TAKE_LENGTH (table_from_blocks,
@@ -224,10 +231,9 @@ main (void)
     CALL (message_length), CALL (build_message), CALL (check_message),
     CALL (area_length), CALL (open_area), CALL (deliver),
     CALL (progress_of), CALL (part_of_area_length), CALL (close_area),
-    CALL (region_counts),
+    CALL (region_counts), CALL (part_to_columns), CALL (columns_to_part),
     CALL (trees_at_point), CALL (trees_below), CALL (trees_between),
-    CALL (region_counts), CALL (table_fault), CALL (mesh_fault),
-    CALL (part_fault),
+    CALL (table_fault), CALL (mesh_fault), CALL (part_fault),
     CALL (table_from_weights), CALL (table_from_blocks),
     CALL (triangle_length), CALL (import_triangle)
   };

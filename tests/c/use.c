@@ -1014,6 +1014,55 @@ table_from_blocks (void)
   EXPECT (memcmp (out, table, 32) == 0);
 }
 
+/* a part by columns, and back */
+static void
+columns (void)
+{
+  static const int64_t entries[4] = { 0, -1, 2, 3 };
+  uint8_t             mesh[VEJGODAT_MESH_BYTES (3)], table[32];
+  uint8_t             part[32 + 2 * 64 + 40], file[sizeof part + 1];
+  uint8_t             again[sizeof part];
+  vejgodat_length     answer;
+  size_t              i, j;
+
+  put_triangles (mesh);
+  put_table (table, 3, entries);
+  for (j = 40; j < 64; ++j) {
+    mesh[8 + j] = (uint8_t) j;
+  }
+  EXPECT (vejgodat_cut_part (mesh, sizeof mesh, table, 32, 1, part,
+                             sizeof part).length == sizeof part);
+  file[sizeof part] = 9;
+  EXPECT (vejgodat_part_to_columns (part, sizeof part, table, 32, 1, file,
+                                    sizeof part - 1).refusal
+          == VEJGODAT_BUFFER);
+  answer = vejgodat_part_to_columns (part, sizeof part, table, 32, 1, file,
+                                     sizeof file);
+  EXPECT (answer.refusal == VEJGODAT_OK && answer.length == sizeof part);
+  EXPECT (file[sizeof part] == 9);
+  for (i = 0; i < 2; ++i) {
+    for (j = 0; j < 64; ++j) {
+      EXPECT (file[32 + 2 * j + i] == part[32 + 64 * i + j]);
+    }
+  }
+  EXPECT (memcmp (file + 32 + 2 * 64, part + 32 + 2 * 64, 40) == 0);
+  answer = vejgodat_columns_to_part (file, sizeof part, table, 32, 1, again,
+                                     sizeof again);
+  EXPECT (answer.refusal == VEJGODAT_OK && answer.length == sizeof part);
+  EXPECT (memcmp (again, part, sizeof part) == 0);
+
+  EXPECT (vejgodat_columns_to_part (file, sizeof file, table, 32, 1, again,
+                                    0).refusal == VEJGODAT_COLUMNS);
+  EXPECT (vejgodat_columns_to_part (part, sizeof part, table, 32, 1, again,
+                                    sizeof again).refusal
+          == VEJGODAT_COLUMNS);
+  EXPECT (vejgodat_part_to_columns (file, sizeof part, table, 32, 1, again,
+                                    sizeof again).refusal == VEJGODAT_PART);
+  EXPECT (memcmp (again, part, sizeof part) == 0);
+  EXPECT (strcmp (vejgodat_refusal_text (VEJGODAT_COLUMNS),
+                  "the column file isn't that of a sound part") == 0);
+}
+
 int
 main (void)
 {
@@ -1038,6 +1087,7 @@ main (void)
   probes ();
   faults ();
   elements ();
+  columns ();
   table_from_weights ();
   table_from_blocks ();
   return wrong == 0 ? 0 : 1;

@@ -18,13 +18,13 @@ pub fn orientation_ok(bs: &[u8], at: usize, face: u32) -> bool
 }
 
 // What a face code says: the neighbour's face and the orientation.
-struct FaceCode {
-    face: u32,
-    orientation: u32,
+pub struct FaceCode {
+    pub face: u32,
+    pub orientation: u32,
 }
 
 // A code taken apart by F of the dimension, once for each link: a division by a constant is several times faster than one by F.
-fn parted(dimension: u32, code: u32) -> FaceCode
+pub fn parted(dimension: u32, code: u32) -> FaceCode
     ensures { λ r. ⌜ (r .face ≡ code % facesIn dimension) × ((r .orientation ≡ code / facesIn dimension) × (r .face < 6)) ⌝ }
 {
     if dimension == 2 {
@@ -40,7 +40,7 @@ fn parted(dimension: u32, code: u32) -> FaceCode
 }
 
 // Whether two faces have as many corners, and the orientation is below these. All faces of two hexahedra, or of two tetrahedra, are alike: most meshes need no more.
-fn corners_fit(orientation: u32, shape: u32, face: u32, other: u32, there: u32) -> bool
+pub fn corners_fit(orientation: u32, shape: u32, face: u32, other: u32, there: u32) -> bool
     requires { ⌜ (face < 6) × (there < 6) ⌝ }
     ensures { λ r. ⌜ r ≡ cornersFit orientation shape face other there ⌝ }
 {

@@ -22,6 +22,7 @@ ghost use Rattle.regions.specs.Calls.{regionCountsOf};
 ghost use Rattle.probes.specs.Calls.{treesNear};
 ghost use Rattle.faults.specs.Calls.{tableFaultOf, meshFaultOf};
 ghost use Rattle.part_fault.specs.Calls.{partFaultOf};
+ghost use Rattle.columns.specs.Calls.{partToColumns, columnsToPart};
 use area_open::Progress;
 use encoding::answer::Length;
 use faults::answer::Fault;
@@ -314,6 +315,30 @@ pub extern "C" fn vejgodat_region_counts(
     ensures { λ r. ⌜ (r, now (out .exit)) ≡ regionCountsOf (now (part .entry)) (now (table .entry)) rank (now (out .entry)) ⌝ }
 {
     regions::region_counts(part, table, rank, out)
+}
+
+#[no_mangle]
+pub extern "C" fn vejgodat_part_to_columns(
+    part: &[u8],
+    table: &[u8],
+    rank: u32,
+    out: &mut [u8],
+) -> Length
+    ensures { λ r. ⌜ (r, now (out .exit)) ≡ partToColumns (now (part .entry)) (now (table .entry)) rank (now (out .entry)) ⌝ }
+{
+    columns::part_to_columns(part, table, rank, out)
+}
+
+#[no_mangle]
+pub extern "C" fn vejgodat_columns_to_part(
+    columns: &[u8],
+    table: &[u8],
+    rank: u32,
+    out: &mut [u8],
+) -> Length
+    ensures { λ r. ⌜ (r, now (out .exit)) ≡ columnsToPart (now (columns .entry)) (now (table .entry)) rank (now (out .entry)) ⌝ }
+{
+    columns::columns_to_part(columns, table, rank, out)
 }
 
 #[no_mangle]

@@ -56,6 +56,7 @@ groups! {
     probes
     faults
     triangles
+    columns
     refusals
     nearest
     ranks

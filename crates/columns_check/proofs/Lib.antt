@@ -1,0 +1,7 @@
+-- Laws, for this crate's proofs and for the crates above.
+pub mod Spaced
+pub mod Reading
+pub mod Finding
+pub mod Judging
+pub mod Turned
+pub mod Accepting

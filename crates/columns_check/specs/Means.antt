@@ -1,0 +1,57 @@
+-- Means, no part of what is promised: a column file as the code checks it, face by face.
+use Prim.Native.Nat.{ℕ, _+_, _*_}
+use mathlib.Core.Bool.{Bool, true, cond, _&&_}
+use mathlib.Core.Path.{_≡_}
+use mathlib.Core.List.{List}
+use lib.Dec.{ltb, eqb}
+use Rattle.encoding.specs.Below.{allBelow, anyBelow}
+use Rattle.records.specs.Shape.{shapeOk, dimensionOf, faceCount}
+use Rattle.records.specs.Record.{coreSize, numberOf, shapeOf, zerosOk, regionOk}
+use Rattle.records.specs.Means.{faceForm}
+use Rattle.part.specs.Means.{neighbourIn}
+use Rattle.part_check.specs.Means.{treeNumbered, ghostNumbered, numbersSound, treeFace, ghostFace, PartLaid}
+use Rattle.columns_check.specs.Columns.{spaced}
+
+-- the core of tree i of n, and of ghost j of g, in a column file
+unfoldable pub treeColumn : List ℕ → ℕ → ℕ → List ℕ
+treeColumn file n i = spaced file (32 + i) n coreSize
+
+unfoldable pub ghostColumn : List ℕ → ℕ → ℕ → ℕ → List ℕ
+ghostColumn file n g j = spaced file (32 + 64 * n + j) g coreSize
+
+-- a record has a shape of the dimension, and its bytes outside number and faces are in form
+unfoldable pub headOk : ℕ → List ℕ → Bool
+headOk dimension r = shapeOk (shapeOf r) && eqb (dimensionOf (shapeOf r)) dimension && zerosOk r && regionOk r
+
+-- face f of a record is in form, and its link passes where the shape has the face
+unfoldable pub sideOk : ℕ → List ℕ → ℕ → Bool → Bool
+sideOk own r f link = faceForm own r f && cond (ltb f (faceCount (shapeOf r))) link true
+
+module _ (link : ℕ → List ℕ → ℕ → List ℕ → Bool) (first n g : ℕ) (tree ghostly : ℕ → List ℕ) (dimension K : ℕ) where
+  -- tree i, its faces apart
+  unfoldable pub treeHead : ℕ → Bool
+  treeHead i = treeNumbered first tree i && headOk dimension (tree i)
+
+  -- ghost j, its number and its faces apart
+  unfoldable pub ghostHead : ℕ → Bool
+  ghostHead j = headOk dimension (ghostly j) && anyBelow (faceCount (shapeOf (ghostly j))) (neighbourIn first (first + n) (ghostly j))
+
+  -- face f of tree i, and of ghost j
+  unfoldable pub treeSide : ℕ → ℕ → Bool
+  treeSide f i = sideOk i (tree i) f (treeFace link n g tree ghostly i f)
+
+  unfoldable pub ghostSide : ℕ → ℕ → Bool
+  ghostSide f j = sideOk (numberOf (ghostly j)) (ghostly j) f (ghostFace link first n g tree ghostly K j f)
+
+  -- face f of all records
+  unfoldable pub facesSound : ℕ → Bool
+  facesSound f = allBelow n (treeSide f) && allBelow g (ghostSide f)
+
+  -- all records: first every number, by which the links are then looked up
+  unfoldable pub columnsFound : Bool
+  columnsFound = (allBelow g (ghostNumbered first n ghostly K) && allBelow n treeHead) && (allBelow g ghostHead && allBelow 6 facesSound)
+
+-- a file by its length and header, with sound numbers
+pub record FileNumbered (file : List ℕ) (first n g K : ℕ) : Type 0 where
+  pub laid : PartLaid file first n g K
+  pub numbers : numbersSound first n g (treeColumn file n) (ghostColumn file n g) K ≡ true

@@ -1,0 +1,3 @@
+// Whether a column file is that of a sound part. No calls for users.
+pub mod read;
+pub mod sound;

@@ -22,12 +22,24 @@ pub fn member_count(marks: &[u64]) -> u32
     count
 }
 
-// How long a message is, given the ghosts that go.
-pub fn message_size(old: &[u8], new: &[u8], p: u32, q: u32, marks: &[u64]) -> usize
-    requires { ⌜ PairOf (now old) (now new) p q × (length (now marks) ≤ 16384) ⌝ }
-    ensures { λ r. ⌜ r ≡ messageSize (sentCount (now (old .entry)) (now (new .entry)) p q) (countBelow (64 * length (now (marks .entry))) (inSet (now (marks .entry)))) ⌝ }
+// How many words hold a mark for each tree of the part's mesh.
+pub fn mark_words(part: &[u8]) -> usize
 {
-    let sent = pattern::range::sent(old, new, p as usize, q as usize);
-    let n = sent.count;
-    32 + (64 * (n as usize) + 40 * (member_count(marks) as usize))
+    ((part::layout::trees(part) + 63) / 64) as usize
+}
+
+// Marks the ghosts that go with p's message to q, which has the n trees from `low` on: how many they are.
+pub fn going(
+    part: &[u8],
+    old: &[u8],
+    new: &[u8],
+    p: u32,
+    q: u32,
+    low: u32,
+    n: u32,
+    marks: &mut [u64],
+) -> u32
+{
+    message_ghosts::marks::mark_ghosts(part, old, new, p, q, low, n, &mut *marks);
+    member_count(&*marks)
 }

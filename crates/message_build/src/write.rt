@@ -12,7 +12,6 @@ ghost use Rattle.message.specs.Build.{partRecord, partMessage};
 ghost use Rattle.message.specs.Layout.{messageHeader};
 ghost use Rattle.message_build.specs.Means.{RecordRoom, globalLinks, recordsFrom, TreesRoom, coresBelow, GhostRoom, GhostsRoom, RecordsRoom, MessageRoom};
 use crate::index::global_rows;
-use crate::length::member_count;
 use part::layout::ghost_at;
 use part::layout::tree_at;
 use part::range::find_ghost;
@@ -174,6 +173,9 @@ pub fn write_message(
     new: &[u8],
     p: u32,
     q: u32,
+    low: u32,
+    n: u32,
+    g: u32,
     epoch: u32,
     marks: &[u64],
     out: &mut [u8],
@@ -184,10 +186,6 @@ pub fn write_message(
     let dimension = part::layout::dimension(part);
     let trees = part::layout::trees(part);
     let ranks = offsets::table::ranks(old) as u32;
-    let sent = pattern::range::sent(old, new, p as usize, q as usize);
-    let low = sent.first;
-    let n = sent.count;
-    let g = member_count(marks);
     encoding::header::write_eight(&mut *out, epoch, dimension, trees, ranks, p, q, n, g);
     write_records(part, low, n, marks, &mut *out);
 }

@@ -84,18 +84,36 @@ fn mark_tree(
     }
 }
 
-// Marks the ghosts that go with p's message to q. Only the trees sent and their neighbours are read, not the whole part.
-pub fn mark_ghosts(part: &[u8], old: &[u8], new: &[u8], p: u32, q: u32, marks: &mut [u64])
-    requires { ⌜ Sending (now part) (now old) (now new) p q × Blank (now marks) ⌝ }
+// Takes every mark away.
+fn clear(marks: &mut [u64])
+    ensures { λ u. ⌜ now (marks .exit) ≡ replicate (length (now (marks .entry))) 0 ⌝ }
+{
+    let mut i = 0;
+    while i < marks.len() {
+        marks[i] = 0;
+        i += 1;
+    }
+}
+
+// Marks the ghosts that go with p's message to q, which has the n trees from `low` on. Only those and their neighbours are read, not the whole part.
+pub fn mark_ghosts(
+    part: &[u8],
+    old: &[u8],
+    new: &[u8],
+    p: u32,
+    q: u32,
+    low: u32,
+    n: u32,
+    marks: &mut [u64],
+)
+    requires { ⌜ Message (now part) (now old) (now new) p q low n × Room (now old) (now marks) ⌝ }
     ensures { λ u. ⌜ Marks (now (part .entry)) (now (old .entry)) (now (new .entry)) p q (now (marks .exit)) ⌝ }
 {
+    clear(&mut *marks);
     let from = p as usize;
     let to = q as usize;
     let own = part::layout::first_tree(part);
     let count = part::layout::tree_count(part);
-    let sent = pattern::range::sent(old, new, from, to);
-    let low = sent.first;
-    let n = sent.count;
     let mut i = 0;
     while i < n {
         let tree = to_local(GlobalIndex(low + i), own);

@@ -49,6 +49,7 @@ groups! {
     area
     refinement
     regions
+    many
     refusals
     nearest
 }

@@ -1,0 +1,1 @@
+-- Means, no part of what is promised: what inner functions require, and values that mirror their code.

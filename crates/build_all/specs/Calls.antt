@@ -34,6 +34,7 @@ module _ (part old new : List ℕ) (p : ℕ) where
 
     -- build them: an empty send set gives no message and no refusal
     unfoldable pub buildAllOf : Messages × List ℕ
-    buildAllOf =
-        (messagesAnswer buildAllRefusal (length (sendSet old new p)) (length (allMessages part old new p epoch)),
-        written buildAllRefusal (allMessages part old new p epoch) out)
+    buildAllOf = (
+      messagesAnswer buildAllRefusal (length (sendSet old new p)) (length (allMessages part old new p epoch)),
+      written buildAllRefusal (allMessages part old new p epoch) out,
+    )

@@ -56,18 +56,25 @@ pub fn build_all(
     }
     let mut marks = [0u64; 16384];
     let words = message_build::length::mark_words(part);
-    let length = each::messages_length(part, old, new, sender, &mut marks[..words]);
-    if out.len() < length {
+    let built = each::build_messages(
+        part,
+        old,
+        new,
+        sender,
+        epoch,
+        &mut marks[..words],
+        &mut *out,
+    );
+    if built.refusal != 0 {
         return Messages {
-            refusal: 22,
+            refusal: built.refusal,
             count: 0,
             length: 0,
         };
     }
-    each::write_messages(part, old, new, sender, epoch, &mut marks[..words], &mut *out);
     Messages {
         refusal: 0,
         count: pattern::set::set_count(old, new, sender as usize, true) as u32,
-        length: length as u64,
+        length: built.length,
     }
 }

@@ -1,15 +1,14 @@
 -- How bytes are parted into messages.
 use Prim.Native.Nat.{ℕ, zero, suc, _+_, _-_, _≤_, _<_}
-use native.Mathlib.Numerals.{add-one}
 use native.Mathlib.Omega.{arith}
 use mathlib.Core.Path.{_≡_, refl, sym, ap, _∙_}
-use mathlib.Core.Bool.{Bool, true, false, cond, _&&_}
+use mathlib.Core.Bool.{Bool, _&&_}
 use mathlib.Core.List.{List, [], _∷_}
 use lib.Dec.{leb, eqb}
 use lib.ListN.{length, take, drop, length-drop}
-use lib.Seq.{drop-drop}
-use borrow.Author.Tests.{leb-true, eqb-true, eq-eqb, ne-eqb, le-leb, lt-leb}
-use Rattle.encoding.proofs.Below.{either, and-fst, and-snd, and-intro}
+use lib.Seq.{take-all, drop-drop}
+use borrow.Author.Tests.{leb-true, eqb-false, eq-eqb, ne-eqb, le-leb, lt-leb}
+use Rattle.encoding.proofs.Below.{either, and-snd}
 use Rattle.message.specs.Layout.{messageHeader, messageSize, messageTrees, messageGhosts}
 use Rattle.deliver_all.specs.Messages.{frontLength, firstPieces, messagesIn}
 
@@ -54,12 +53,15 @@ pieces-enough (suc n) zero bs h k = rw (eq-eqb (length bs) 0 (omega arith))
 pieces-enough (suc n) (suc m) bs h k =
     either (eqb (length bs) 0)
     (λ t. rw t)
-    (λ t. let s = front-some bs (omega (arith, ne-zero (length bs) t)) in
+    (λ t. let s = front-some bs (omega (arith, eqb-false (length bs) 0 t)) in
     let d = length-drop (frontLength bs) bs in
     rw t (ap (λ (r : List (List ℕ)). take (frontLength bs) bs ∷ r) (pieces-enough n m (drop (frontLength bs) bs) (omega arith) (omega arith))))
-  where
-    ne-zero : (k : ℕ) → eqb k 0 ≡ false → 0 < k
-    ne-zero k f = omega (arith, λ (e : k ≡ 0). e)
+
+-- there are no more than are asked for
+pieces-few : (n : ℕ) (bs : List ℕ) → length (firstPieces n bs) ≤ n
+unfolding firstPieces
+pieces-few zero bs = omega arith
+pieces-few (suc n) bs = either (eqb (length bs) 0) (λ t. rw t (omega arith)) (λ t. rw t (omega (arith, pieces-few n (drop (frontLength bs) bs))))
 
 module _ (bs : List ℕ) where
   pub messages-none : length bs ≡ 0 → messagesIn bs ≡ []
@@ -76,4 +78,42 @@ module _ (bs : List ℕ) where
 
   -- there are no more than bytes
   pub messages-few : length (messagesIn bs) ≤ length bs
-  messages-few = ?
+  unfolding messagesIn
+  messages-few = pieces-few (length bs) bs
+
+module _ (bs : List ℕ) where
+  -- the message at byte `at`, and those behind it
+  pub messages-next : (at n : ℕ) → at < length bs → n ≡ frontLength (drop at bs) → messagesIn (drop at bs) ≡ take n (drop at bs) ∷ messagesIn (drop (at + n) bs)
+  messages-next at n h e =
+      let d = length-drop at bs in
+      messages-step (drop at bs) (omega arith)
+      ∙ ap (λ (k : ℕ). take k (drop at bs) ∷ messagesIn (drop k (drop at bs))) (sym e)
+      ∙ ap (λ (r : List ℕ). take n (drop at bs) ∷ messagesIn r) (drop-drop n at bs)
+
+  -- no byte is left
+  pub messages-end : (at : ℕ) → length bs ≤ at → messagesIn (drop at bs) ≡ []
+  messages-end at h = let d = length-drop at bs in messages-none (drop at bs) (omega arith)
+
+-- the bytes from `at` on, as a slice of them is made
+pub rest-is : (bs : List ℕ) (at : ℕ) → take (length bs - at) (drop at bs) ≡ drop at bs
+rest-is bs at = let d = length-drop at bs in take-all (length bs - at) (drop at bs) (omega arith)
+
+-- those of the message at byte `at`
+pub part-is : (bs : List ℕ) (at n : ℕ) → take (at + n - at) (drop at bs) ≡ take n (drop at bs)
+part-is bs at n = let e : at + n - at ≡ n = omega arith in rw e
+
+module _ (bs : List ℕ) {at n : ℕ} (h : at < length bs) (is-n : n ≡ frontLength (take (length bs - at) (drop at bs))) where
+  pub front-is : n ≡ frontLength (drop at bs)
+  front-is = is-n ∙ ap frontLength (rest-is bs at)
+
+  pub next-most : at + n ≤ length bs
+  next-most = let d = length-drop at bs in omega (arith, front-is, front-most (drop at bs))
+
+  pub next-some : 0 < n
+  next-some = let d = length-drop at bs in omega (arith, front-is, front-some (drop at bs) (omega arith))
+
+  pub count-next : (count : ℕ) {total : ℕ} → count + length (messagesIn (drop at bs)) ≡ total → count + 1 + length (messagesIn (drop (at + n) bs)) ≡ total
+  count-next count e = let l = ap length (messages-next bs at n h front-is) in omega arith
+
+pub count-end : (bs : List ℕ) (at count : ℕ) {total : ℕ} → length bs ≤ at → count + length (messagesIn (drop at bs)) ≡ total → count ≡ total
+count-end bs at count h e = let l = ap length (messages-end bs at h) in omega arith

@@ -1,6 +1,6 @@
 -- What deliver_all answers, refusals included, and what it leaves in the area and in the lent list.
-use Prim.Native.Nat.{ℕ, min}
-use mathlib.Core.Bool.{cond}
+use Prim.Native.Nat.{ℕ}
+use mathlib.Core.Bool.{cond, _&&_}
 use mathlib.Core.List.{List, [], _∷_}
 use lib.Dec.{leb, eqb}
 use lib.ListN.{length}
@@ -15,9 +15,9 @@ abbrev pub maxMessages : ℕ
 maxMessages = 4294967295
 
 module _ (a bs answers : List ℕ) where
-  -- the area, and room for an answer to each message
+  -- the area, room for an answer to each message, and no more messages than a count tells
   unfoldable pub deliverAllRefusal : ℕ
-  deliverAllRefusal = firstFailed (check (areaSound a) 10 ∷ check (leb (length (messagesIn bs)) (min (length answers) maxMessages)) 22 ∷ [])
+  deliverAllRefusal = firstFailed (check (areaSound a) 10 ∷ check (leb (length (messagesIn bs)) (length answers) && leb (length (messagesIn bs)) maxMessages) 22 ∷ [])
 
   -- the number of messages, or the refusal alone
   unfoldable pub deliverAllCount : MessageCount

@@ -21,7 +21,16 @@ pub fn message_length(part: &[u8], old: &[u8], new: &[u8], sender: u32, receiver
     let n = sent.count;
     let mut marks = [0u64; 16384];
     let words = length::mark_words(part);
-    let g = length::going(part, old, new, sender, receiver, low, n, &mut marks[..words]);
+    let g = length::going(
+        part,
+        old,
+        new,
+        sender,
+        receiver,
+        low,
+        n,
+        &mut marks[..words],
+    );
     Length {
         refusal: 0,
         length: message::layout::ghost_at(n, g) as u64,
@@ -49,17 +58,16 @@ pub fn build_message(
     let n = sent.count;
     let mut marks = [0u64; 16384];
     let words = length::mark_words(part);
-    let g = length::going(part, old, new, sender, receiver, low, n, &mut marks[..words]);
-    let size = message::layout::ghost_at(n, g);
-    if out.len() < size {
-        return Length {
-            refusal: 22,
-            length: 0,
-        };
-    }
-    write::write_message(part, old, new, sender, receiver, low, n, g, epoch, &marks[..words], &mut *out);
-    Length {
-        refusal: 0,
-        length: size as u64,
-    }
+    write::build_range(
+        part,
+        old,
+        new,
+        sender,
+        receiver,
+        low,
+        n,
+        epoch,
+        &mut marks[..words],
+        &mut *out,
+    )
 }

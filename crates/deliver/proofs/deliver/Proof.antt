@@ -15,7 +15,7 @@ returns : tie.Need-returns
 returns c = deliver-unsound _ _ (c .before .area-sound .ensures) (not-true _ (c .if1 .taken))
 
 deliver-sound-requires : tie.Need-deliver-sound-requires
-deliver-sound-requires c κs = sym (c .before .area-sound .ensures) ∙ not-false _ (c .if1 .left)
+deliver-sound-requires c κs = sym (c .before .before .area-sound .ensures) ∙ not-false _ (c .before .if1 .left)
 
 same-length-2 : tie.Need-same-length-2
 same-length-2 c = search needs

@@ -22,12 +22,12 @@ extern "C" {
     fn vejgodat_close_area(area: *const u8, area_len: usize, out: *mut u8, out_len: usize) -> Length;
 }
 
-fn library_open([old, new]: [&[u8]; 2], rank: u32, out: &mut [u8]) -> Length {
+pub fn library_open([old, new]: [&[u8]; 2], rank: u32, out: &mut [u8]) -> Length {
     let (a, b) = ((old.as_ptr(), old.len()), (new.as_ptr(), new.len()));
     unsafe { vejgodat_open_area(a.0, a.1, b.0, b.1, rank, 3, 1, out.as_mut_ptr(), out.len()) }
 }
 
-fn library_deliver(area: &mut [u8], message: &[u8]) -> u32 {
+pub fn library_deliver(area: &mut [u8], message: &[u8]) -> u32 {
     unsafe { vejgodat_deliver(area.as_mut_ptr(), area.len(), message.as_ptr(), message.len()) }
 }
 
@@ -61,7 +61,7 @@ fn places(area: &[u8]) -> (&[u8], usize, usize, usize) {
 }
 
 /// Any message of the area that wasn't delivered yet.
-fn deliver(area: &mut [u8], message: &[u8]) {
+pub fn deliver(area: &mut [u8], message: &[u8]) {
     let (new, words_at, trees_at, ghosts_at) = places(area);
     let (first, _) = range(new, number(area, 16));
     let (trees, ghosts) = (number(message, 24) as usize, number(message, 28) as usize);

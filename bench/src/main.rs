@@ -22,6 +22,7 @@ groups! {
     part
     message
     area
+    many
 }
 
 const RANKS: i64 = 1_024;

@@ -3,6 +3,7 @@ pub mod Run
 pub mod Lists
 pub mod Demand
 pub mod AfterList
+pub mod Runs
 pub mod Promises
 pub mod Refusals
 pub mod Examples

@@ -256,7 +256,9 @@
  *    new.
  *  - Nobody else writes a buffer of a call while the call runs.
  *  - The thread has stack left. \ref vejgodat_message_length,
- *    \ref vejgodat_build_message and \ref vejgodat_deliver take a set of
+ *    \ref vejgodat_build_message, \ref vejgodat_deliver,
+ *    \ref vejgodat_build_all_length, \ref vejgodat_build_all and
+ *    \ref vejgodat_deliver_all take a set of
  *    128 KiB there and less than 1 KiB more, every other call less than 1 KiB;
  *    \ref VEJGODAT_STACK_BYTES are enough for any. A thread made with a stack
  *    of 128 KiB is too small. Only \ref vejgodat_triangle_length and
@@ -522,6 +524,23 @@ typedef struct
   uint64_t            length;   /**< The number of bytes. */
 }
 vejgodat_length;
+
+/** How many numbers were written. When refused, the count is 0. */
+typedef struct
+{
+  uint32_t            refusal;  /**< 0, or why the call declined. */
+  uint32_t            count;    /**< How many numbers were written. */
+}
+vejgodat_count;
+
+/** The messages of one rank to all that it sends to, end to end. */
+typedef struct
+{
+  uint32_t            refusal;  /**< 0, or why the call declined. */
+  uint32_t            count;    /**< The number of messages. */
+  uint64_t            length;   /**< The bytes of all of them together. */
+}
+vejgodat_many;
 
 /** How far the assembly of a part has come. */
 typedef struct
@@ -1229,6 +1248,73 @@ vejgodat_length     vejgodat_build_message (const uint8_t * part,
                                             uint8_t * out, size_t out_len)
   VEJGODAT_USE_RESULT;
 
+/** Compute how many messages a rank has to build, and their length in all.
+ *
+ * Checks, in this order: 2, 3 and 4 as under Who sends; \ref VEJGODAT_INDEX (5)
+ * if \a sender is not below P; \ref VEJGODAT_PART (8) if the part isn't sound
+ * for the old table and the sender. A rank that sends nothing has no message,
+ * and that is no refusal.
+ * Cost: O(P) for the tables and the receivers and that of
+ * \ref vejgodat_check_part, once; then for each message its trees and their
+ * neighbours, and K / 8 bytes of a set of 128 KiB on the stack.
+ *
+ * \param [in] part       The part of \a sender under the old table; any bytes.
+ *                        Not changed.
+ * \param [in] part_len   The number of its bytes.
+ * \param [in] old_table  The old table; any bytes. Not changed.
+ * \param [in] old_len    The number of its bytes.
+ * \param [in] new_table  The new table; any bytes. Not changed.
+ * \param [in] new_len    The number of its bytes.
+ * \param [in] sender     A rank p; any number.
+ * \return                The size of the send set of p, and the bytes that
+ *                        \ref vejgodat_build_all needs as buffer.
+ */
+vejgodat_many       vejgodat_build_all_length (const uint8_t * part,
+                                               size_t part_len,
+                                               const uint8_t * old_table,
+                                               size_t old_len,
+                                               const uint8_t * new_table,
+                                               size_t new_len,
+                                               uint32_t sender)
+  VEJGODAT_USE_RESULT;
+
+/** Build the messages from one rank to all that it sends to.
+ *
+ * They are those of \ref vejgodat_build_message to each rank of the send set,
+ * that to the sender itself among them if it keeps a tree, ascending by
+ * receiver and end to end. The part is checked once. The receiver of each is
+ * the uint32_t at 20, its length 32 + 64 n + 40 g, with n and g at 24 and 28.
+ *
+ * Checks, in this order: 2, 3, 4, 5 and 8 as \ref vejgodat_build_all_length;
+ * \ref VEJGODAT_BUFFER (22) if \a out_len is below the length of all messages.
+ * Cost: that of \ref vejgodat_build_all_length, whose marks are made twice, and
+ * the bytes written.
+ *
+ * \param [in] part       The part of \a sender under the old table; any bytes.
+ *                        Not changed.
+ * \param [in] part_len   The number of its bytes.
+ * \param [in] old_table  The old table; any bytes. Not changed.
+ * \param [in] old_len    The number of its bytes.
+ * \param [in] new_table  The new table; any bytes. Not changed.
+ * \param [in] new_len    The number of its bytes.
+ * \param [in] sender     A rank p; any number.
+ * \param [in] epoch      Any number, the same for all messages of one move.
+ * \param [out] out       Its first bytes become the messages; the bytes behind
+ *                        them stay. When refused, all of them stay.
+ * \param [in] out_len    The number of bytes of \a out.
+ * \return                The number of messages, and the bytes written.
+ */
+vejgodat_many       vejgodat_build_all (const uint8_t * part,
+                                        size_t part_len,
+                                        const uint8_t * old_table,
+                                        size_t old_len,
+                                        const uint8_t * new_table,
+                                        size_t new_len,
+                                        uint32_t sender,
+                                        uint32_t epoch,
+                                        uint8_t * out, size_t out_len)
+  VEJGODAT_USE_RESULT;
+
 /** @} */
 
 /** \name Assembly
@@ -1319,6 +1405,41 @@ uint32_t            vejgodat_deliver (uint8_t * area, size_t area_len,
                                       size_t message_len)
   VEJGODAT_USE_RESULT;
 
+/** Deliver many messages to an area.
+ *
+ * The messages stand end to end, as they were received. Each is taken to be as
+ * long as its header says, 32 + 64 n + 40 g; a rest under 32 bytes, or shorter
+ * than its header says, counts as one message more, which isn't in layout. Each
+ * is delivered in its turn as \ref vejgodat_deliver does it, but the area is
+ * checked only once: it stays sound under any delivery.
+ *
+ * Checks, in this order: \ref VEJGODAT_AREA (10) if the area isn't sound;
+ * \ref VEJGODAT_BUFFER (22) if \a answers_len is below the number of messages,
+ * or there are more of these than a uint32_t can tell. What is wrong with a
+ * single message is no refusal of the call, but stands in \a answers.
+ * Cost: one pass over area and messages, a search by halves for each ghost that
+ * comes, the ghosts held above it moved, and a set of 128 KiB on the stack,
+ * cleared for each message.
+ *
+ * \param [in,out] area     An area; any bytes. When refused, all of them stay;
+ *                          those behind the area always do.
+ * \param [in] area_len     The number of its bytes.
+ * \param [in] messages     Messages, end to end; any bytes. Not changed.
+ * \param [in] messages_len The number of their bytes.
+ * \param [out] answers     Entry i becomes what \ref vejgodat_deliver would
+ *                          have answered to message i: 0, or 11 to 19. The
+ *                          entries behind the last message stay. When refused,
+ *                          all of them stay.
+ * \param [in] answers_len  The number of entries, not bytes, of \a answers.
+ * \return                  The number of messages, taken or not.
+ */
+vejgodat_count      vejgodat_deliver_all (uint8_t * area, size_t area_len,
+                                          const uint8_t * messages,
+                                          size_t messages_len,
+                                          uint32_t * answers,
+                                          size_t answers_len)
+  VEJGODAT_USE_RESULT;
+
 /** Find how many senders are heard and how many are due.
  *
  * Checks: \ref VEJGODAT_AREA (10) if the area isn't sound.
@@ -1405,14 +1526,6 @@ typedef struct
   uint32_t            leaves;   /**< How many there are, the sum of both. */
 }
 vejgodat_leaves;
-
-/** How many numbers were written. When refused, the count is 0. */
-typedef struct
-{
-  uint32_t            refusal;  /**< 0, or the first check that failed. */
-  uint32_t            count;    /**< How many numbers were written. */
-}
-vejgodat_count;
 
 /** Count the leaves of a tree's refinement.
  *

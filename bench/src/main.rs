@@ -31,6 +31,7 @@ groups! {
     ranks
     faults
     columns
+    many
 }
 
 const RANKS: i64 = 1_024;

@@ -2,6 +2,7 @@
 
 #include <stdio.h>
 #include <stdlib.h>
+#include <string.h>
 
 void
 must (uint32_t refusal, const char *call)
@@ -47,97 +48,201 @@ room (size_t bytes)
   return at;
 }
 
+/* what a rank works with from one table to the next */
+typedef struct
+{
+  MPI_Comm            comm;
+  int                 tag;
+  uint32_t            me, due, sends;
+  const uint8_t      *old_table, *new_table;
+  size_t              table_len, area_len;
+  uint8_t            *area, *out;
+  MPI_Request        *requests;
+}
+move;
+
+/* Open the area in which the new part is put together. */
+static void
+open_area (move * it, uint32_t epoch, uint32_t dimension)
+{
+  vejgodat_length     length;
+
+  length = vejgodat_area_length (it->old_table, it->table_len, it->new_table,
+                                 it->table_len, it->me, dimension);
+  must (length.refusal, "vejgodat_area_length");
+  it->area_len = (size_t) length.length;
+  it->area = room (it->area_len);
+  length = vejgodat_open_area (it->old_table, it->table_len, it->new_table,
+                               it->table_len, it->me, dimension, epoch,
+                               it->area, it->area_len);
+  must (length.refusal, "vejgodat_open_area");
+}
+
+/* Build the messages to all ranks of the send set, this rank too where it keeps a tree, in one buffer, and send its
+ * pieces: the receiver of each stands at byte 20, its numbers of trees and ghosts at 24 and 28. */
+static void
+send_all (move * it, uint32_t epoch, const mesh_part * part)
+{
+  uint32_t            i;
+  size_t              at, bytes;
+  vejgodat_many       many;
+
+  many = vejgodat_build_all_length (part->bytes, part->length, it->old_table,
+                                    it->table_len, it->new_table,
+                                    it->table_len, it->me);
+  must (many.refusal, "vejgodat_build_all_length");
+  it->out = room ((size_t) many.length);
+  many = vejgodat_build_all (part->bytes, part->length, it->old_table,
+                             it->table_len, it->new_table, it->table_len,
+                             it->me, epoch, it->out, (size_t) many.length);
+  must (many.refusal, "vejgodat_build_all");
+  it->sends = many.count;
+  it->requests = room (many.count * sizeof *it->requests);
+  for (at = 0, i = 0; i < many.count; ++i, at += bytes) {
+    bytes = 32 + 64 * (size_t) vejgodat_number_at (it->out + at + 24)
+      + 40 * (size_t) vejgodat_number_at (it->out + at + 28);
+    /* a message has at most 32 + 64 K bytes, which an int holds */
+    MPI_Isend (it->out + at, (int) bytes, MPI_BYTE,
+               (int) vejgodat_number_at (it->out + at + 20), it->tag,
+               it->comm, &it->requests[i]);
+  }
+}
+
+/* How many messages are due: as many as the receive set has ranks. */
+static void
+count_due (move * it, int size)
+{
+  uint32_t           *ranks = room ((size_t) size * sizeof *ranks);
+  vejgodat_ranks      set;
+
+  set = vejgodat_receive_set (it->old_table, it->table_len, it->new_table,
+                              it->table_len, it->me, ranks, (size_t) size);
+  must (set.refusal, "vejgodat_receive_set");
+  it->due = set.count;
+  free (ranks);
+}
+
+/* Receive all messages behind each other, in whatever order they come, and deliver them under one check of the area. */
+static void
+take_together (move * it)
+{
+  uint8_t            *all = NULL, *more;
+  uint32_t           *answers = room (it->due * sizeof *answers);
+  uint32_t            i;
+  size_t              length = 0, have = 0;
+  int                 bytes;
+  vejgodat_count      count;
+  MPI_Status          status;
+
+  for (i = 0; i < it->due; ++i, length += (size_t) bytes) {
+    MPI_Probe (MPI_ANY_SOURCE, it->tag, it->comm, &status);
+    MPI_Get_count (&status, MPI_BYTE, &bytes);
+    if (have - length < (size_t) bytes) {
+      have = 2 * have + (size_t) bytes;
+      more = room (have);
+      if (length > 0) {
+        memcpy (more, all, length);
+      }
+      free (all);
+      all = more;
+    }
+    MPI_Recv (all + length, bytes, MPI_BYTE, status.MPI_SOURCE, it->tag,
+              it->comm, MPI_STATUS_IGNORE);
+  }
+  count = vejgodat_deliver_all (it->area, it->area_len, all, length, answers,
+                                it->due);
+  must (count.refusal, "vejgodat_deliver_all");
+  for (i = 0; i < count.count; ++i) {
+    must (answers[i], "vejgodat_deliver_all, a message");
+  }
+  free (all);
+  free (answers);
+}
+
+/* Deliver each message as it comes: less memory, and work while others are under way; but each call checks the area. */
+static void
+take_as_they_come (move * it)
+{
+  uint8_t            *message;
+  uint32_t            i;
+  int                 bytes;
+  MPI_Status          status;
+
+  for (i = 0; i < it->due; ++i) {
+    MPI_Probe (MPI_ANY_SOURCE, it->tag, it->comm, &status);
+    MPI_Get_count (&status, MPI_BYTE, &bytes);
+    message = room ((size_t) bytes);
+    MPI_Recv (message, bytes, MPI_BYTE, status.MPI_SOURCE, it->tag, it->comm,
+              MPI_STATUS_IGNORE);
+    must (vejgodat_deliver (it->area, it->area_len, message, (size_t) bytes),
+          "vejgodat_deliver");
+    free (message);
+  }
+}
+
+/* Put the new part in the place of the old one, whose messages are built. */
+static void
+close_area (move * it, mesh_part * part)
+{
+  vejgodat_length     length;
+  vejgodat_progress   progress;
+
+  /* asked once: each of these calls looks at the whole area */
+  progress = vejgodat_progress_of (it->area, it->area_len);
+  must (progress.refusal, "vejgodat_progress_of");
+  must (progress.heard < progress.due ? VEJGODAT_MISSING : VEJGODAT_OK,
+        "exchange");
+  free (part->bytes);
+  length = vejgodat_part_of_area_length (it->area, it->area_len);
+  must (length.refusal, "vejgodat_part_of_area_length");
+  part->length = (size_t) length.length;
+  part->bytes = room (part->length);
+  length = vejgodat_close_area (it->area, it->area_len, part->bytes,
+                                part->length);
+  must (length.refusal, "vejgodat_close_area");
+}
+
+static void
+exchange_by (void (*take) (move *), MPI_Comm comm, uint32_t epoch,
+             const uint8_t * old_table, const uint8_t * new_table,
+             size_t table_len, mesh_part * part)
+{
+  int                 size, rank;
+  move                it;
+
+  MPI_Comm_size (comm, &size);
+  MPI_Comm_rank (comm, &rank);
+  it.comm = comm;
+  /* messages of the next epoch may come before this one is done: the tag keeps them apart */
+  it.tag = (int) (epoch % 32768);
+  it.me = (uint32_t) rank;
+  it.old_table = old_table;
+  it.new_table = new_table;
+  it.table_len = table_len;
+  open_area (&it, epoch, vejgodat_part_dimension (part->bytes));
+  send_all (&it, epoch, part);
+  count_due (&it, size);
+  take (&it);
+  close_area (&it, part);
+  MPI_Waitall ((int) it.sends, it.requests, MPI_STATUSES_IGNORE);
+  free (it.requests);
+  free (it.out);
+  free (it.area);
+}
+
 void
 exchange (MPI_Comm comm, uint32_t epoch, const uint8_t * old_table,
           const uint8_t * new_table, size_t table_len, mesh_part * part)
 {
-  /* messages of the next epoch may come before this one is done: the tag keeps them apart */
-  const int           tag = (int) (epoch % 32768);
-  const uint32_t      dimension = vejgodat_part_dimension (part->bytes);
-  int                 size, rank, bytes;
-  uint32_t            i, me, sends, *ranks;
-  size_t              area_len;
-  uint8_t           **messages, *area, *message;
-  vejgodat_ranks      set;
-  vejgodat_length     length;
-  vejgodat_progress   progress;
-  MPI_Request        *requests;
-  MPI_Status          status;
+  exchange_by (take_together, comm, epoch, old_table, new_table, table_len,
+               part);
+}
 
-  MPI_Comm_size (comm, &size);
-  MPI_Comm_rank (comm, &rank);
-  me = (uint32_t) rank;
-  ranks = room ((size_t) size * sizeof *ranks);
-
-  /* open the area in which the new part is put together */
-  length = vejgodat_area_length (old_table, table_len, new_table, table_len,
-                                 me, dimension);
-  must (length.refusal, "vejgodat_area_length");
-  area_len = (size_t) length.length;
-  area = room (area_len);
-  length = vejgodat_open_area (old_table, table_len, new_table, table_len,
-                               me, dimension, epoch, area, area_len);
-  must (length.refusal, "vejgodat_open_area");
-
-  /* send a message to each rank of the send set, this rank too where it keeps a tree */
-  set = vejgodat_send_set (old_table, table_len, new_table, table_len, me,
-                           ranks, (size_t) size);
-  must (set.refusal, "vejgodat_send_set");
-  sends = set.count;
-  messages = room (sends * sizeof *messages);
-  requests = room (sends * sizeof *requests);
-  for (i = 0; i < sends; ++i) {
-    length = vejgodat_message_length (part->bytes, part->length, old_table,
-                                      table_len, new_table, table_len, me,
-                                      ranks[i]);
-    must (length.refusal, "vejgodat_message_length");
-    messages[i] = room ((size_t) length.length);
-    length = vejgodat_build_message (part->bytes, part->length, old_table,
-                                     table_len, new_table, table_len, me,
-                                     ranks[i], epoch, messages[i],
-                                     (size_t) length.length);
-    must (length.refusal, "vejgodat_build_message");
-    /* a message has at most 32 + 64 K bytes, which an int holds */
-    MPI_Isend (messages[i], (int) length.length, MPI_BYTE, (int) ranks[i],
-               tag, comm, &requests[i]);
-  }
-
-  /* take as many messages as the receive set has ranks, in whatever order they come */
-  set = vejgodat_receive_set (old_table, table_len, new_table, table_len, me,
-                              ranks, (size_t) size);
-  must (set.refusal, "vejgodat_receive_set");
-  for (i = 0; i < set.count; ++i) {
-    MPI_Probe (MPI_ANY_SOURCE, tag, comm, &status);
-    MPI_Get_count (&status, MPI_BYTE, &bytes);
-    message = room ((size_t) bytes);
-    MPI_Recv (message, bytes, MPI_BYTE, status.MPI_SOURCE, tag, comm,
-              MPI_STATUS_IGNORE);
-    must (vejgodat_deliver (area, area_len, message, (size_t) bytes),
-          "vejgodat_deliver");
-    free (message);
-  }
-
-  /* asked once: each of these calls looks at the whole area */
-  progress = vejgodat_progress_of (area, area_len);
-  must (progress.refusal, "vejgodat_progress_of");
-  must (progress.heard < progress.due ? VEJGODAT_MISSING : VEJGODAT_OK,
-        "exchange");
-
-  /* the old part may go once its messages are built */
-  free (part->bytes);
-  length = vejgodat_part_of_area_length (area, area_len);
-  must (length.refusal, "vejgodat_part_of_area_length");
-  part->length = (size_t) length.length;
-  part->bytes = room (part->length);
-  length = vejgodat_close_area (area, area_len, part->bytes, part->length);
-  must (length.refusal, "vejgodat_close_area");
-
-  MPI_Waitall ((int) sends, requests, MPI_STATUSES_IGNORE);
-  for (i = 0; i < sends; ++i) {
-    free (messages[i]);
-  }
-  free (requests);
-  free (messages);
-  free (area);
-  free (ranks);
+void
+exchange_as_they_come (MPI_Comm comm, uint32_t epoch,
+                       const uint8_t * old_table, const uint8_t * new_table,
+                       size_t table_len, mesh_part * part)
+{
+  exchange_by (take_as_they_come, comm, epoch, old_table, new_table,
+               table_len, part);
 }

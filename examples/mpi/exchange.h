@@ -22,10 +22,17 @@ void                must_be_sound (vejgodat_fault fault, const char *name,
 
 /* Collective over comm, which has as many ranks as the tables. Each rank gives its part under the old table, and then
  * has that under the new one. All ranks give the same tables of table_len bytes and the same epoch, one higher in each
- * call. */
+ * call. All messages of a rank are built, and all that it gets delivered, under one check. */
 void                exchange (MPI_Comm comm, uint32_t epoch,
                               const uint8_t * old_table,
                               const uint8_t * new_table, size_t table_len,
                               mesh_part * part);
+
+/* The same, each message delivered as it comes: better where a rank has few partners and the messages come far apart. */
+void                exchange_as_they_come (MPI_Comm comm, uint32_t epoch,
+                                           const uint8_t * old_table,
+                                           const uint8_t * new_table,
+                                           size_t table_len,
+                                           mesh_part * part);
 
 #endif

@@ -117,11 +117,19 @@ TAKE_LENGTH (message_length,
 TAKE_LENGTH (build_message,
              vejgodat_build_message (part, part_len, OLD, NEW, 0, 0, 1,
                                      message, sizeof message))
+TAKE_LENGTH (build_all_length,
+             vejgodat_build_all_length (part, part_len, OLD, NEW, 0))
+TAKE_LENGTH (build_all,
+             vejgodat_build_all (part, part_len, OLD, NEW, 0, 1, message,
+                                 sizeof message))
 TAKE (check_message, vejgodat_check_message (message, message_len))
 TAKE_LENGTH (area_length, vejgodat_area_length (OLD, NEW, 0, 2))
 TAKE_LENGTH (open_area,
              vejgodat_open_area (OLD, NEW, 0, 2, 1, area, sizeof area))
 TAKE (deliver, vejgodat_deliver (area, area_len, message, message_len))
+TAKE_LENGTH (deliver_all,
+             vejgodat_deliver_all (area, area_len, message, message_len,
+                                   list, 2))
 TAKE_LENGTH (progress_of, vejgodat_progress_of (area, area_len))
 TAKE_LENGTH (part_of_area_length,
              vejgodat_part_of_area_length (area, area_len))
@@ -228,8 +236,10 @@ main (void)
     CALL (check_mesh), CALL (brick_length), CALL (write_brick),
     CALL (part_length), CALL (cut_part),
     CALL (check_part), CALL (neighbour_of), CALL (lookup),
-    CALL (message_length), CALL (build_message), CALL (check_message),
+    CALL (message_length), CALL (build_message),
+    CALL (build_all_length), CALL (build_all), CALL (check_message),
     CALL (area_length), CALL (open_area), CALL (deliver),
+    CALL (deliver_all),
     CALL (progress_of), CALL (part_of_area_length), CALL (close_area),
     CALL (region_counts), CALL (part_to_columns), CALL (columns_to_part),
     CALL (trees_at_point), CALL (trees_below), CALL (trees_between),

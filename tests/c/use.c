@@ -687,6 +687,86 @@ areas (void)
   }
 }
 
+/* All messages of a rank at once, and all messages of a run delivered at once. */
+static void
+many_messages (void)
+{
+  static const int64_t old_entries[4] = { 0, 1, 3, 3 };
+  static const int64_t new_entries[4] = { 0, -1, 2, 3 };
+  uint8_t             mesh[VEJGODAT_MESH_BYTES (3)];
+  uint8_t             old_table[32], new_table[32], part[256], single[256];
+  uint8_t             messages[1024], area[1024], before[1024], joined[256];
+  uint32_t            answers[6], p, q, i;
+  size_t              part_len, all = 0, at, area_len;
+  vejgodat_length     answer;
+  vejgodat_many       many;
+  vejgodat_count      count;
+
+  EXPECT (sizeof (vejgodat_many) == 16);
+  put_triangles (mesh);
+  put_table (old_table, 3, old_entries);
+  put_table (new_table, 3, new_entries);
+  for (p = 0; p < 3; ++p) {
+    answer = vejgodat_cut_part (mesh, sizeof mesh, old_table, 32, p, part,
+                                256);
+    part_len = (size_t) answer.length;
+    many = vejgodat_build_all_length (part, part_len, old_table, 32,
+                                      new_table, 32, p);
+    EXPECT (many.refusal == VEJGODAT_OK && many.count == (p < 2 ? 2 : 0));
+    if (p < 2) {
+      count.refusal = vejgodat_build_all (part, part_len, old_table, 32,
+                                          new_table, 32, p, 7,
+                                          messages + all,
+                                          (size_t) many.length - 1).refusal;
+      EXPECT (count.refusal == VEJGODAT_BUFFER);
+    }
+    EXPECT (vejgodat_build_all (part, part_len, old_table, 32, new_table, 32,
+                                p, 7, messages + all, 1024 - all).length
+            == many.length);
+    /* the same as one by one */
+    for (at = all, q = 0; q < 3; ++q) {
+      answer = vejgodat_build_message (part, part_len, old_table, 32,
+                                       new_table, 32, p, q, 7, single, 256);
+      if (answer.refusal == VEJGODAT_OK) {
+        EXPECT (memcmp (messages + at, single, (size_t) answer.length) == 0);
+        at += (size_t) answer.length;
+      }
+    }
+    all += (size_t) many.length;
+    EXPECT (at == all);
+  }
+  EXPECT (vejgodat_build_all_length (part, part_len, old_table, 32, new_table,
+                                     32, 3).refusal == VEJGODAT_INDEX);
+  for (q = 0; q < 3; ++q) {
+    memset (area, 0, sizeof area);
+    answer = vejgodat_open_area (old_table, 32, new_table, 32, q, 2, 7, area,
+                                 sizeof area);
+    area_len = (size_t) answer.length;
+    memcpy (before, area, sizeof area);
+    for (i = 0; i < 6; ++i) {
+      answers[i] = 99;
+    }
+    count = vejgodat_deliver_all (area, area_len, messages, all, answers, 3);
+    EXPECT (count.refusal == VEJGODAT_BUFFER && count.count == 0);
+    EXPECT (memcmp (area, before, sizeof area) == 0 && answers[0] == 99);
+    /* and a rest that is no message */
+    messages[all] = 1;
+    count = vejgodat_deliver_all (area, area_len, messages, all + 1, answers,
+                                  6);
+    EXPECT (count.refusal == VEJGODAT_OK && count.count == 5);
+    EXPECT (answers[0] == (q == 0 ? VEJGODAT_OK : VEJGODAT_RECEIVER));
+    EXPECT (answers[3] == (q == 2 ? VEJGODAT_OK : VEJGODAT_RECEIVER));
+    EXPECT (answers[4] == VEJGODAT_LAYOUT && answers[5] == 99);
+    answer = vejgodat_cut_part (mesh, sizeof mesh, new_table, 32, q, part,
+                                256);
+    EXPECT (vejgodat_close_area (area, area_len, joined, 256).length
+            == answer.length);
+    EXPECT (memcmp (joined, part, (size_t) answer.length) == 0);
+    count = vejgodat_deliver_all (area, 31, messages, all, answers, 6);
+    EXPECT (count.refusal == VEJGODAT_AREA);
+  }
+}
+
 /* A triangle's refinements, strings that aren't any, and a list of trees whose counts become a table. */
 static void
 refinements (void)
@@ -1082,6 +1162,7 @@ main (void)
   parts ();
   messages ();
   areas ();
+  many_messages ();
   refinements ();
   regions ();
   probes ();

@@ -401,8 +401,9 @@ main (int argc, char **argv)
           if (permuted) {
             permute (old_table, new_table, table_len, me);
           }
-          exchange (MPI_COMM_WORLD, number++, old_table, new_table, table_len,
-                    &part);
+          /* all messages at once, or each as it comes */
+          (epoch / 2 % 2 ? exchange_as_they_come : exchange)
+            (MPI_COMM_WORLD, number++, old_table, new_table, table_len, &part);
           cut (mesh, trees, new_table, table_len, me, &expected);
           if (part.length != expected.length
               || memcmp (part.bytes, expected.bytes, part.length) != 0

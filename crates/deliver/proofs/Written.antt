@@ -3,7 +3,7 @@ use Prim.Native.Nat.{ℕ, _+_, _-_, _*_, _/_, _%_, _≤_, _<_}
 use native.Mathlib.Nat.{mod-lt}
 use native.Mathlib.Omega.{arith}
 use mathlib.Core.Path.{_≡_, sym, ap, ap₂, fun-ext, _∙_}
-use mathlib.Core.Bool.{Bool, true, _&&_, _||_, or-false, or-comm}
+use mathlib.Core.Bool.{Bool, true, false, _&&_, _||_, or-false, or-comm}
 use mathlib.Core.List.{List, _++_}
 use lib.Dec.{leb, ltb, eqb}
 use lib.ListN.{length, take, drop}
@@ -23,7 +23,7 @@ use Rattle.pattern.specs.Sender.{Tables, sends, sentCount}
 use Rattle.pattern.proofs.Sets.{one-range, sent-in}
 use Rattle.message.specs.Layout.{messageSender, messageTrees, messageGhosts, messageGhostPlace, messageGhost}
 use Rattle.area.specs.Layout.{heardWords, wordsPlace, slotsPlace, ghostSlotsPlace, wordOf, slotsOf, areaWith}
-use Rattle.area.specs.Area.{areaEpoch, areaDimension, areaK, areaP, areaRank, areaCount, areaGhosts, areaOld, areaNew, areaFirst, heard, treeSlot, ghostSlot, behindArea}
+use Rattle.area.specs.Area.{areaEpoch, areaDimension, areaK, areaP, areaRank, areaCount, areaGhosts, areaOld, areaNew, areaFirst, heard, treeSlot, ghostSlot, areaSound, behindArea}
 use Rattle.area.specs.Deliver.{deliverChecks, slotAfter, ghostsAfter, delivered, deliverOf}
 use Rattle.area.specs.Means.{fromFirst, fromPlace, coreAt}
 use Rattle.area.proofs.Headers.{words-place-is, slots-place-is, ghosts-place-is, words-enough}
@@ -254,3 +254,8 @@ module _ (a m : List ℕ) {r : ℕ} (checked : r ≡ firstFailed (deliverChecks 
   pub deliver-accepted : r ≡ 0 → {last : List ℕ} → last ≡ delivered a m → (0, last) ≡ deliverOf a m
   unfolding deliverOf
   deliver-accepted z e = rw (← checked, z, e)
+
+-- into an area that isn't sound
+pub deliver-unsound : (a m : List ℕ) {s : Bool} → s ≡ areaSound a → s ≡ false → (10, a) ≡ deliverOf a m
+unfolding deliverOf deliverChecks firstFailed
+deliver-unsound a m e f = rw (← e, f)

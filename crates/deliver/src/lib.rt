@@ -3,16 +3,15 @@ ghost use mathlib.Core.Path.{_≡_};
 ghost use Rattle.area.specs.Deliver.{deliverOf};
 
 pub mod merge;
+pub mod sound;
 pub mod write;
 
 // Deliver a message (10 to 18): 0 or the refusal.
 pub fn deliver(area: &mut [u8], message: &[u8]) -> u32
     ensures { λ r. ⌜ (r, now (area .exit)) ≡ deliverOf (now (area .entry)) (now (message .entry)) ⌝ }
 {
-    let refusal = deliver_check::check::refusal(&*area, message);
-    if refusal != 0 {
-        return refusal;
+    if !area_check::sound::area_sound(&*area) {
+        return 10;
     }
-    write::write_delivery(&mut *area, message);
-    0
+    sound::deliver_sound(&mut *area, message)
 }

@@ -125,43 +125,37 @@ module _ (a m : List ℕ) where
             unfolding dueChecks firstFailed
             none-fails f = rw (← is-s, ok-s, heard-is, ok-h, ← is-t, ok-t, ← is-g, ok-g, ← is-n, f)
 
-module _ (a m : List ℕ) where
-  module _ {s : Bool} (is-s : s ≡ areaSound a) where
-    pub fails-area : s ≡ false → 10 ≡ firstFailed (deliverChecks a m)
-    unfolding deliverChecks firstFailed
-    fails-area f = rw (← is-s, f)
+module _ (a m : List ℕ) (sound : areaSound a ≡ true) {l : Bool} (is-l : l ≡ inLayout m) where
+  pub fails-layout : l ≡ false → 11 ≡ firstFailed (deliverChecks a m)
+  unfolding deliverChecks firstFailed
+  fails-layout f = rw (sound, ← is-l, f)
 
-    module _ (ok-s : s ≡ true) {l : Bool} (is-l : l ≡ inLayout m) where
-      pub fails-layout : l ≡ false → 11 ≡ firstFailed (deliverChecks a m)
+  module _ (ok-l : l ≡ true) where
+    pub headed : Bytes a → Headed a m
+    headed b = record { area = omega (arith, sound-holds a sound b .long); message = layout-header m (sym is-l ∙ ok-l) }
+
+    module _ {r : Bool} (is-r : r ≡ sameRun a m) where
+      pub fails-run : r ≡ false → 12 ≡ firstFailed (deliverChecks a m)
       unfolding deliverChecks firstFailed
-      fails-layout f = rw (← is-s, ok-s, ← is-l, f)
+      fails-run f = rw (sound, ← is-l, ok-l, ← is-r, f)
 
-      module _ (ok-l : l ≡ true) where
-        pub headed : Bytes a → Headed a m
-        headed b = record { area = omega (arith, sound-holds a (sym is-s ∙ ok-s) b .long); message = layout-header m (sym is-l ∙ ok-l) }
+      module _ (ok-r : r ≡ true) where
+        pub ready : Bytes a → Checkable a m
+        unfolding sameRun
+        ready b =
+            let e : (eqb (messageEpoch m) (areaEpoch a) && eqb (messageDimension m) (areaDimension a) && eqb (messageK m) (areaK a)) ≡ true = and-fst _ _ (sym is-r ∙ ok-r) in
+            record {
+              header = sound-holds a sound b;
+              sound = sound;
+              laid = sym is-l ∙ ok-l;
+              sameTrees = eqb-true _ _ (and-snd (eqb (messageEpoch m) (areaEpoch a) && eqb (messageDimension m) (areaDimension a)) (eqb (messageK m) (areaK a)) e);
+            }
 
-        module _ {r : Bool} (is-r : r ≡ sameRun a m) where
-          pub fails-run : r ≡ false → 12 ≡ firstFailed (deliverChecks a m)
+        module _ {q : Bool} (is-q : q ≡ eqb (messageReceiver m) (areaRank a)) where
+          pub fails-receiver : q ≡ false → 13 ≡ firstFailed (deliverChecks a m)
           unfolding deliverChecks firstFailed
-          fails-run f = rw (← is-s, ok-s, ← is-l, ok-l, ← is-r, f)
+          fails-receiver f = rw (sound, ← is-l, ok-l, ← is-r, ok-r, ← is-q, f)
 
-          module _ (ok-r : r ≡ true) where
-            pub ready : Bytes a → Checkable a m
-            unfolding sameRun
-            ready b =
-                let e : (eqb (messageEpoch m) (areaEpoch a) && eqb (messageDimension m) (areaDimension a) && eqb (messageK m) (areaK a)) ≡ true = and-fst _ _ (sym is-r ∙ ok-r) in
-                record {
-                  header = sound-holds a (sym is-s ∙ ok-s) b;
-                  sound = sym is-s ∙ ok-s;
-                  laid = sym is-l ∙ ok-l;
-                  sameTrees = eqb-true _ _ (and-snd (eqb (messageEpoch m) (areaEpoch a) && eqb (messageDimension m) (areaDimension a)) (eqb (messageK m) (areaK a)) e);
-                }
-
-            module _ {q : Bool} (is-q : q ≡ eqb (messageReceiver m) (areaRank a)) where
-              pub fails-receiver : q ≡ false → 13 ≡ firstFailed (deliverChecks a m)
-              unfolding deliverChecks firstFailed
-              fails-receiver f = rw (← is-s, ok-s, ← is-l, ok-l, ← is-r, ok-r, ← is-q, f)
-
-              pub rest-checks : q ≡ true → {x : ℕ} → x ≡ firstFailed (dueChecks a m) → x ≡ firstFailed (deliverChecks a m)
-              unfolding deliverChecks dueChecks firstFailed
-              rest-checks f e = e ∙ rw (← is-s, ok-s, ← is-l, ok-l, ← is-r, ok-r, ← is-q, f)
+          pub rest-checks : q ≡ true → {x : ℕ} → x ≡ firstFailed (dueChecks a m) → x ≡ firstFailed (deliverChecks a m)
+          unfolding deliverChecks dueChecks firstFailed
+          rest-checks f e = e ∙ rw (sound, ← is-l, ok-l, ← is-r, ok-r, ← is-q, f)

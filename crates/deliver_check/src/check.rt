@@ -8,7 +8,7 @@ ghost use Rattle.encoding.specs.Below.{allBelow};
 ghost use Rattle.encoding.specs.Refusal.{firstFailed};
 ghost use Rattle.records.specs.Record.{numberOf};
 ghost use Rattle.message.specs.Layout.{messageHeader, messageSender, messageReceiver, messageTreePlace, messageTree, inLayout};
-ghost use Rattle.area.specs.Area.{areaP, areaRank};
+ghost use Rattle.area.specs.Area.{areaP, areaRank, areaSound};
 ghost use Rattle.area.specs.Means.{Tabled};
 ghost use Rattle.area.specs.Deliver.{sameRun, senderDue, treesDue, deliverChecks};
 ghost use Rattle.deliver_check.specs.Means.{Headed, Checkable, dueChecks};
@@ -98,13 +98,11 @@ fn due_refusal(area: &[u8], old: &[u8], new: &[u8], message: &[u8]) -> u32
     0
 }
 
-// Whether a sound area takes a message (10 to 18): 0 or the refusal.
+// Whether a sound area takes a message (11 to 18): 0 or the refusal.
 pub fn refusal(area: &[u8], message: &[u8]) -> u32
+    requires { ⌜ areaSound (now area) ≡ true ⌝ }
     ensures { λ r. ⌜ r ≡ firstFailed (deliverChecks (now (area .entry)) (now (message .entry))) ⌝ }
 {
-    if !area_check::sound::area_sound(area) {
-        return 10;
-    }
     if !message::layout::in_layout(message) {
         return 11;
     }

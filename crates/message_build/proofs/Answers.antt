@@ -5,43 +5,84 @@ use mathlib.Core.Path.{_≡_, refl, sym, ap, _∙_}
 use mathlib.Core.Bool.{Bool, true, false, cond, _&&_}
 use mathlib.Core.List.{List, [], _∷_, _++_}
 use lib.Dec.{leb, ltb, eqb}
-use lib.ListN.{length, replicate, length-replicate}
+use lib.ListN.{length, take, replicate, length-replicate}
+use lib.Seq.{length-take-le}
 use borrow.Author.Tests.{ltb-true, eqb-true, lt-ltb, le-ltb, eq-eqb, ne-eqb, le-leb, lt-leb}
 use Rattle.encoding.specs.Below.{countBelow}
 use Rattle.encoding.specs.Pieces.{splice, Bytes}
 use Rattle.encoding.specs.Refusal.{check, firstFailed}
 use Rattle.encoding.specs.Answer.{lengthAnswer, lengthRefused, written, writeAnswer}
-use Rattle.encoding.proofs.Below.{either, clash, and-fst, and-snd}
+use Rattle.encoding.specs.declared.answer.Length.{Length}
+use Rattle.encoding.proofs.Below.{either, clash, and-fst, and-snd, count-le}
 use Rattle.bits.specs.Bits.{inSet}
-use Rattle.bits.proofs.Bits.{in-none}
+use Rattle.offsets.specs.Limits.{maxTrees}
 use Rattle.offsets.specs.Table.{ranks, ranksOk, trees, valid}
+use Rattle.offsets.proofs.Tables.{trees-high}
 use Rattle.pattern.specs.Calls.{tableChecks}
 use Rattle.pattern.specs.Means.{PairOf}
-use Rattle.pattern.specs.Sender.{sentCount}
+use Rattle.pattern.specs.Sender.{sentFirst, sentCount}
 use Rattle.pattern.specs.Sets.{sendsTo}
 use Rattle.pattern.proofs.Answers.{tables-agree}
-use Rattle.part.specs.Part.{partSound}
+use Rattle.pattern.proofs.Sets.{sent-below}
+use Rattle.part.specs.Layout.{partHeader}
+use Rattle.part.specs.Part.{partK, partHolds, partCore, partSound}
 use Rattle.part.specs.Means.{RankKnown}
-use Rattle.message.specs.Build.{partMessage}
+use Rattle.part_theorems.proofs.SoundParts.{part-header, part-length}
+use Rattle.message.specs.Build.{partRecord, partMessage}
+use Rattle.message.specs.Rule.{ghostGoes}
 use Rattle.message.specs.Calls.{buildChecks, messageLengthOf, buildMessageOf}
 use Rattle.message.specs.Layout.{messageSize}
-use Rattle.message_ghosts.specs.Means.{Blank, Sending, Marks}
-use Rattle.message_build.specs.Means.{MessageRoom}
+use Rattle.message_ghosts.specs.Means.{markWords, Room, Marks, Sending, SendingRange}
+use Rattle.message_build.specs.Means.{Going, MessageRoom, builtRange}
 use Rattle.message_build.proofs.Whole.{count-is, built-length}
 
 -- ---- the ghosts that go
 
--- a set of zeros has no member
-pub blank : (n : ℕ) → n ≡ 16384 → Blank (replicate n 0)
-blank n e = record { long = length-replicate {A = ℕ} n 0 ∙ e; none = in-none n }
+module _ (part old new : List ℕ) (p q low n : ℕ) (range : SendingRange part old new p q low n) where
+  abbrev from : Sending part old new p q
+  from = range .sending
 
-module _ (part old new : List ℕ) (p q : ℕ) (from : Sending part old new p q) (marks : List ℕ) (ghosts : Marks part old new p q marks) (epoch : ℕ) where
-  -- the size counted is the message's length
-  pub size-is : {n : ℕ} → n ≡ messageSize (sentCount old new p q) (countBelow (64 * length marks) (inSet marks)) → n ≡ length (partMessage part old new p q epoch)
-  size-is e = e ∙ ap (messageSize (sentCount old new p q)) (count-is part old new p q from marks ghosts) ∙ sym (built-length part old new p q from epoch)
+  -- they are marked and counted, which gives the message's length
+  pub ghosts-go : (marks : List ℕ) {g : ℕ} → Marks part old new p q marks → g ≡ countBelow (64 * length marks) (inSet marks) → Going part old new p q n g marks
+  ghosts-go marks {g} ghosts e =
+      let c : g ≡ countBelow (trees old) (ghostGoes (partCore part) old new (partHolds part) (partRecord part) p q) = e ∙ count-is part old new p q from marks ghosts in
+      let T = from .pair .tables in
+      let K = trees-high old (T .oldBytes) (T .oldRanks) (T .oldValid) in
+      let sent = sent-below old new T p q (from .pair .senderBelow) (from .pair .receiverBelow) in
+      record {
+        marked = ghosts;
+        counted = e;
+        long = λ epoch. rw (range .many, c) (sym (built-length part old new p q from epoch));
+        small = omega (arith, range .many, count-le (trees old) (ghostGoes (partCore part) old new (partHolds part) (partRecord part) p q));
+      }
 
-  pub message-room : (out : List ℕ) {n : ℕ} → n ≡ messageSize (sentCount old new p q) (countBelow (64 * length marks) (inSet marks)) → n ≤ length out → MessageRoom part old new p q epoch marks out
-  message-room out e h = record { from = from; ghosts = ghosts; room = omega (arith, size-is e) }
+  -- room for the message
+  pub message-room : (marks out : List ℕ) (g epoch : ℕ) → Going part old new p q n g marks → {size : ℕ} → size ≡ messageSize n g → size ≤ length out → MessageRoom part old new p q low n g epoch marks out
+  message-room marks out g epoch go e h = record { range = range; ghosts = go .marked; counted = go .counted; room = omega (arith, go .long epoch) }
+
+  -- words for the marks
+  pub words-known : (partHeader ≤ length part) × (partK part ≤ maxTrees)
+  words-known =
+      let T = from .pair .tables in
+      (omega (arith, part-length part old p (from .sound)), omega (arith, part-header part old p (from .sound) .all-trees, trees-high old (T .oldBytes) (T .oldRanks) (T .oldValid)))
+
+  pub marks-room : (marks : List ℕ) {words : ℕ} → length marks ≡ words → partK part ≤ 64 * words → words ≤ markWords → Room old marks
+  marks-room marks e h l = record { enough = omega (arith, part-header part old p (from .sound) .all-trees); few = omega arith }
+
+-- the first words of a set
+pub prefix-length : (n : ℕ) {words : ℕ} → words ≤ n → length {A = ℕ} (take words (replicate n 0)) ≡ words
+prefix-length n {words} h = length-take-le {A = ℕ} words (replicate n 0) (omega (arith, length-replicate {A = ℕ} n 0))
+
+-- ---- the buffer
+
+module _ (m out : List ℕ) {n : ℕ} (long : n ≡ length m) where
+  pub range-short : length out < n → (lengthRefused 22, out) ≡ builtRange m out
+  unfolding builtRange writeAnswer lengthAnswer written firstFailed
+  range-short h = rw (← long, lt-leb n (length out) h)
+
+  pub range-done : {last : List ℕ} → n ≤ length out → last ≡ splice out 0 m → (record { refusal = 0; length = n }, last) ≡ builtRange m out
+  unfolding builtRange writeAnswer lengthAnswer written firstFailed
+  range-done h e = rw (← long, le-leb n (length out) h, e)
 
 -- ---- the checks
 
@@ -127,6 +168,9 @@ module _ (part old new : List ℕ) (p q : ℕ) where
         sound = h .1 .1;
       }
 
+  pub may-range : {r low n : ℕ} → r ≡ firstFailed (buildChecks part old new p q) → Bytes old → Bytes new → r ≡ 0 → low ≡ sentFirst old new p q → n ≡ sentCount old new p q → SendingRange part old new p q low n
+  may-range e b b' z l m = record { sending = may-send e b b' z; begins = l; many = m }
+
   module _ {r : ℕ} (fails : r ≡ firstFailed (buildChecks part old new p q)) where
     pub length-refused : (r ≡ 0 → ⊥) → lengthRefused r ≡ messageLengthOf part old new p q
     unfolding messageLengthOf lengthAnswer
@@ -142,14 +186,10 @@ module _ (part old new : List ℕ) (p q : ℕ) where
       unfolding buildMessageOf writeAnswer lengthAnswer written
       build-refused h = rw (with-room (leb (length (partMessage part old new p q epoch)) (length out)), ne-eqb r 0 h, ne-eqb r 0 h)
 
-      module _ (ok : r ≡ 0) {n : ℕ} (long : n ≡ length (partMessage part old new p q epoch)) where
-        pub build-short : length out < n → (lengthRefused 22, out) ≡ buildMessageOf part old new p q epoch out
-        unfolding buildMessageOf writeAnswer lengthAnswer written
-        build-short h = rw (with-room (leb (length (partMessage part old new p q epoch)) (length out)), ok, ← long, lt-leb n (length out) h)
-
-        pub build-done : {last : List ℕ} → n ≤ length out → last ≡ splice out 0 (partMessage part old new p q epoch) → (record { refusal = 0; length = n }, last) ≡ buildMessageOf part old new p q epoch out
-        unfolding buildMessageOf writeAnswer lengthAnswer written
-        build-done h e = rw (with-room (leb (length (partMessage part old new p q epoch)) (length out)), ok, ← long, le-leb n (length out) h, e)
+      -- what behind the checks is left to the buffer
+      pub build-left : r ≡ 0 → {x : Length × List ℕ} → x ≡ builtRange (partMessage part old new p q epoch) out → x ≡ buildMessageOf part old new p q epoch out
+      unfolding buildMessageOf builtRange writeAnswer lengthAnswer written firstFailed
+      build-left ok e = e ∙ sym (rw (with-room (leb (length (partMessage part old new p q epoch)) (length out)), ok))
 
     pub length-read : r ≡ 0 → {n : ℕ} → n ≡ length (partMessage part old new p q 0) → record { refusal = 0; length = n } ≡ messageLengthOf part old new p q
     unfolding messageLengthOf lengthAnswer

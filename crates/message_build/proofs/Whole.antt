@@ -156,7 +156,7 @@ module _ (part old new : List ℕ) (p q : ℕ) (from : Sending part old new p q)
     N = 64 * length marks
 
     enough : trees old ≤ N
-    enough = omega (arith, ghosts .long, trees-high old (T .oldBytes) (T .oldRanks) (T .oldValid))
+    enough = ghosts .room .enough
 
     past : (k : ℕ) → trees old ≤ k → inSet marks k ≡ false
     past k h = either (inSet marks k) (λ e. absurd (omega (arith, goes-below k (sym (ghosts .member k) ∙ e)))) (λ e. e)
@@ -183,9 +183,15 @@ module _ (part old new : List ℕ) (p q : ℕ) (from : Sending part old new p q)
 
 -- ---- the message
 
-module _ (part old new : List ℕ) (p q epoch : ℕ) (marks out : List ℕ) (ok : MessageRoom part old new p q epoch marks out) where
+module _ (part old new : List ℕ) (p q low n g epoch : ℕ) (marks out : List ℕ) (ok : MessageRoom part old new p q low n g epoch marks out) where
   abbrev from : Sending part old new p q
-  from = ok .from
+  from = ok .range .sending
+
+  abbrev is-low : low ≡ sentFirst old new p q
+  is-low = ok .range .begins
+
+  abbrev is-n : n ≡ sentCount old new p q
+  is-n = ok .range .many
 
   pub header-held : partHeader ≤ length part
   header-held = omega (arith, part-length part old p (from .sound))
@@ -196,8 +202,7 @@ module _ (part old new : List ℕ) (p q epoch : ℕ) (marks out : List ℕ) (ok 
   pub header-room : messageHeader ≤ length out
   header-room = omega (arith, size)
 
-  module _ {dimension K P low n g : ℕ} (is-dimension : dimension ≡ partDimension part) (is-K : K ≡ partK part) (is-P : P ≡ ranks old)
-      (is-low : low ≡ sentFirst old new p q) (is-n : n ≡ sentCount old new p q) (is-g : g ≡ countBelow (64 * length marks) (inSet marks))
+  module _ {dimension K P : ℕ} (is-dimension : dimension ≡ partDimension part) (is-K : K ≡ partK part) (is-P : P ≡ ranks old)
       {mid : List ℕ} (header : mid ≡ splice out 0 (messageHeaderBytes epoch dimension K P p q n g)) where
     header-long : length (messageHeaderBytes epoch dimension K P p q n g) ≡ 32
     header-long = header-length epoch dimension K P p q n g
@@ -212,7 +217,7 @@ module _ (part old new : List ℕ) (p q epoch : ℕ) (marks out : List ℕ) (ok 
           inside = rw (is-low, is-n) (sent-inside part old new p q from);
           within = rw (is-low, is-n) (omega (arith, sent-below old new (from .pair .tables) p q (from .pair .senderBelow) (from .pair .receiverBelow), trees-high old (from .pair .tables .oldBytes) (from .pair .tables .oldRanks) (from .pair .tables .oldValid)));
           members = record {
-            words = omega (arith, ok .ghosts .long);
+            words = ok .ghosts .room .few;
             has = λ k e. goes-held part old new p q from k (sym (ok .ghosts .member k) ∙ e);
             long = λ k e. goes-long part old new p q from k (sym (ok .ghosts .member k) ∙ e);
           };
@@ -221,7 +226,7 @@ module _ (part old new : List ℕ) (p q epoch : ℕ) (marks out : List ℕ) (ok 
 
     header-is : messageHeaderBytes epoch dimension K P p q n g
         ≡ messageHeaderBytes epoch (partDimension part) (trees old) (ranks old) p q (sentCount old new p q) (countBelow (trees old) (goes part old new p q from))
-    header-is = rw (is-dimension, is-K, is-P, is-n, is-g, says part old new p q from .all-trees, count-is part old new p q from marks (ok .ghosts))
+    header-is = rw (is-dimension, is-K, is-P, is-n, ok .counted, says part old new p q from .all-trees, count-is part old new p q from marks (ok .ghosts))
 
     pub message-written : {last : List ℕ} → last ≡ splice mid messageHeader (recordsFrom (partRecord part) low n ++ coresBelow (partCore part) (inSet marks) (64 * length marks))
         → last ≡ splice out 0 (partMessage part old new p q epoch)

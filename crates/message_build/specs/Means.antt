@@ -2,10 +2,14 @@
 use Prim.Native.Nat.{ℕ, zero, suc, _+_, _*_, _≤_, _<_}
 use mathlib.Core.Path.{_≡_}
 use mathlib.Core.Bool.{Bool, true, cond}
-use mathlib.Core.List.{List, [], _++_}
+use mathlib.Core.List.{List, [], _∷_, _++_}
+use lib.Dec.{leb}
 use lib.ListN.{length}
+use Rattle.encoding.specs.Answer.{writeAnswer}
 use Rattle.encoding.specs.Below.{countBelow}
 use Rattle.encoding.specs.Pieces.{piece}
+use Rattle.encoding.specs.Refusal.{check, firstFailed}
+use Rattle.encoding.specs.declared.answer.Length.{Length}
 use Rattle.bits.specs.Bits.{inSet}
 use Rattle.offsets.specs.Limits.{maxTrees}
 use Rattle.records.specs.Shape.{facesIn}
@@ -16,7 +20,7 @@ use Rattle.part.specs.Part.{partDimension, partFirst, partCount, partGhostCount
 use Rattle.part.specs.Means.{Ascending, rowsWith}
 use Rattle.message.specs.Build.{partMessage}
 use Rattle.message.specs.Layout.{messageHeader, messageSize}
-use Rattle.message_ghosts.specs.Means.{Sending, Marks}
+use Rattle.message_ghosts.specs.Means.{SendingRange, Marks}
 
 -- what stands in the header of a part, and its length
 pub record Opened (part : List ℕ) (count ghosts : ℕ) : Type 0 where
@@ -95,8 +99,20 @@ pub record RecordsRoom (part marks out : List ℕ) (low n : ℕ) : Type 0 where
   pub members : Members part marks
   pub room : messageSize n (countBelow (64 * length marks) (inSet marks)) ≤ length out
 
--- what a message is built from, the ghosts that go with it, and room for it
-pub record MessageRoom (part old new : List ℕ) (p q epoch : ℕ) (marks out : List ℕ) : Type 0 where
-  pub from : Sending part old new p q
+-- the ghosts that go with a message of n trees, marked and counted, and its length
+pub record Going (part old new : List ℕ) (p q n g : ℕ) (marks : List ℕ) : Type 0 where
+  pub marked : Marks part old new p q marks
+  pub counted : g ≡ countBelow (64 * length marks) (inSet marks)
+  pub long : (epoch : ℕ) → messageSize n g ≡ length (partMessage part old new p q epoch)
+  pub small : messageSize n g ≤ messageSize maxTrees maxTrees
+
+-- what a message is built from: the range sent, the ghosts that go with it, and room for it
+pub record MessageRoom (part old new : List ℕ) (p q low n g epoch : ℕ) (marks out : List ℕ) : Type 0 where
+  pub range : SendingRange part old new p q low n
   pub ghosts : Marks part old new p q marks
+  pub counted : g ≡ countBelow (64 * length marks) (inSet marks)
   pub room : length (partMessage part old new p q epoch) ≤ length out
+
+-- the message written, if there is room for it
+unfoldable pub builtRange : List ℕ → List ℕ → Length × List ℕ
+builtRange m out = writeAnswer (firstFailed (check (leb (length m) (length out)) 22 ∷ [])) m out

@@ -1,12 +1,14 @@
-// The length of a message.
+// The ghosts that go with a message, counted: they give its length.
 ghost use mathlib.Core.Path.{_≡_};
 ghost use Prim.Native.Nat.{_*_, _≤_};
 ghost use lib.ListN.{length};
 ghost use Rattle.encoding.specs.Below.{countBelow};
 ghost use Rattle.bits.specs.Bits.{inSet};
-ghost use Rattle.pattern.specs.Means.{PairOf};
-ghost use Rattle.pattern.specs.Sender.{sentCount};
-ghost use Rattle.message.specs.Layout.{messageSize};
+ghost use Rattle.offsets.specs.Limits.{maxTrees};
+ghost use Rattle.part.specs.Layout.{partHeader};
+ghost use Rattle.part.specs.Part.{partK};
+ghost use Rattle.message_ghosts.specs.Means.{markWords, Room, SendingRange};
+ghost use Rattle.message_build.specs.Means.{Going};
 
 // How many members a set has, by the ones in its words.
 pub fn member_count(marks: &[u64]) -> u32
@@ -22,12 +24,28 @@ pub fn member_count(marks: &[u64]) -> u32
     count
 }
 
-// How long a message is, given the ghosts that go.
-pub fn message_size(old: &[u8], new: &[u8], p: u32, q: u32, marks: &[u64]) -> usize
-    requires { ⌜ PairOf (now old) (now new) p q × (length (now marks) ≤ 16384) ⌝ }
-    ensures { λ r. ⌜ r ≡ messageSize (sentCount (now (old .entry)) (now (new .entry)) p q) (countBelow (64 * length (now (marks .entry))) (inSet (now (marks .entry)))) ⌝ }
+// How many words hold a mark for each of K trees.
+pub fn mark_words(part: &[u8]) -> usize
+    requires { ⌜ (partHeader ≤ length (now part)) × (partK (now part) ≤ maxTrees) ⌝ }
+    ensures { λ r. ⌜ (partK (now (part .entry)) ≤ 64 * r) × (r ≤ markWords) ⌝ }
 {
-    let sent = pattern::range::sent(old, new, p as usize, q as usize);
-    let n = sent.count;
-    32 + (64 * (n as usize) + 40 * (member_count(marks) as usize))
+    ((part::layout::trees(part) + 63) / 64) as usize
+}
+
+// Marks the ghosts that go with p's message to q, which has the n trees from `low` on: how many they are.
+pub fn going(
+    part: &[u8],
+    old: &[u8],
+    new: &[u8],
+    p: u32,
+    q: u32,
+    low: u32,
+    n: u32,
+    marks: &mut [u64],
+) -> u32
+    requires { ⌜ SendingRange (now part) (now old) (now new) p q low n × Room (now old) (now marks) ⌝ }
+    ensures { λ r. ⌜ Going (now (part .entry)) (now (old .entry)) (now (new .entry)) p q n r (now (marks .exit)) ⌝ }
+{
+    message_ghosts::marks::mark_ghosts(part, old, new, p, q, low, n, &mut *marks);
+    member_count(&*marks)
 }

@@ -5,8 +5,8 @@ ghost use Rattle.message.specs.Calls.{messageLengthOf, buildMessageOf};
 
 mod check;
 mod index;
-mod length;
-mod write;
+pub mod length;
+pub mod write;
 
 // How long the message is (2, 3, 4, 5, 8, 9).
 pub fn message_length(part: &[u8], old: &[u8], new: &[u8], sender: u32, receiver: u32) -> Length
@@ -16,11 +16,24 @@ pub fn message_length(part: &[u8], old: &[u8], new: &[u8], sender: u32, receiver
     if refusal != 0 {
         return Length { refusal, length: 0 };
     }
+    let sent = pattern::range::sent(old, new, sender as usize, receiver as usize);
+    let low = sent.first;
+    let n = sent.count;
     let mut marks = [0u64; 16384];
-    message_ghosts::marks::mark_ghosts(part, old, new, sender, receiver, &mut marks);
+    let words = length::mark_words(part);
+    let g = length::going(
+        part,
+        old,
+        new,
+        sender,
+        receiver,
+        low,
+        n,
+        &mut marks[..words],
+    );
     Length {
         refusal: 0,
-        length: length::message_size(old, new, sender, receiver, &marks) as u64,
+        length: message::layout::ghost_at(n, g) as u64,
     }
 }
 
@@ -40,18 +53,21 @@ pub fn build_message(
     if refusal != 0 {
         return Length { refusal, length: 0 };
     }
+    let sent = pattern::range::sent(old, new, sender as usize, receiver as usize);
+    let low = sent.first;
+    let n = sent.count;
     let mut marks = [0u64; 16384];
-    message_ghosts::marks::mark_ghosts(part, old, new, sender, receiver, &mut marks);
-    let n = length::message_size(old, new, sender, receiver, &marks);
-    if out.len() < n {
-        return Length {
-            refusal: 22,
-            length: 0,
-        };
-    }
-    write::write_message(part, old, new, sender, receiver, epoch, &marks, &mut *out);
-    Length {
-        refusal: 0,
-        length: n as u64,
-    }
+    let words = length::mark_words(part);
+    write::build_range(
+        part,
+        old,
+        new,
+        sender,
+        receiver,
+        low,
+        n,
+        epoch,
+        &mut marks[..words],
+        &mut *out,
+    )
 }

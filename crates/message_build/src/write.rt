@@ -10,9 +10,11 @@ ghost use Rattle.part.specs.Part.{globalNumber, partCore};
 ghost use Rattle.bits.specs.Bits.{inSet};
 ghost use Rattle.message.specs.Build.{partRecord, partMessage};
 ghost use Rattle.message.specs.Layout.{messageHeader};
-ghost use Rattle.message_build.specs.Means.{RecordRoom, globalLinks, recordsFrom, TreesRoom, coresBelow, GhostRoom, GhostsRoom, RecordsRoom, MessageRoom};
+ghost use Rattle.message_ghosts.specs.Means.{Room, SendingRange};
+ghost use Rattle.message_build.specs.Means.{builtRange, RecordRoom, globalLinks, recordsFrom, TreesRoom, coresBelow, GhostRoom, GhostsRoom, RecordsRoom, MessageRoom};
 use crate::index::global_rows;
-use crate::length::member_count;
+use crate::length::going;
+use encoding::answer::Length;
 use part::layout::ghost_at;
 use part::layout::tree_at;
 use part::range::find_ghost;
@@ -167,27 +169,57 @@ fn write_records(part: &[u8], low: u32, n: u32, marks: &[u64], out: &mut [u8])
     write_ghosts(part, count, ghosts, faces, first, marks, &mut *out, at);
 }
 
-// Writes the message from p's part to q, given the ghosts that go.
+// Writes the message from p's part to q, given the range sent and the g ghosts that go.
 pub fn write_message(
     part: &[u8],
     old: &[u8],
     new: &[u8],
     p: u32,
     q: u32,
+    low: u32,
+    n: u32,
+    g: u32,
     epoch: u32,
     marks: &[u64],
     out: &mut [u8],
 )
-    requires { ⌜ MessageRoom (now part) (now old) (now new) p q epoch (now marks) (now out) ⌝ }
+    requires { ⌜ MessageRoom (now part) (now old) (now new) p q low n g epoch (now marks) (now out) ⌝ }
     ensures { λ u. ⌜ now (out .exit) ≡ splice (now (out .entry)) 0 (partMessage (now (part .entry)) (now (old .entry)) (now (new .entry)) p q epoch) ⌝ }
 {
     let dimension = part::layout::dimension(part);
     let trees = part::layout::trees(part);
     let ranks = offsets::table::ranks(old) as u32;
-    let sent = pattern::range::sent(old, new, p as usize, q as usize);
-    let low = sent.first;
-    let n = sent.count;
-    let g = member_count(marks);
     encoding::header::write_eight(&mut *out, epoch, dimension, trees, ranks, p, q, n, g);
     write_records(part, low, n, marks, &mut *out);
+}
+
+// Marks the ghosts that go with the range sent, and writes the message if there is room for it (22).
+pub fn build_range(
+    part: &[u8],
+    old: &[u8],
+    new: &[u8],
+    p: u32,
+    q: u32,
+    low: u32,
+    n: u32,
+    epoch: u32,
+    marks: &mut [u64],
+    out: &mut [u8],
+) -> Length
+    requires { ⌜ SendingRange (now part) (now old) (now new) p q low n × Room (now old) (now marks) ⌝ }
+    ensures { λ r. ⌜ (r, now (out .exit)) ≡ builtRange (partMessage (now (part .entry)) (now (old .entry)) (now (new .entry)) p q epoch) (now (out .entry)) ⌝ }
+{
+    let g = going(part, old, new, p, q, low, n, &mut *marks);
+    let size = message::layout::ghost_at(n, g);
+    if out.len() < size {
+        return Length {
+            refusal: 22,
+            length: 0,
+        };
+    }
+    write_message(part, old, new, p, q, low, n, g, epoch, &*marks, &mut *out);
+    Length {
+        refusal: 0,
+        length: size as u64,
+    }
 }

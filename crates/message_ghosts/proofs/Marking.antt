@@ -4,16 +4,18 @@ use native.Mathlib.Numerals.{add-one}
 use native.Mathlib.Omega.{arith}
 use mathlib.Core.Path.{_≡_, refl, sym, ap, _∙_}
 use mathlib.Core.Bool.{Bool, true, false, _&&_, _||_, or-comm, or-false, or-assoc}
-use mathlib.Core.List.{List}
+use mathlib.Core.List.{List, _++_, append-nil}
 use lib.Dec.{eqb}
-use lib.ListN.{length}
+use lib.ListN.{length, drop, set, replicate, length-set, length-replicate}
+use lib.Seq.{drop-length}
+use borrow.Author.Fill.{fill-none, fill-more}
 use borrow.Author.Tests.{lt-ltb, eqb-true}
 use Rattle.encoding.specs.Below.{anyBelow}
 use Rattle.encoding.specs.Pieces.{piece, Bytes}
 use Rattle.encoding.proofs.Below.{either}
 use Rattle.bits.specs.Bits.{inSet, withMember}
-use Rattle.bits.proofs.Bits.{in-with, with-length}
-use Rattle.offsets.specs.Table.{firstTree, treeCount}
+use Rattle.bits.proofs.Bits.{in-none, in-with, with-length}
+use Rattle.offsets.specs.Table.{trees, firstTree, treeCount}
 use Rattle.offsets.proofs.Tables.{trees-high, count-add}
 use Rattle.pattern.specs.Sender.{Tables, sentFirst, sentCount}
 use Rattle.pattern.proofs.Senders.{holds-true}
@@ -24,7 +26,7 @@ use Rattle.records.proofs.Shapes.{count-six}
 use Rattle.part.specs.Layout.{partHeader, treePlace}
 use Rattle.part.specs.Part.{partFirst, partCount, partCore}
 use Rattle.part_theorems.proofs.SoundParts.{part-header, part-length}
-use Rattle.message_ghosts.specs.Means.{numberIn, markWords, Blank, Marks, Added, Sending, AtRecord, AtTree, recordPlace, recordIn, goes, goesAcross, goesBeside, goesFrom}
+use Rattle.message_ghosts.specs.Means.{numberIn, Room, Marks, Added, Sending, AtRecord, AtTree, recordPlace, recordIn, goes, goesAcross, goesBeside, goesFrom}
 use Rattle.message_ghosts.proofs.Going.{sent-held, goes-with}
 use Rattle.message_ghosts.proofs.Records.{held-below, place-fits, tree-number, number-held, shape-is, tree-next}
 
@@ -92,16 +94,16 @@ module _ (part old new : List ℕ) (p q count i : ℕ) (a : AtTree part old new 
         number-is : n ≡ neighbourOf (partCore part (partFirst part + i)) f
         number-is = number ∙ rw index-is (tree-next part old new p q count (a .known) i f (a .within) face .1)
 
-        -- its number has a bit
-        pub number-fits : n < 64 * markWords
-        number-fits = rw (← number) at (held-below part old new p q count (a .known) (numberIn part count j) (number-held part old new p q count (a .known) j (across-record .within)) .1)
+        -- it is below K
+        pub number-below : n < trees old
+        number-below = rw (← number) at (held-below part old new p q count (a .known) (numberIn part count j) (number-held part old new p q count (a .known) j (across-record .within)) .0)
 
         module _ (low : ℕ) (b : Bool) (test : b ≡ goes part old new p q low n) where
           -- it is marked where it goes
-          pub face-marked : (ws after : List ℕ) → length ws ≡ markWords → b ≡ true → after ≡ withMember ws n → Added ws after (goesAcross part old new p q low (partFirst part + i) f)
+          pub face-marked : (ws after : List ℕ) → Room old ws → b ≡ true → after ≡ withMember ws n → Added ws after (goesAcross part old new p q low (partFirst part + i) f)
           unfolding goesAcross
           face-marked ws after l e w =
-              added-one ws after n (λ k. eqb k (neighbourOf (partCore part t) f) && goes part old new p q low k) (omega (arith, number-fits)) w
+              added-one ws after n (λ k. eqb k (neighbourOf (partCore part t) f) && goes part old new p q low k) (omega (arith, number-below, l .enough)) w
               (λ k. rw (← number-is) (either (eqb k n) (λ d. rw (d, eqb-true k n d) (sym test ∙ e)) (λ d. rw d)))
 
           -- and left out where it doesn't
@@ -131,6 +133,37 @@ module _ (part old new : List ℕ) (p q low t : ℕ) where
 
   pub faces-end : (ws after : List ℕ) (f faces n : ℕ) → f ≤ faces → faces ≤ f → faces ≡ n → Added ws after (goesBeside part old new p q low t f) → Added ws after (goesBeside part old new p q low t n)
   faces-end ws after f faces n h l e x = let d : n ≡ f = omega arith in rw d x
+
+-- ---- room for the marks
+
+pub room-kept : {old before after : List ℕ} → Room old before → length after ≡ length before → Room old after
+room-kept r e = record { enough = omega (arith, r .enough); few = omega (arith, r .few) }
+
+pub cleared-length : (marks : List ℕ) {ws : List ℕ} → ws ≡ replicate (length marks) 0 → length ws ≡ length marks
+cleared-length marks z = ap length z ∙ length-replicate {A = ℕ} (length marks) 0
+
+-- the first i words are cleared
+pub record Clearing (marks ws : List ℕ) (i : ℕ) : Type 0 where
+  pub within : i ≤ length marks
+  pub same-length : length ws ≡ length marks
+  pub cleared : ws ≡ replicate i 0 ++ drop i marks
+
+pub clear-start : (marks : List ℕ) → Clearing marks marks 0
+clear-start marks = record { within = omega arith; same-length = refl; cleared = fill-none marks 0 }
+
+module _ {marks ws : List ℕ} {i : ℕ} (so-far : Clearing marks ws i) where
+  pub clear-more : i < length marks → Clearing marks (set ws i 0) (i + 1)
+  clear-more h =
+      record {
+        within = omega arith;
+        same-length = length-set ws i 0 ∙ so-far .same-length;
+        cleared = ap (λ (l : List ℕ). set l i 0) (so-far .cleared) ∙ fill-more i 0 marks h;
+      }
+
+  pub clear-done : length marks ≤ i → ws ≡ replicate (length marks) 0
+  clear-done h =
+      let e : i ≡ length marks = omega (arith, so-far .within) in
+      so-far .cleared ∙ ap (λ (k : ℕ). replicate k 0 ++ drop k marks) e ∙ ap (λ (l : List ℕ). replicate (length marks) 0 ++ l) (drop-length marks) ∙ append-nil (replicate (length marks) 0)
 
 -- ---- the trees sent
 
@@ -182,10 +215,10 @@ module _ (part old new : List ℕ) (p q : ℕ) (s : Sending part old new p q) wh
           added-both ws mid after (goesFrom part old new p q low i) (goesBeside part old new p q low (low + i) (faceCount (shapeOf (partCore part (low + i))))) (goesFrom part old new p q low (i + 1)) x (rw e at y) (tree-more low i)
 
     -- all ghosts that go are marked, and no others
-    pub trees-end : (ws after : List ℕ) (i : ℕ) → Blank ws → i ≤ n → n ≤ i → Added ws after (goesFrom part old new p q low i) → Marks part old new p q after
-    trees-end ws after i z h l x =
+    pub trees-end : (marks ws after : List ℕ) (i : ℕ) → Room old marks → ws ≡ replicate (length marks) 0 → i ≤ n → n ≤ i → Added ws after (goesFrom part old new p q low i) → Marks part old new p q after
+    trees-end marks ws after i r z h l x =
         let e : i ≡ sentCount old new p q = omega arith in
         record {
-          long = x .same-length ∙ z .long;
-          member = λ k. x .member k ∙ rw (z .none k, begins, e) (goes-with part old new p q s k);
+          room = room-kept r (x .same-length ∙ cleared-length marks z);
+          member = λ k. x .member k ∙ rw (ap (λ (m : List ℕ). inSet m k) z ∙ in-none (length marks) k, begins, e) (goes-with part old new p q s k);
         }

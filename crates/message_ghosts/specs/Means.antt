@@ -1,5 +1,5 @@
 -- Means, no part of what is promised: what the functions require, and values that mirror their code.
-use Prim.Native.Nat.{ℕ, _+_, _-_, _≤_, _<_}
+use Prim.Native.Nat.{ℕ, _+_, _-_, _*_, _≤_, _<_}
 use mathlib.Core.Path.{_≡_}
 use mathlib.Core.Bool.{Bool, true, false, cond, not, _&&_, _||_}
 use mathlib.Core.List.{List}
@@ -8,8 +8,9 @@ use lib.ListN.{length}
 use Rattle.encoding.specs.Below.{anyBelow}
 use Rattle.encoding.specs.Pieces.{piece, Bytes}
 use Rattle.bits.specs.Bits.{inSet}
-use Rattle.offsets.specs.Table.{holds}
+use Rattle.offsets.specs.Table.{trees, holds}
 use Rattle.pattern.specs.Means.{RankOf, PairOf}
+use Rattle.pattern.specs.Sender.{sentFirst, sentCount}
 use Rattle.records.specs.Shape.{faceCount}
 use Rattle.records.specs.Record.{coreSize, numberOf, shapeOf, neighbourOf}
 use Rattle.part.specs.Layout.{treePlace, ghostPlace}
@@ -23,14 +24,14 @@ use Rattle.message.specs.Rule.{ghostGoes}
 abbrev pub markWords : ℕ
 markWords = 16384
 
--- a set without a member
-pub record Blank (marks : List ℕ) : Type 0 where
-  pub long : length marks ≡ markWords
-  pub none : (k : ℕ) → inSet marks k ≡ false
+-- a bit for each tree, in no more words than that
+pub record Room (old marks : List ℕ) : Type 0 where
+  pub enough : trees old ≤ 64 * length marks
+  pub few : length marks ≤ markWords
 
 -- the set of the ghosts that go with p's message to q
 pub record Marks (part old new : List ℕ) (p q : ℕ) (marks : List ℕ) : Type 0 where
-  pub long : length marks ≡ markWords
+  pub room : Room old marks
   pub member : (k : ℕ) → inSet marks k ≡ ghostGoes (partCore part) old new (partHolds part) (partRecord part) p q k
 
 -- a set with the numbers that pass a test besides
@@ -44,6 +45,12 @@ pub record Added (before after : List ℕ) (test : ℕ → Bool) : Type 0 where
 pub record Sending (part old new : List ℕ) (p q : ℕ) : Type 0 where
   pub pair : PairOf old new p q
   pub sound : partSound part old p ≡ true
+
+-- and the trees that it sends: the first, and how many
+pub record SendingRange (part old new : List ℕ) (p q low n : ℕ) : Type 0 where
+  pub sending : Sending part old new p q
+  pub begins : low ≡ sentFirst old new p q
+  pub many : n ≡ sentCount old new p q
 
 -- the part's bytes and its number of trees
 pub record Known (part old new : List ℕ) (p q count : ℕ) : Type 0 where

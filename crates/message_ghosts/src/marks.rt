@@ -1,11 +1,11 @@
 // The ghosts that go with a message, marked in a set of bits.
 ghost use mathlib.Core.Path.{_≡_};
 ghost use Prim.Native.Nat.{_+_, _<_};
-ghost use lib.ListN.{length};
+ghost use lib.ListN.{length, replicate};
 ghost use Rattle.records.specs.Shape.{faceCount};
 ghost use Rattle.records.specs.Record.{shapeOf};
 ghost use Rattle.part.specs.Part.{partFirst, partCore};
-ghost use Rattle.message_ghosts.specs.Means.{markWords, Blank, Marks, Added, Sending, AtTree, goesAcross, goesBeside};
+ghost use Rattle.message_ghosts.specs.Means.{Room, Marks, Added, SendingRange, AtTree, goesAcross, goesBeside};
 use crate::read::number_at;
 use crate::rule::goes;
 use records::index::GlobalIndex;
@@ -25,7 +25,7 @@ fn mark_face(
     face: u32,
     marks: &mut [u64],
 )
-    requires { ⌜ AtTree (now part) (now old) (now new) p q count (tree .0) × (face < faceCount (shapeOf (partCore (now part) (partFirst (now part) + tree .0)))) × (length (now marks) ≡ markWords) ⌝ }
+    requires { ⌜ AtTree (now part) (now old) (now new) p q count (tree .0) × (face < faceCount (shapeOf (partCore (now part) (partFirst (now part) + tree .0)))) × Room (now old) (now marks) ⌝ }
     ensures { λ u. ⌜ Added (now (marks .entry)) (now (marks .exit)) (goesAcross (now (part .entry)) (now (old .entry)) (now (new .entry)) p q low (partFirst (now (part .entry)) + tree .0) face) ⌝ }
 {
     let j = records::read::neighbour_of(part, part::layout::tree_at(tree), face);
@@ -58,7 +58,7 @@ fn mark_tree(
     tree: LocalIndex,
     marks: &mut [u64],
 )
-    requires { ⌜ AtTree (now part) (now old) (now new) p q count (tree .0) × (length (now marks) ≡ markWords) ⌝ }
+    requires { ⌜ AtTree (now part) (now old) (now new) p q count (tree .0) × Room (now old) (now marks) ⌝ }
     ensures { λ u. ⌜ Added (now (marks .entry)) (now (marks .exit)) (goesBeside (now (part .entry)) (now (old .entry)) (now (new .entry)) p q low (partFirst (now (part .entry)) + tree .0) (faceCount (shapeOf (partCore (now (part .entry)) (partFirst (now (part .entry)) + tree .0))))) ⌝ }
 {
     let i = tree.0;
@@ -84,18 +84,36 @@ fn mark_tree(
     }
 }
 
-// Marks the ghosts that go with p's message to q. Only the trees sent and their neighbours are read, not the whole part.
-pub fn mark_ghosts(part: &[u8], old: &[u8], new: &[u8], p: u32, q: u32, marks: &mut [u64])
-    requires { ⌜ Sending (now part) (now old) (now new) p q × Blank (now marks) ⌝ }
+// Takes every mark away.
+fn clear(marks: &mut [u64])
+    ensures { λ u. ⌜ now (marks .exit) ≡ replicate (length (now (marks .entry))) 0 ⌝ }
+{
+    let mut i = 0;
+    while i < marks.len() {
+        marks[i] = 0;
+        i += 1;
+    }
+}
+
+// Marks the ghosts that go with p's message to q, which has the n trees from `low` on. Only those and their neighbours are read, not the whole part.
+pub fn mark_ghosts(
+    part: &[u8],
+    old: &[u8],
+    new: &[u8],
+    p: u32,
+    q: u32,
+    low: u32,
+    n: u32,
+    marks: &mut [u64],
+)
+    requires { ⌜ SendingRange (now part) (now old) (now new) p q low n × Room (now old) (now marks) ⌝ }
     ensures { λ u. ⌜ Marks (now (part .entry)) (now (old .entry)) (now (new .entry)) p q (now (marks .exit)) ⌝ }
 {
+    clear(&mut *marks);
     let from = p as usize;
     let to = q as usize;
     let own = part::layout::first_tree(part);
     let count = part::layout::tree_count(part);
-    let sent = pattern::range::sent(old, new, from, to);
-    let low = sent.first;
-    let n = sent.count;
     let mut i = 0;
     while i < n {
         let tree = to_local(GlobalIndex(low + i), own);

@@ -100,15 +100,20 @@ pub struct SentRange {
     pub count: u32,
 }
 
-pub fn sent(old: &[u8], new: &[u8], p: usize, q: usize) -> SentRange
-    requires { ⌜ PairOf (now old) (now new) p q ⌝ }
+// The same, with the ranks that have trees on either side of p.
+pub fn sent_near(
+    old: &[u8],
+    new: &[u8],
+    p: usize,
+    q: usize,
+    lower: usize,
+    upper: usize,
+) -> SentRange
+    requires { ⌜ PairNear (now old) (now new) p q lower upper ⌝ }
     ensures { λ r. ⌜ (r .first ≡ sentFirst (now (old .entry)) (now (new .entry)) p q) × (r .count ≡ sentCount (now (old .entry)) (now (new .entry)) p q) ⌝ }
 {
-    if !has_trees(old, p) {
-        return SentRange { first: 0, count: 0 };
-    }
-    let low = sent_low(old, new, p, q, lower_rank(old, p));
-    let high = sent_high(old, new, p, q, upper_rank(old, p));
+    let low = sent_low(old, new, p, q, lower);
+    let high = sent_high(old, new, p, q, upper);
     if high <= low {
         return SentRange { first: 0, count: 0 };
     }
@@ -116,6 +121,16 @@ pub fn sent(old: &[u8], new: &[u8], p: usize, q: usize) -> SentRange
         first: low as u32,
         count: (high - low) as u32,
     }
+}
+
+pub fn sent(old: &[u8], new: &[u8], p: usize, q: usize) -> SentRange
+    requires { ⌜ PairOf (now old) (now new) p q ⌝ }
+    ensures { λ r. ⌜ (r .first ≡ sentFirst (now (old .entry)) (now (new .entry)) p q) × (r .count ≡ sentCount (now (old .entry)) (now (new .entry)) p q) ⌝ }
+{
+    if !has_trees(old, p) {
+        return SentRange { first: 0, count: 0 };
+    }
+    sent_near(old, new, p, q, lower_rank(old, p), upper_rank(old, p))
 }
 
 // Whether p sends q a tree, with the ranks that have trees on either side of p.

@@ -12,6 +12,7 @@ pub mod Closing
 pub mod Records
 pub mod Demand
 pub mod AfterList
+pub mod Runs
 pub mod Examples
 pub mod Promises
 pub mod Refusals

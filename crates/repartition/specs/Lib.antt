@@ -5,6 +5,7 @@ pub mod Demand
 pub mod AfterList
 pub mod Words
 pub mod Deliveries
+pub mod Runs
 pub mod Promises
 pub mod Refusals
 pub mod Examples

@@ -6,6 +6,8 @@ ghost use Rattle.records.specs.Shape.{corners};
 ghost use Rattle.leaves.specs.Calls.{tableFromLeaves, tableFromWeights, tableFromBlocks};
 ghost use Rattle.mesh.specs.Mesh.{meshRefusal};
 ghost use Rattle.brick.specs.Calls.{brickLengthOf, writeBrickOf};
+ghost use Rattle.build_all.specs.Calls.{buildAllLengthOf, buildAllOf};
+ghost use Rattle.deliver_all.specs.Calls.{deliverAllOf};
 ghost use Rattle.area_open.specs.Calls.{areaLengthOf, openAreaOf, progressOf};
 ghost use Rattle.area.specs.Close.{closeLengthOf, closeOf};
 ghost use Rattle.area.specs.Deliver.{deliverOf};
@@ -24,6 +26,8 @@ ghost use Rattle.faults.specs.Calls.{tableFaultOf, meshFaultOf};
 ghost use Rattle.part_fault.specs.Calls.{partFaultOf};
 ghost use Rattle.columns.specs.Calls.{partToColumns, columnsToPart};
 use area_open::Progress;
+use build_all::Messages;
+use deliver_all::MessageCount;
 use encoding::answer::Length;
 use faults::answer::Fault;
 use lookup::Found;
@@ -238,6 +242,32 @@ pub extern "C" fn vejgodat_build_message(
 }
 
 #[no_mangle]
+pub extern "C" fn vejgodat_build_all_length(
+    part: &[u8],
+    old: &[u8],
+    new: &[u8],
+    sender: u32,
+) -> Messages
+    ensures { λ r. ⌜ r ≡ buildAllLengthOf (now (part .entry)) (now (old .entry)) (now (new .entry)) sender ⌝ }
+{
+    build_all::build_all_length(part, old, new, sender)
+}
+
+#[no_mangle]
+pub extern "C" fn vejgodat_build_all(
+    part: &[u8],
+    old: &[u8],
+    new: &[u8],
+    sender: u32,
+    epoch: u32,
+    out: &mut [u8],
+) -> Messages
+    ensures { λ r. ⌜ (r, now (out .exit)) ≡ buildAllOf (now (part .entry)) (now (old .entry)) (now (new .entry)) sender epoch (now (out .entry)) ⌝ }
+{
+    build_all::build_all(part, old, new, sender, epoch, out)
+}
+
+#[no_mangle]
 pub extern "C" fn vejgodat_area_length(old: &[u8], new: &[u8], rank: u32, dimension: u32) -> Length
     ensures { λ r. ⌜ r ≡ areaLengthOf (now (old .entry)) (now (new .entry)) rank dimension ⌝ }
 {
@@ -263,6 +293,17 @@ pub extern "C" fn vejgodat_deliver(area: &mut [u8], message: &[u8]) -> u32
     ensures { λ r. ⌜ (r, now (area .exit)) ≡ deliverOf (now (area .entry)) (now (message .entry)) ⌝ }
 {
     deliver::deliver(area, message)
+}
+
+#[no_mangle]
+pub extern "C" fn vejgodat_deliver_all(
+    area: &mut [u8],
+    messages: &[u8],
+    answers: &mut [u32],
+) -> MessageCount
+    ensures { λ r. ⌜ (r, (now (area .exit), now (answers .exit))) ≡ deliverAllOf (now (area .entry)) (now (messages .entry)) (now (answers .entry)) ⌝ }
+{
+    deliver_all::deliver_all(area, messages, answers)
 }
 
 #[no_mangle]

@@ -57,6 +57,7 @@ groups! {
     faults
     triangles
     columns
+    many
     refusals
     nearest
     ranks

@@ -1,31 +1,29 @@
-use Rattle.deliver.proofs.Written.{deliver-refused, deliver-accepted}
+use Rattle.deliver.proofs.Written.{deliver-unsound}
+use borrow.Author.Tests.{not-true, not-false}
+use mathlib.Core.Path.{sym, _∙_}
 use borrow.Author.Needs.{needs}
 use Rattle.deliver.proofs.deliver.Statement.{statement}
 use Rattle.deliver.proofs.deliver.Tie as tie
 
-refusal-requires : tie.Need-refusal-requires
-refusal-requires c κs = search needs
+area-sound-requires : tie.Need-area-sound-requires
+area-sound-requires c κs = search needs
 
 same-length : tie.Need-same-length
 same-length c = search needs
 
 returns : tie.Need-returns
-returns c = deliver-refused _ _ (c .before .refusal .ensures) (c .if1 .taken)
+returns c = deliver-unsound _ _ (c .before .area-sound .ensures) (not-true _ (c .if1 .taken))
 
-write-delivery-requires : tie.Need-write-delivery-requires
-write-delivery-requires c κs = search needs
+deliver-sound-requires : tie.Need-deliver-sound-requires
+deliver-sound-requires c κs = sym (c .before .before .area-sound .ensures) ∙ not-false _ (c .before .if1 .left)
 
 same-length-2 : tie.Need-same-length-2
 same-length-2 c = search needs
 
 returns-2 : tie.Need-returns-2
-returns-2 c =
-    let refusal = c .before .before .before .before .before .refusal in
-    let if1 = c .before .before .before .before .if1 in
-    let write-delivery = c .before .before .write-delivery in
-    deliver-accepted _ _ (refusal .ensures) (if1 .left) (write-delivery .ensures)
+returns-2 c = search needs
 
 pub deliver-spec : {M : Type 1} → statement M
 deliver-spec =
     tie.close
-    (tie.spec refusal-requires same-length returns write-delivery-requires same-length-2 returns-2)
+    (tie.spec area-sound-requires same-length returns deliver-sound-requires same-length-2 returns-2)

@@ -1,95 +1,81 @@
 use native.Mathlib.Omega.{arith}
 use borrow.Author.Tests.{not-true, not-false}
 use Rattle.area.proofs.Headers.{tabled}
-use Rattle.deliver_check.proofs.Checking.{headed, ready, fails-area, fails-layout, fails-run, fails-receiver, rest-checks}
+use Rattle.deliver_check.proofs.Checking.{headed, ready, fails-layout, fails-run, fails-receiver, rest-checks}
 use borrow.Author.Needs.{needs}
 use Rattle.deliver_check.proofs.check.refusal.Statement.{statement}
 use Rattle.deliver_check.proofs.check.refusal.Tie as tie
 
-area-sound-requires : tie.Need-area-sound-requires
-area-sound-requires c κs = search needs
-
-returns : tie.Need-returns
-returns c = fails-area _ _ (c .before .area-sound .ensures) (not-true _ (c .if1 .taken))
-
 in-layout-requires : tie.Need-in-layout-requires
 in-layout-requires c κs = search needs
 
-returns-2 : tie.Need-returns-2
-returns-2 c =
-    let area-sound = c .before .before .before .area-sound in
-    let if1 = c .before .before .if1 in
+returns : tie.Need-returns
+returns c =
+    let pre = c .before .before .before .before .pre in
     let in-layout = c .before .in-layout in
-    fails-layout _ _ (area-sound .ensures) (not-false _ (if1 .left)) (in-layout .ensures) (not-true _ (c .if2 .taken))
+    fails-layout _ _ pre (in-layout .ensures) (not-true _ (c .if1 .taken))
 
 same-run-requires : tie.Need-same-run-requires
 same-run-requires c κs =
-    let area-sound = c .before .before .before .area-sound in
-    let if1 = c .before .before .if1 in
+    let pre = c .before .before .before .before .pre in
     let in-layout = c .before .in-layout in
-    let shared-slice-known = c .before .before .before .before .before .shared-slice-known in
-    headed _ _ (area-sound .ensures) (not-false _ (if1 .left)) (in-layout .ensures) (not-false _ (c .if2 .left)) (λ i. shared-slice-known .given i .fits)
+    let shared-slice-known = c .before .before .before .shared-slice-known in
+    headed _ _ pre (in-layout .ensures) (not-false _ (c .if1 .left)) (λ i. shared-slice-known .given i .fits)
 
-returns-3 : tie.Need-returns-3
-returns-3 c =
-    let area-sound = c .before .before .before .before .before .area-sound in
-    let if1 = c .before .before .before .before .if1 in
+returns-2 : tie.Need-returns-2
+returns-2 c =
+    let pre = c .before .before .before .before .before .before .pre in
     let in-layout = c .before .before .before .in-layout in
-    let if2 = c .before .before .if2 in
+    let if1 = c .before .before .if1 in
     let same-run = c .before .same-run in
-    fails-run _ _ (area-sound .ensures) (not-false _ (if1 .left)) (in-layout .ensures) (not-false _ (if2 .left)) (same-run .ensures) (not-true _ (c .if3 .taken))
+    fails-run _ _ pre (in-layout .ensures) (not-false _ (if1 .left)) (same-run .ensures) (not-true _ (c .if2 .taken))
 
 receiver-is-requires : tie.Need-receiver-is-requires
 receiver-is-requires c κs =
-    let area-sound = c .before .before .before .before .before .area-sound in
-    let if1 = c .before .before .before .before .if1 in
+    let pre = c .before .before .before .before .before .before .pre in
     let in-layout = c .before .before .before .in-layout in
-    let if2 = c .before .before .if2 in
-    let shared-slice-known = c .before .before .before .before .before .before .before .shared-slice-known in
-    headed _ _ (area-sound .ensures) (not-false _ (if1 .left)) (in-layout .ensures) (not-false _ (if2 .left)) (λ i. shared-slice-known .given i .fits)
+    let if1 = c .before .before .if1 in
+    let shared-slice-known = c .before .before .before .before .before .shared-slice-known in
+    headed _ _ pre (in-layout .ensures) (not-false _ (if1 .left)) (λ i. shared-slice-known .given i .fits)
 
-returns-4 : tie.Need-returns-4
-returns-4 c =
-    let area-sound = c .before .before .before .before .before .before .before .area-sound in
-    let if1 = c .before .before .before .before .before .before .if1 in
+returns-3 : tie.Need-returns-3
+returns-3 c =
+    let pre = c .before .before .before .before .before .before .before .before .pre in
     let in-layout = c .before .before .before .before .before .in-layout in
-    let if2 = c .before .before .before .before .if2 in
+    let if1 = c .before .before .before .before .if1 in
     let same-run = c .before .before .before .same-run in
-    let if3 = c .before .before .if3 in
+    let if2 = c .before .before .if2 in
     let receiver-is = c .before .receiver-is in
-    fails-receiver _ _ (area-sound .ensures) (not-false _ (if1 .left)) (in-layout .ensures) (not-false _ (if2 .left)) (same-run .ensures) (not-false _ (if3 .left)) (receiver-is .ensures) (not-true _ (c .if4 .taken))
+    fails-receiver _ _ pre (in-layout .ensures) (not-false _ (if1 .left)) (same-run .ensures) (not-false _ (if2 .left)) (receiver-is .ensures) (not-true _ (c .if3 .taken))
 
 ranks-requires : tie.Need-ranks-requires
 ranks-requires c κs =
-    let area-sound = c .before .before .before .before .before .before .before .area-sound in
-    let if1 = c .before .before .before .before .before .before .if1 in
+    let pre = c .before .before .before .before .before .before .before .before .pre in
     let in-layout = c .before .before .before .before .before .in-layout in
-    let if2 = c .before .before .before .before .if2 in
-    let shared-slice-known = c .before .before .before .before .before .before .before .before .before .shared-slice-known in
-    headed _ _ (area-sound .ensures) (not-false _ (if1 .left)) (in-layout .ensures) (not-false _ (if2 .left)) (λ i. shared-slice-known .given i .fits) .area
+    let if1 = c .before .before .before .before .if1 in
+    let shared-slice-known = c .before .before .before .before .before .before .before .shared-slice-known in
+    headed _ _ pre (in-layout .ensures) (not-false _ (if1 .left)) (λ i. shared-slice-known .given i .fits) .area
 
 new-place-requires : tie.Need-new-place-requires
 new-place-requires c κs =
-    let area-sound = c .before .before .before .before .before .before .before .before .area-sound in
-    let if1 = c .before .before .before .before .before .before .before .if1 in
+    let pre = c .before .before .before .before .before .before .before .before .before .pre in
     let in-layout = c .before .before .before .before .before .before .in-layout in
-    let if2 = c .before .before .before .before .before .if2 in
+    let if1 = c .before .before .before .before .before .if1 in
     let same-run = c .before .before .before .before .same-run in
-    let if3 = c .before .before .before .if3 in
-    let shared-slice-known = c .before .before .before .before .before .before .before .before .before .before .shared-slice-known in
-    omega (arith, ready _ _ (area-sound .ensures) (not-false _ (if1 .left)) (in-layout .ensures) (not-false _ (if2 .left)) (same-run .ensures) (not-false _ (if3 .left)) (λ i. shared-slice-known .given i .fits) .header .ranksHigh, c .ranks .ensures)
+    let if2 = c .before .before .before .if2 in
+    let shared-slice-known = c .before .before .before .before .before .before .before .before .shared-slice-known in
+    omega (arith, ready _ _ pre (in-layout .ensures) (not-false _ (if1 .left)) (same-run .ensures) (not-false _ (if2 .left)) (λ i. shared-slice-known .given i .fits) .header .ranksHigh, c .ranks .ensures)
 
 words-place-requires : tie.Need-words-place-requires
 words-place-requires c κs =
-    let area-sound = c .before .before .before .before .before .before .before .before .before .area-sound in
-    let if1 = c .before .before .before .before .before .before .before .before .if1 in
+    let pre = c .before .before .before .before .before .before .before .before .before .before .pre in
     let in-layout = c .before .before .before .before .before .before .before .in-layout in
-    let if2 = c .before .before .before .before .before .before .if2 in
+    let if1 = c .before .before .before .before .before .before .if1 in
     let same-run = c .before .before .before .before .before .same-run in
-    let if3 = c .before .before .before .before .if3 in
-    let shared-slice-known = c .before .before .before .before .before .before .before .before .before .before .before .shared-slice-known in
+    let if2 = c .before .before .before .before .if2 in
+    let shared-slice-known = c .before .before .before .before .before .before .before .before .before .shared-slice-known in
     let ranks = c .before .ranks in
-    omega (arith, ready _ _ (area-sound .ensures) (not-false _ (if1 .left)) (in-layout .ensures) (not-false _ (if2 .left)) (same-run .ensures) (not-false _ (if3 .left)) (λ i. shared-slice-known .given i .fits) .header .ranksHigh, ranks .ensures)
+    omega (arith, ready _ _ pre (in-layout .ensures) (not-false _ (if1 .left)) (same-run .ensures) (not-false _ (if2 .left)) (λ i. shared-slice-known .given i .fits) .header .ranksHigh, ranks .ensures)
 
 sub-old : tie.Need-sub-old
 sub-old c = search needs
@@ -99,16 +85,15 @@ part-old-start c = search needs
 
 part-old-end : tie.Need-part-old-end
 part-old-end c =
-    let area-sound = c .before .before .before .before .before .before .before .before .before .before .area-sound in
-    let if1 = c .before .before .before .before .before .before .before .before .before .if1 in
+    let pre = c .before .before .before .before .before .before .before .before .before .before .before .pre in
     let in-layout = c .before .before .before .before .before .before .before .before .in-layout in
-    let if2 = c .before .before .before .before .before .before .before .if2 in
+    let if1 = c .before .before .before .before .before .before .before .if1 in
     let same-run = c .before .before .before .before .before .before .same-run in
-    let if3 = c .before .before .before .before .before .if3 in
-    let shared-slice-known = c .before .before .before .before .before .before .before .before .before .before .before .before .shared-slice-known in
+    let if2 = c .before .before .before .before .before .if2 in
+    let shared-slice-known = c .before .before .before .before .before .before .before .before .before .before .shared-slice-known in
     let ranks = c .before .before .ranks in
     let new-place = c .before .new-place in
-    omega (arith, ready _ _ (area-sound .ensures) (not-false _ (if1 .left)) (in-layout .ensures) (not-false _ (if2 .left)) (same-run .ensures) (not-false _ (if3 .left)) (λ i. shared-slice-known .given i .fits) .header .long, ranks .ensures, new-place .ensures .1)
+    omega (arith, ready _ _ pre (in-layout .ensures) (not-false _ (if1 .left)) (same-run .ensures) (not-false _ (if2 .left)) (λ i. shared-slice-known .given i .fits) .header .long, ranks .ensures, new-place .ensures .1)
 
 sub-new : tie.Need-sub-new
 sub-new c = search needs
@@ -118,55 +103,50 @@ part-new-start c = search needs
 
 part-new-end : tie.Need-part-new-end
 part-new-end c =
-    let area-sound = c .before .before .before .before .before .before .before .before .before .before .before .area-sound in
-    let if1 = c .before .before .before .before .before .before .before .before .before .before .if1 in
+    let pre = c .before .before .before .before .before .before .before .before .before .before .before .before .pre in
     let in-layout = c .before .before .before .before .before .before .before .before .before .in-layout in
-    let if2 = c .before .before .before .before .before .before .before .before .if2 in
+    let if1 = c .before .before .before .before .before .before .before .before .if1 in
     let same-run = c .before .before .before .before .before .before .before .same-run in
-    let if3 = c .before .before .before .before .before .before .if3 in
-    let shared-slice-known = c .before .before .before .before .before .before .before .before .before .before .before .before .before .shared-slice-known in
+    let if2 = c .before .before .before .before .before .before .if2 in
+    let shared-slice-known = c .before .before .before .before .before .before .before .before .before .before .before .shared-slice-known in
     let ranks = c .before .before .before .ranks in
     let words-place = c .before .words-place in
-    omega (arith, ready _ _ (area-sound .ensures) (not-false _ (if1 .left)) (in-layout .ensures) (not-false _ (if2 .left)) (same-run .ensures) (not-false _ (if3 .left)) (λ i. shared-slice-known .given i .fits) .header .long, ranks .ensures, words-place .ensures .1)
+    omega (arith, ready _ _ pre (in-layout .ensures) (not-false _ (if1 .left)) (same-run .ensures) (not-false _ (if2 .left)) (λ i. shared-slice-known .given i .fits) .header .long, ranks .ensures, words-place .ensures .1)
 
 due-refusal-requires : tie.Need-due-refusal-requires
 due-refusal-requires c κs =
     let ranks = c .before .before .before .before .ranks in
     let new-place = c .before .before .before .new-place in
     let words-place = c .before .before .words-place in
-    let area-sound = c .before .before .before .before .before .before .before .before .before .before .before .before .area-sound in
-    let if1 = c .before .before .before .before .before .before .before .before .before .before .before .if1 in
+    let pre = c .before .before .before .before .before .before .before .before .before .before .before .before .before .pre in
     let in-layout = c .before .before .before .before .before .before .before .before .before .before .in-layout in
-    let if2 = c .before .before .before .before .before .before .before .before .before .if2 in
+    let if1 = c .before .before .before .before .before .before .before .before .before .if1 in
     let same-run = c .before .before .before .before .before .before .before .before .same-run in
-    let if3 = c .before .before .before .before .before .before .before .if3 in
-    let shared-slice-known = c .before .before .before .before .before .before .before .before .before .before .before .before .before .before .shared-slice-known in
-    (tabled _ (ranks .ensures) (new-place .ensures .0) (words-place .ensures .0) (ready _ _ (area-sound .ensures) (not-false _ (if1 .left)) (in-layout .ensures) (not-false _ (if2 .left)) (same-run .ensures) (not-false _ (if3 .left)) (λ i. shared-slice-known .given i .fits) .header), ready _ _ (area-sound .ensures) (not-false _ (if1 .left)) (in-layout .ensures) (not-false _ (if2 .left)) (same-run .ensures) (not-false _ (if3 .left)) (λ i. shared-slice-known .given i .fits))
+    let if2 = c .before .before .before .before .before .before .before .if2 in
+    let shared-slice-known = c .before .before .before .before .before .before .before .before .before .before .before .before .shared-slice-known in
+    (tabled _ (ranks .ensures) (new-place .ensures .0) (words-place .ensures .0) (ready _ _ pre (in-layout .ensures) (not-false _ (if1 .left)) (same-run .ensures) (not-false _ (if2 .left)) (λ i. shared-slice-known .given i .fits) .header), ready _ _ pre (in-layout .ensures) (not-false _ (if1 .left)) (same-run .ensures) (not-false _ (if2 .left)) (λ i. shared-slice-known .given i .fits))
 
-returns-5 : tie.Need-returns-5
-returns-5 c =
-    let area-sound = c .before .before .before .before .before .before .before .before .before .before .before .before .before .area-sound in
-    let if1 = c .before .before .before .before .before .before .before .before .before .before .before .before .if1 in
+returns-4 : tie.Need-returns-4
+returns-4 c =
+    let pre = c .before .before .before .before .before .before .before .before .before .before .before .before .before .before .pre in
     let in-layout = c .before .before .before .before .before .before .before .before .before .before .before .in-layout in
-    let if2 = c .before .before .before .before .before .before .before .before .before .before .if2 in
+    let if1 = c .before .before .before .before .before .before .before .before .before .before .if1 in
     let same-run = c .before .before .before .before .before .before .before .before .before .same-run in
-    let if3 = c .before .before .before .before .before .before .before .before .if3 in
+    let if2 = c .before .before .before .before .before .before .before .before .if2 in
     let receiver-is = c .before .before .before .before .before .before .before .receiver-is in
-    let if4 = c .before .before .before .before .before .before .if4 in
-    rest-checks _ _ (area-sound .ensures) (not-false _ (if1 .left)) (in-layout .ensures) (not-false _ (if2 .left)) (same-run .ensures) (not-false _ (if3 .left)) (receiver-is .ensures) (not-false _ (if4 .left)) (c .due-refusal .ensures)
+    let if3 = c .before .before .before .before .before .before .if3 in
+    rest-checks _ _ pre (in-layout .ensures) (not-false _ (if1 .left)) (same-run .ensures) (not-false _ (if2 .left)) (receiver-is .ensures) (not-false _ (if3 .left)) (c .due-refusal .ensures)
 
 pub refusal-spec : {M : Type 1} → statement M
 refusal-spec =
     tie.close
     (tie.spec
-    area-sound-requires
-    returns
     in-layout-requires
-    returns-2
+    returns
     same-run-requires
-    returns-3
+    returns-2
     receiver-is-requires
-    returns-4
+    returns-3
     ranks-requires
     new-place-requires
     words-place-requires
@@ -177,4 +157,4 @@ refusal-spec =
     part-new-start
     part-new-end
     due-refusal-requires
-    returns-5)
+    returns-4)

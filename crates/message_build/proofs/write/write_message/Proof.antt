@@ -5,10 +5,10 @@ use Rattle.message_build.proofs.write.write_message.Statement.{statemen
 use Rattle.message_build.proofs.write.write_message.Tie as tie
 
 dimension-requires : tie.Need-dimension-requires
-dimension-requires c κs = header-held _ _ _ _ _ _ _ _ (c .before .before .before .before .before .pre)
+dimension-requires c κs = header-held _ _ _ _ _ _ _ _ _ _ _ (c .before .before .before .before .before .pre)
 
 trees-requires : tie.Need-trees-requires
-trees-requires c κs = header-held _ _ _ _ _ _ _ _ (c .before .before .before .before .before .before .pre)
+trees-requires c κs = header-held _ _ _ _ _ _ _ _ _ _ _ (c .before .before .before .before .before .before .pre)
 
 ranks-requires : tie.Need-ranks-requires
 ranks-requires c κs = search needs
@@ -16,42 +16,19 @@ ranks-requires c κs = search needs
 cast-ranks : tie.Need-cast-ranks
 cast-ranks c = search needs
 
-sent-requires : tie.Need-sent-requires
-sent-requires c κs = search needs
-
-member-count-requires : tie.Need-member-count-requires
-member-count-requires c κs = search needs
-
 write-eight-requires : tie.Need-write-eight-requires
-write-eight-requires c κs = header-room _ _ _ _ _ _ _ _ (c .before .before .before .before .before .before .before .before .before .before .before .pre)
+write-eight-requires c κs = header-room _ _ _ _ _ _ _ _ _ _ _ (c .before .before .before .before .before .before .before .before .before .pre)
 
 write-records-requires : tie.Need-write-records-requires
 unfolding messageHeaderBytes
-write-records-requires c κs =
-    let pre = c .before .before .before .before .before .before .before .before .before .before .before .before .before .before .before .pre in
-    let dimension = c .before .before .before .before .before .before .before .before .before .dimension in
-    let trees = c .before .before .before .before .before .before .before .before .trees in
-    let ranks = c .before .before .before .before .before .before .before .ranks in
-    let sent = c .before .before .before .before .before .before .sent in
-    let member-count = c .before .before .before .before .before .member-count in
-    let write-eight = c .before .before .before .write-eight in
-    records-room _ _ _ _ _ _ _ _ pre (dimension .ensures) (trees .ensures) (ranks .ensures .0) (sent .ensures .0) (sent .ensures .1) (member-count .ensures) (write-eight .ensures)
+write-records-requires c κs = records-room _ _ _ _ _ _ _ _ _ _ _ (c .before .before .before .before .before .before .before .before .before .before .before .before .before .pre) (c .before .before .before .before .before .before .before .dimension .ensures) (c .before .before .before .before .before .before .trees .ensures) (c .before .before .before .before .before .ranks .ensures .0) (c .before .before .before .write-eight .ensures)
 
 same-length : tie.Need-same-length
 same-length c = search needs
 
 returns : tie.Need-returns
 unfolding messageHeaderBytes
-returns c =
-    let pre = c .before .before .before .before .before .before .before .before .before .before .before .before .before .before .before .before .before .before .pre in
-    let dimension = c .before .before .before .before .before .before .before .before .before .before .before .before .dimension in
-    let trees = c .before .before .before .before .before .before .before .before .before .before .before .trees in
-    let ranks = c .before .before .before .before .before .before .before .before .before .before .ranks in
-    let sent = c .before .before .before .before .before .before .before .before .before .sent in
-    let member-count = c .before .before .before .before .before .before .before .before .member-count in
-    let write-eight = c .before .before .before .before .before .before .write-eight in
-    let write-records = c .before .before .write-records in
-    message-written _ _ _ _ _ _ _ _ pre (dimension .ensures) (trees .ensures) (ranks .ensures .0) (sent .ensures .0) (sent .ensures .1) (member-count .ensures) (write-eight .ensures) (write-records .ensures)
+returns c = message-written _ _ _ _ _ _ _ _ _ _ _ (c .before .before .before .before .before .before .before .before .before .before .before .before .before .before .before .before .pre) (c .before .before .before .before .before .before .before .before .before .before .dimension .ensures) (c .before .before .before .before .before .before .before .before .before .trees .ensures) (c .before .before .before .before .before .before .before .before .ranks .ensures .0) (c .before .before .before .before .before .before .write-eight .ensures) (c .before .before .write-records .ensures)
 
 pub write-message-spec : {M : Type 1} → statement M
 write-message-spec =
@@ -61,8 +38,6 @@ write-message-spec =
     trees-requires
     ranks-requires
     cast-ranks
-    sent-requires
-    member-count-requires
     write-eight-requires
     write-records-requires
     same-length

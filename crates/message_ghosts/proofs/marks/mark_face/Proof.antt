@@ -1,4 +1,4 @@
-use Rattle.message_ghosts.proofs.Marking.{tree-face, across-fits, across-record, number-fits, face-marked, face-left}
+use Rattle.message_ghosts.proofs.Marking.{tree-face, across-fits, across-record, number-below, face-marked, face-left}
 use native.Mathlib.Omega.{arith}
 use borrow.Author.Needs.{needs}
 use Rattle.message_ghosts.proofs.marks.mark_face.Statement.{statement}
@@ -31,7 +31,7 @@ add-member-requires c κs =
     let tree-at = c .before .before .before .before .before .tree-at in
     let neighbour-of = c .before .before .before .before .neighbour-of in
     let number-at = c .before .before .before .number-at in
-    omega (arith, number-fits _ _ _ _ _ _ _ (pre .0) _ (pre .1) _ _ (tree-at .ensures) (neighbour-of .ensures) _ (number-at .ensures), pre .2)
+    omega (arith, number-below _ _ _ _ _ _ _ (pre .0) _ (pre .1) _ _ (tree-at .ensures) (neighbour-of .ensures) _ (number-at .ensures), pre .2 .enough)
 
 same-length : tie.Need-same-length
 same-length c = search needs

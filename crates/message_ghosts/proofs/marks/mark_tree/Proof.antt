@@ -1,7 +1,6 @@
-use Rattle.message_ghosts.proofs.Marking.{tree-fits, faces-tree, faces-start, faces-next, faces-end, face-under}
+use Rattle.message_ghosts.proofs.Marking.{tree-fits, faces-tree, faces-start, faces-next, faces-end, face-under, room-kept}
 use Rattle.message_ghosts.specs.Means.{Added, goesBeside}
 use Rattle.part.specs.Part.{partFirst}
-use mathlib.Core.Path.{_∙_}
 use native.Mathlib.Omega.{arith}
 use Prim.Native.Nat.{_≤_, _-_, _+_}
 use borrow.Author.Needs.{needs}
@@ -34,7 +33,7 @@ mark-face-requires c κs =
     let face-count = c .before .before .before .face-count in
     let loop-test = c .before .loop-test in
     let loop = c .before .before .loop in
-    (pre .0, face-under _ _ _ (faces-tree _ _ _ _ _ _ _ (pre .0) _ _ _ (tree-at .ensures) (shape-of .ensures) (face-count .ensures .0)) (loop-test .taken), loop .inv .1 .same-length ∙ pre .1)
+    (pre .0, face-under _ _ _ (faces-tree _ _ _ _ _ _ _ (pre .0) _ _ _ (tree-at .ensures) (shape-of .ensures) (face-count .ensures .0)) (loop-test .taken), room-kept (pre .1) (loop .inv .1 .same-length))
 
 add-face : tie.Need-add-face Inv-loop μ-loop
 add-face c = search needs

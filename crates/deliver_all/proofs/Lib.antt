@@ -1,0 +1,3 @@
+-- Laws of messages end to end.
+pub mod Parting
+pub mod Delivering

@@ -14,17 +14,12 @@ use Rattle.encoding.specs.Refusal.{firstFailed}
 use Rattle.encoding.proofs.Below.{either, clash}
 use Rattle.encoding.proofs.Pieces.{splice-none, splice-cons}
 use Rattle.area.specs.Area.{areaSound}
-use Rattle.area.specs.Deliver.{deliverChecks, deliverOf}
-use Rattle.area_theorems.proofs.Delivered.{deliver-sound}
+use Rattle.area.specs.Deliver.{deliverOf}
+use Rattle.area_theorems.proofs.Deliveries.{deliver-sound}
 use Rattle.deliver_all.specs.Messages.{frontLength, messagesIn, areaAfterEach, answersOfEach}
 use Rattle.deliver_all.specs.Calls.{maxMessages, deliverAllRefusal, deliverAllCount, deliverAllArea, deliverAllOf}
 use Rattle.deliver_all.specs.Means.{Receivable, Received}
 use Rattle.deliver_all.proofs.Parting.{messages-next, messages-end, front-is, next-most}
-
--- a sound area stays sound under any delivery
-pub delivery-sound : (a m : List ℕ) → Bytes a → areaSound a ≡ true → areaSound (deliverOf a m .1) ≡ true
-unfolding deliverOf
-delivery-sound a m b s = either (eqb (firstFailed (deliverChecks a m)) 0) (λ t. rw t (deliver-sound a m b (eqb-true (firstFailed (deliverChecks a m)) 0 t))) (λ t. rw t s)
 
 -- ---- the loop
 
@@ -80,7 +75,7 @@ module _ (a₀ bs answers₀ : List ℕ) where
         record {
           within = next-most bs h is-n;
           bytes = b;
-          sound = ap areaSound a-is ∙ delivery-sound a message (T .bytes) (T .sound);
+          sound = ap areaSound a-is ∙ deliver-sound a message (T .bytes) (T .sound);
           same-length = l ∙ T .same-length;
           room = omega (arith, T .room, ap length rest);
           area = ap (λ (x : List ℕ). areaAfterEach x left) a-is ∙ sym (area-more a message left) ∙ sym (ap (areaAfterEach a) rest) ∙ T .area;

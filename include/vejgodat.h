@@ -213,7 +213,8 @@
  *  - only ranks of the receive set of q are heard;
  *  - the slot of each tree that a heard sender sends to q holds a record in form
  *    with that tree's number, and every other tree slot is zero;
- *  - h is at most F n; the ghosts held are in form, below K and outside f'(q),
+ *  - h is at most F times the number of those slots that hold a tree due from a
+ *    heard sender; the ghosts held are in form, below K and outside f'(q),
  *    and ascend strictly; every other ghost slot is zero.
  *
  * A record is in form if its shape is one of the six, its bytes that are to be
@@ -368,7 +369,7 @@ enum
                                      table, or is across no face of a tree of
                                      the message. */
   VEJGODAT_HELD = 18,           /**< A ghost of a message is already held. */
-  VEJGODAT_FULL = 19,           /**< There are more ghosts than slots. */
+  VEJGODAT_FULL = 19,           /**< Reserved: no call gives this number. */
   VEJGODAT_MISSING = 20,        /**< Not every sender is heard. */
   VEJGODAT_JOIN = 21,           /**< The joined part isn't sound. */
   VEJGODAT_BUFFER = 22,         /**< A buffer is too short. */
@@ -452,7 +453,7 @@ vejgodat_refusal_text (uint32_t refusal)
   case VEJGODAT_HELD:
     return "a ghost is already held";
   case VEJGODAT_FULL:
-    return "ghost slots are used up";
+    return "reserved: no call gives this number";
   case VEJGODAT_MISSING:
     return "close before all are heard";
   case VEJGODAT_JOIN:
@@ -1388,8 +1389,7 @@ vejgodat_length     vejgodat_open_area (const uint8_t * old_table,
  * sender is heard already; \ref VEJGODAT_TREES (16) if its trees aren't exactly
  * those due from the sender; \ref VEJGODAT_GHOSTS (17) if one of its ghosts is
  * in f'(q) or across no face of its trees; \ref VEJGODAT_HELD (18) if one of its
- * ghosts is held already; \ref VEJGODAT_FULL (19) if there are more ghosts than
- * slots.
+ * ghosts is held already. There is always a slot for each ghost.
  * Cost: one pass over area and message, a search by halves for each ghost of the
  * message, and a set of 128 KiB on the stack.
  *

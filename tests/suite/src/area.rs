@@ -34,7 +34,8 @@ pub const TESTS: &[Test] = &[
     ("area: damaged messages", damaged_messages),
     ("area: any header of a message", any_message_header),
     ("area: wrong messages fill it, and close sees it", wrong_parts),
-    ("area: ghost slots used up", used_up),
+    ("area: F ghosts for each filled slot, and one more", filled_bound),
+    ("area: ghosts already held", held_ghosts),
     ("area: open's first refusal", open_refusals),
     ("area: any bytes", any_bytes),
     ("area: null pointers with count 0", null_pointers),
@@ -793,56 +794,112 @@ fn wrong_parts(run: &mut Run) {
     assert!(closed[0] > 200 && closed[21] > 200, "{closed:?}");
 }
 
-/// A row of quadrilaterals, of which rank 0 had all and keeps the first ones.
-fn row(trees: usize, kept: i64) -> Case {
-    let mut mesh = apart(&vec![0; trees], 0);
-    for k in 0..trees - 1 {
-        join(&mut mesh, (k, 1), (k + 1, 0), 0);
-    }
+/// The receiver of these has trees 0 to 4: two from rank 1, three from rank 2. All trees are boundary, but in the messages
+/// each tree has another number, which is no tree of its own, across each face, and all of these come as ghosts.
+fn most_ghosts(shape: u8, faces: usize) -> (Case, Vec<Message>) {
+    let trees = 5 + 5 * faces + 1;
     let all = trees as i64;
-    Case { mesh, old: bytes_of(&[0, all, all]), new: bytes_of(&[0, kept, all]), epoch: 3 }
+    let (old, new) = (bytes_of(&[0, 0, 2, all]), bytes_of(&[0, 5, all, all]));
+    let case = Case { mesh: apart(&vec![shape; trees], 0), old, new, epoch: 18 };
+    let messages = case.messages();
+    let filled = [1, 2].map(|p| {
+        let mut message = Message::decode(&messages[&[p, 0]]).expect("in layout");
+        for tree in &mut message.records {
+            for face in 0..faces {
+                let number = 5 + faces * tree.record.number as usize + face;
+                tree.record.neighbours[face] = number as u32;
+                tree.record.codes[face] = 0;
+                message.ghosts.push(meshes::record(&case.mesh, number));
+            }
+        }
+        message
+    });
+    (case, filled.to_vec())
 }
 
-fn used_up(run: &mut Run) {
-    let (mut held, mut full) = (0, 0);
-    for kept in 1..4 {
-        let case = row(24, kept);
-        let (area, message) = (case.fresh(0), case.messages()[&[0, 0]].clone());
-        let read = area_model::read(&area).expect("a sound area");
-        for count in 0..=4 * kept as usize {
-            for without in [true, false] {
-                // ghost `kept` is in the message
-                let numbers = (kept as usize + usize::from(without)..24).take(count);
-                let ghosts: Vec<Record> = numbers.map(|k| meshes::record(&case.mesh, k)).collect();
-                let filled = Area { ghosts, ..read.clone() }.encode();
-                let expected = match (without, count) {
-                    (false, 1..) => 18,
-                    (_, count) if count == 4 * kept as usize => 19,
-                    _ => 0,
+/// F ghosts for each filled slot are reached exactly, and one more is too many.
+fn filled_bound(run: &mut Run) {
+    for (shape, faces) in [(0, 4), (2, 6)] {
+        let (case, messages) = most_ghosts(shape, faces);
+        for order in [[0, 1], [1, 0]] {
+            let mut area = case.fresh(0);
+            let mut filled = 0;
+            for at in order {
+                let message = &messages[at];
+                // a ghost more, by hand: 10 before the delivery and after it
+                let more = |area: &[u8]| {
+                    let mut read = area_model::read(area).expect("a sound area");
+                    read.ghosts.push(meshes::record(&case.mesh, 5 + 5 * faces));
+                    read.encode()
                 };
-                let (got, after) = run.calls.deliver(&filled, &message);
-                assert_eq!(got, expected, "{count} ghosts, {without}");
-                held += u32::from(got == 18);
-                full += u32::from(got == 19);
-                run.calls.read_area(&after);
-                // 17 of any ghost before 18 and 19
-                let mut local = Message::decode(&message).expect("in layout");
-                local.ghosts.insert(0, meshes::record(&case.mesh, 0));
-                assert_eq!(run.calls.deliver(&filled, &local.encode()).0, 17);
+                assert_eq!(run.calls.read_area(&more(&area)), 10);
+                assert_eq!(run.calls.deliver(&more(&area), &message.encode()).0, 10);
+                // of the message's ghosts, one more can't be a neighbour
+                let mut spoilt = message.clone();
+                spoilt.ghosts.push(meshes::record(&case.mesh, 5 + 5 * faces));
+                assert_eq!(run.calls.deliver(&area, &spoilt.encode()).0, 17);
+                let (got, after) = run.calls.deliver(&area, &message.encode());
+                assert_eq!(got, 0);
+                area = after;
+                filled += message.records.len();
+                assert_eq!(number_at(&area, 24) as usize, faces * filled);
+                assert_eq!(run.calls.progress_of(&area).refusal, 0);
+            }
+            // the ghosts stay and a sender with its trees goes
+            for at in [0, 1] {
+                let mut read = area_model::read(&area).expect("a sound area");
+                read.heard.remove(&messages[at].sender);
+                for tree in &messages[at].records {
+                    read.trees[tree.record.number as usize] = None;
+                }
+                assert_eq!(run.calls.read_area(&read.encode()), 10);
             }
         }
     }
-    assert!(held > 10 && full > 2, "{held} held, {full} full");
+    // any ghosts, up to all slots: sound exactly where the filled slots allow them
+    let mut answers = [0; 2];
     run.cases(2_000, |random, calls| {
         let case = any_case(random, 20);
         let (area, messages) = any_area(random, &case);
         let read = area_model::read(&area).expect("a sound area");
-        let room = read.room();
-        let count = if random.chance(180) { room } else { random.below(room as u64 + 1) as usize };
-        let ghosts = any_ghosts(random, &read, count);
-        let filled = Area { ghosts, ..read }.encode();
-        read_and_deliver(random, calls, &filled, &messages);
+        let filled = read.room() * read.trees.iter().flatten().count() / read.trees.len().max(1);
+        let count = random.pick(&[read.room(), filled, filled + 1, filled.saturating_sub(1)]);
+        let ghosts = any_ghosts(random, &read, count.min(read.room()));
+        let allowed = ghosts.len() <= filled;
+        let spoilt = Area { ghosts, ..read }.encode();
+        let got = read_and_deliver(random, calls, &spoilt, &messages);
+        assert_eq!(got != 10, allowed);
+        answers[usize::from(allowed)] += 1;
     });
+    assert!(answers[0] > 50 && answers[1] > 200, "{answers:?}");
+}
+
+/// A row of nine quadrilaterals, three on each rank; rank 1 gets 2 to 6, with ghost 1 from rank 0 and 7 from rank 2.
+fn held_ghosts(run: &mut Run) {
+    let mut mesh = apart(&[0; 9], 0);
+    for k in 0..8 {
+        join(&mut mesh, (k, 1), (k + 1, 0), 0);
+    }
+    let case = Case { mesh, old: bytes_of(&[0, 3, 6, 9]), new: bytes_of(&[0, 2, 7, 9]), epoch: 3 };
+    let messages = case.messages();
+    let fresh = case.fresh(1);
+    let first = after(&fresh, &[messages[&[0, 1]].clone()]);
+    // tree 6 leads to tree 1 too, which comes as a ghost
+    let mut twice = Message::decode(&messages[&[2, 1]]).expect("in layout");
+    twice.records[0].record.neighbours[0] = 1;
+    twice.ghosts.insert(0, meshes::record(&case.mesh, 1));
+    assert_eq!(run.calls.deliver(&fresh, &twice.encode()).0, 0);
+    for area in [&first, &after(&first, &[messages[&[1, 1]].clone()])] {
+        assert_eq!(run.calls.deliver(area, &twice.encode()).0, 18);
+        assert_eq!(run.calls.deliver(area, &messages[&[2, 1]]).0, 0);
+        // 17 of any ghost before 18
+        for number in [3, 8] {
+            let mut local = twice.clone();
+            local.ghosts.push(meshes::record(&case.mesh, number));
+            local.ghosts.sort_by_key(|ghost| ghost.number);
+            assert_eq!(run.calls.deliver(area, &local.encode()).0, 17);
+        }
+    }
 }
 
 fn open_refusals(run: &mut Run) {
@@ -963,7 +1020,7 @@ fn seen_refusals(run: &mut Run) {
         &[
             ("area_length", &[2, 3, 4, 5]),
             ("open_area", &[2, 3, 4, 5, 22]),
-            ("deliver", &[10, 11, 12, 13, 14, 15, 16, 17, 18, 19]),
+            ("deliver", &[10, 11, 12, 13, 14, 15, 16, 17, 18]),
             ("progress_of", &[10]),
             ("part_of_area_length", &[10, 20, 21]),
             ("close_area", &[10, 20, 21, 22]),

@@ -139,7 +139,7 @@ pub enum Fault {
     GhostRange,
     /// strictly ascending
     GhostOrder,
-    /// at most F × n
+    /// at most F × the filled tree slots
     GhostCount,
     /// all other slots are zero: of trees
     OtherTrees,
@@ -226,8 +226,11 @@ pub fn read(bytes: &[u8]) -> Result<Area, BTreeSet<Fault>> {
     }
     let slots: Vec<&[u8]> = bytes[ghosts_at..ghosts_at + GHOST * room].chunks(GHOST).collect();
     let held = word(6) as usize;
-    if held > room {
+    let filled = trees.iter().flatten().count();
+    if held > face_limit(dimension) * filled {
         faults.insert(Fault::GhostCount);
+    }
+    if held > room {
         return Err(faults);
     }
     let ghosts: Vec<Record> = slots[..held].iter().map(|slot| Record::decode(slot)).collect();
@@ -257,7 +260,7 @@ pub fn read(bytes: &[u8]) -> Result<Area, BTreeSet<Fault>> {
 
 // ---- deliver, progress, close
 
-/// The bytes of the area after the message: 10 to 19.
+/// The bytes of the area after the message: 10 to 18.
 pub fn deliver(area: &[u8], message: &[u8]) -> Answer<Vec<u8>> {
     let mut area = read(area).map_err(|_| 10u32)?;
     let message = Message::decode(message)?;
@@ -288,9 +291,6 @@ pub fn deliver(area: &[u8], message: &[u8]) -> Answer<Vec<u8>> {
     let held: BTreeSet<u32> = area.ghosts.iter().map(|ghost| ghost.number).collect();
     if message.ghosts.iter().any(|ghost| held.contains(&ghost.number)) {
         return Err(18);
-    }
-    if area.ghosts.len() + message.ghosts.len() > area.room() {
-        return Err(19);
     }
     for tree in message.records {
         let slot = (tree.record.number - area.share.first()) as usize;

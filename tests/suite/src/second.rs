@@ -398,17 +398,19 @@ fn spoilt(_: &mut Run) {
     let case = case_of([0, 2, 9]);
     let (area, message) = (case.fresh(0), case.messages()[&[0, 0]].clone());
     assert_eq!(filled(&area, &[]), area);
-    assert_eq!(deliver(&filled(&area, &[2]), &message), Err(18));
-    assert_eq!(deliver(&filled(&area, &[3, 4, 5, 6, 7, 8]), &message).err(), None);
+    // a ghost in an area that has heard nobody
+    assert_eq!(deliver(&filled(&area, &[2]), &message), Err(10));
+    assert_eq!(deliver(&filled(&area, &[8]), &message), Err(10));
     // another orientation is found when the part is joined
     let mut turned = Message::decode(&message).expect("in layout");
     turned.records[0].record.codes[1] = 4;
     let turned = deliver(&area, &turned.encode()).expect("in layout, and the trees due");
     assert_eq!(close_area(&turned, None), Err(21));
 
-    // one tree has four slots for ghosts
+    // one filled slot allows four ghosts
     let case = case_of([0, 1, 9]);
     let (area, message) = (case.fresh(0), case.messages()[&[0, 0]].clone());
-    assert_eq!(deliver(&filled(&area, &[3, 4, 5]), &message).err(), None);
-    assert_eq!(deliver(&filled(&area, &[3, 4, 5, 6]), &message), Err(19));
+    let area = deliver(&area, &message).expect("a first delivery");
+    assert_eq!(progress(&filled(&area, &[1, 4, 5, 6])), Ok((1, 1)));
+    assert_eq!(progress(&filled(&area, &[4, 5, 6])), Ok((1, 1)));
 }

@@ -1782,8 +1782,7 @@ vejgodat_fault      vejgodat_table_fault (const uint8_t * table,
  * to 16 that holds there. Each face is read by the shape of its own record.
  *
  * Checks: none.
- * Cost: that of \ref vejgodat_check_mesh for a sound mesh; for any other a
- * second pass as far as the fault, with a few times the work for each record.
+ * Cost: that of \ref vejgodat_check_mesh as far as the fault.
  *
  * \param [in] mesh       Any bytes. Not changed.
  * \param [in] mesh_len   The number of its bytes.

@@ -3,6 +3,7 @@ pub mod Firsts
 pub mod Entries
 pub mod Records
 pub mod Right
+pub mod OneRecord
 pub mod Searches
 pub mod Theorems
 pub mod Examples

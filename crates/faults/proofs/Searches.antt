@@ -1,26 +1,28 @@
 -- What the search over the trees of a whole mesh finds, and the check before it.
 use Prim.Native.Nat.{ℕ, _+_, _*_}
-use mathlib.Core.Path.{_≡_, refl, sym, _∙_}
+use mathlib.Core.Path.{_≡_, sym, ap, _∙_}
 use mathlib.Core.Bool.{Bool, true, false}
 use mathlib.Core.List.{List}
 use lib.Dec.{eqb}
-use borrow.Author.Tests.{eq-eqb, ne-eqb}
+use borrow.Author.Tests.{eq-eqb, ne-eqb, eqb-true, eqb-false}
 use Rattle.encoding.specs.Below.{allBelow}
 use Rattle.encoding.specs.Pieces.{piece}
 use Rattle.encoding.specs.Refusal.{firstFailed}
-use Rattle.encoding.proofs.Below.{and-fst, and-snd, all-same}
+use Rattle.encoding.proofs.Below.{all-same}
 use Rattle.offsets.specs.Table.{ranks, ranksOk}
 use Rattle.records.specs.Record.{coreSize, treeSize, numberOf}
-use Rattle.mesh.specs.Mesh.{meshHeader, meshDimension, meshTrees, meshCore, headerSound, treeSound, meshSound}
+use Rattle.mesh.specs.Mesh.{meshHeader, meshDimension, meshTrees, meshCore, headerSound, treeSound}
 use Rattle.faults.specs.declared.answer.Fault.{Fault}
 use Rattle.faults.specs.declared.answer.Wrong.{Wrong}
-use Rattle.faults.specs.Answer.{wrong, faultRefused, noFault, faultAt, firstFault}
+use Rattle.faults.specs.Answer.{wrong, faultRefused, faultAt, firstFault}
 use Rattle.faults.specs.Table.{entryWrong}
 use Rattle.faults.specs.Record.{recordKind, firstFace, recordWrong}
 use Rattle.faults.specs.Mesh.{treeFaceKind, treeWrong}
 use Rattle.faults.specs.Calls.{faultAnswer, tableFaultOf, meshFaultOf}
-use Rattle.faults.proofs.Firsts.{quiet, first-none}
+use Rattle.faults.proofs.Firsts.{quiet}
 use Rattle.faults.proofs.Right.{tree-right}
+use Rattle.faults.proofs.OneRecord.{tree-by-dimension}
+use Rattle.mesh.specs.Means.{treeByDimension}
 
 -- ---- a table
 
@@ -52,6 +54,17 @@ module _ (m : List ℕ) (D K k : ℕ) {at n kind : ℕ} (here : at ≡ meshHeade
 abbrev pub kindOf : (ℕ → List ℕ) → ℕ → ℕ → ℕ → ℕ
 kindOf core D K k = treeWrong core D K k .kind
 
+-- what the check of a tree tells
+module _ (core : ℕ → List ℕ) (D K k : ℕ) {b : Bool} (pb : b ≡ treeByDimension core D K k) where
+  right : b ≡ eqb (treeWrong core D K k .kind) 0
+  right = pb ∙ tree-by-dimension core D K k ∙ sym (tree-right core D K k)
+
+  pub tree-passes : b ≡ true → treeWrong core D K k .kind ≡ 0
+  tree-passes h = eqb-true (treeWrong core D K k .kind) 0 (sym right ∙ h)
+
+  pub tree-fails : {w : Wrong} → b ≡ false → w ≡ treeWrong core D K k → w .kind ≡ 0 → ⊥
+  tree-fails h e z = eqb-false (treeWrong core D K k .kind) 0 (sym right ∙ h) (sym (ap (λ (w : Wrong). w .kind) e) ∙ z)
+
 -- ---- a whole mesh
 
 module _ (m : List ℕ) {D K : ℕ} (pD : D ≡ meshDimension m) (pK : K ≡ meshTrees m) where
@@ -65,12 +78,6 @@ module _ (m : List ℕ) {D K : ℕ} (pD : D ≡ meshDimension m) (pK : K ≡ mes
   mesh-searched h e = e ∙ rw (h, pD, pK)
 
 module _ (m : List ℕ) {a : Fault} where
-  pub mesh-sound : meshSound m ≡ true → a ≡ noFault → a ≡ meshFaultOf m
-  unfolding meshSound
-  mesh-sound s e =
-      mesh-searched m refl refl (and-fst (headerSound m) _ s)
-      (e ∙ sym (first-none 7 (meshTrees m) (treeWrong (meshCore m) (meshDimension m) (meshTrees m)) (trees-right m refl refl ∙ and-snd (headerSound m) _ s)))
-
   pub mesh-headless : headerSound m ≡ false → a ≡ faultAt 7 0 (wrong 6 0) → a ≡ meshFaultOf m
   unfolding meshFaultOf
   mesh-headless h e = e ∙ rw h

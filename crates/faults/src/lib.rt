@@ -19,13 +19,10 @@ pub fn table_fault(table: &[u8]) -> Fault
     table::first_wrong(table)
 }
 
-// The first fault of a whole mesh (no refusal). The check, which is faster than the search, comes first.
+// The first fault of a whole mesh (no refusal).
 pub fn mesh_fault(mesh: &[u8]) -> Fault
     ensures { λ r. ⌜ r ≡ meshFaultOf (now (mesh .entry)) ⌝ }
 {
-    if mesh::sound::sound(mesh) {
-        return answer::refused(0);
-    }
     if !mesh::layout::header_sound(mesh) {
         return answer::found(7, 0, Wrong { kind: 6, face: 0 });
     }

@@ -1,13 +1,13 @@
-use borrow.Author.Needs.{needs}
-use Rattle.faults.proofs.Firsts.{quiet, quiet-start, quiet-more, quiet-to, first-read, first-none}
-use Rattle.faults.proofs.Searches.{kindOf}
-use Rattle.faults.specs.Mesh.{treeWrong}
-use Rattle.faults.specs.declared.answer.Wrong.{Wrong}
-use Rattle.mesh.specs.Mesh.{meshCore}
-use native.Mathlib.Omega.{arith}
-use mathlib.Core.Bool.{true}
-use mathlib.Core.Path.{_≡_, sym, ap, _∙_}
 use Prim.Native.Nat.{_≤_, _-_}
+use mathlib.Core.Path.{_≡_, refl, sym, _∙_}
+use mathlib.Core.Bool.{true}
+use native.Mathlib.Omega.{arith}
+use borrow.Author.Tests.{not-true, not-false}
+use Rattle.mesh.specs.Mesh.{meshCore}
+use Rattle.faults.specs.Mesh.{treeWrong}
+use Rattle.faults.proofs.Searches.{kindOf, tree-passes, tree-fails}
+use Rattle.faults.proofs.Firsts.{quiet, quiet-start, quiet-more, quiet-to, first-read, first-none}
+use borrow.Author.Needs.{needs}
 use Rattle.faults.proofs.tree.first_wrong.Statement.{statement}
 use Rattle.faults.proofs.tree.first_wrong.Tie as tie
 
@@ -20,6 +20,9 @@ abbrev μ-loop : tie.MeasureT-loop
 loop-holds : tie.Need-loop-holds Inv-loop μ-loop
 loop-holds c = (omega arith, quiet-start _)
 
+tree-right-requires : tie.Need-tree-right-requires Inv-loop μ-loop
+tree-right-requires c κs = search needs
+
 tree-wrong-requires : tie.Need-tree-wrong-requires Inv-loop μ-loop
 tree-wrong-requires c κs = search needs
 
@@ -28,11 +31,12 @@ found-requires c κs = search needs
 
 returns : tie.Need-returns Inv-loop μ-loop
 returns c =
-    let loop-test = c .before .before .before .before .loop-test in
     let loop = c .before .before .before .before .before .loop in
-    let tree-wrong = c .before .before .before .tree-wrong in
-    let if1 = c .before .if1 in
-    first-read 7 _ (treeWrong _ _ _) _ (loop-test .taken) (loop .inv .1) (tree-wrong .ensures) (if1 .taken) (c .found .ensures)
+    let loop-test = c .before .before .before .before .loop-test in
+    let tree-right = c .before .before .before .tree-right in
+    let if1 = c .before .before .if1 in
+    let tree-wrong = c .before .tree-wrong in
+    first-read 7 _ (treeWrong _ _ _) _ (loop-test .taken) (loop .inv .1) (tree-wrong .ensures) (tree-fails _ _ _ _ (tree-right .ensures) (not-true _ (if1 .taken)) (tree-wrong .ensures)) (c .found .ensures)
 
 add-k : tie.Need-add-k Inv-loop μ-loop
 add-k c = search needs
@@ -42,9 +46,9 @@ loop-less c = search needs
 
 loop-again : tie.Need-loop-again Inv-loop μ-loop
 loop-again c =
-    let loop = c .before .before .before .before .loop in
-    let tree-wrong = c .before .before .tree-wrong in
-    (omega arith, quiet-more _ _ (loop .inv .1) (ap (λ (w : Wrong). w .kind) (tree-wrong .ensures)) (c .if1 .left))
+    let loop = c .before .before .before .loop in
+    let tree-right = c .before .tree-right in
+    (omega arith, quiet-more _ _ (loop .inv .1) refl (tree-passes _ _ _ _ (tree-right .ensures) (not-false _ (c .if1 .left))))
 
 refused-requires : tie.Need-refused-requires Inv-loop μ-loop
 refused-requires c κs = search needs
@@ -61,6 +65,7 @@ first-wrong-spec =
     Inv-loop
     μ-loop
     loop-holds
+    tree-right-requires
     tree-wrong-requires
     found-requires
     returns

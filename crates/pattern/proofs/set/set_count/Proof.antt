@@ -1,4 +1,5 @@
-use Rattle.pattern.proofs.Laws.{pair-near, count-one, count-skip, set-length}
+use Rattle.pattern.proofs.Laws.{pair-near, count-one, count-skip}
+use Rattle.pattern.proofs.Windows.{count-start, set-length}
 use Rattle.pattern.specs.Means.{exchangesTree}
 use Rattle.encoding.specs.Below.{countBelow}
 use Rattle.encoding.proofs.Below.{count-le}
@@ -15,8 +16,8 @@ Inv-loop old new rank sending end lower upper count₀ other₀ count other = (o
 abbrev μ-loop : tie.MeasureT-loop
 μ-loop old new rank sending end lower upper count₀ other₀ count other = end - other
 
-ranks-requires : tie.Need-ranks-requires Inv-loop μ-loop
-ranks-requires c κs = c .before .before .pre .tables .oldRanks
+window-of-requires : tie.Need-window-of-requires Inv-loop μ-loop
+window-of-requires c κs = search needs
 
 lower-rank-requires : tie.Need-lower-rank-requires Inv-loop μ-loop
 lower-rank-requires c κs = (c .before .before .before .pre .tables .oldRanks, c .before .before .before .pre .rankBelow)
@@ -25,16 +26,15 @@ upper-rank-requires : tie.Need-upper-rank-requires Inv-loop μ-loop
 upper-rank-requires c κs = (c .before .before .before .before .pre .tables .oldRanks, c .before .before .before .before .pre .rankBelow)
 
 loop-holds : tie.Need-loop-holds Inv-loop μ-loop
-unfolding countBelow
-loop-holds c = search needs
+loop-holds c = let window-of = c .before .before .window-of in (window-of .ensures .0 .ordered, count-start (window-of .ensures .0))
 
 exchanges-requires : tie.Need-exchanges-requires Inv-loop μ-loop
 exchanges-requires c κs =
     let pre = c .before .before .before .before .before .before .before .pre in
-    let ranks = c .before .before .before .before .ranks in
+    let window-of = c .before .before .before .before .window-of in
     let lower-rank = c .before .before .before .lower-rank in
     let upper-rank = c .before .before .upper-rank in
-    pair-near _ _ pre (ranks .ensures .0) (c .loop-test .taken) (lower-rank .ensures .0) (upper-rank .ensures .0)
+    pair-near _ _ pre (window-of .ensures .0 .within) (c .loop-test .taken) (lower-rank .ensures .0) (upper-rank .ensures .0)
 
 add-other : tie.Need-add-other Inv-loop μ-loop
 add-other c = search needs
@@ -59,9 +59,9 @@ loop-again-2 c = (omega arith, count-skip _ _ _ (c .before .before .before .loop
 
 returns : tie.Need-returns Inv-loop μ-loop
 returns c =
-    let ranks = c .before .before .before .before .ranks in
+    let window-of = c .before .before .before .before .window-of in
     let loop = c .before .loop in
-    set-length _ _ _ _ _ _ (ranks .ensures .0) (ranks .ensures .1 .1) (loop .inv .0) (c .loop-test .left) (loop .inv .1)
+    set-length (window-of .ensures .0) _ (window-of .ensures .1) (loop .inv .0) (c .loop-test .left) (loop .inv .1)
 
 pub set-count-spec : {M : Type 1} → statement M
 set-count-spec =
@@ -69,7 +69,7 @@ set-count-spec =
     (tie.spec
     Inv-loop
     μ-loop
-    ranks-requires
+    window-of-requires
     lower-rank-requires
     upper-rank-requires
     loop-holds

@@ -18,7 +18,7 @@ use Rattle.offsets.proofs.Tables.{trees-high}
 use Rattle.pattern.proofs.Senders.{some-holder, sender-is, sent-high, sent-count, sent-first, sent-old, upper-le}
 use Rattle.pattern.proofs.Sets.{sends-to}
 use Rattle.pattern.specs.Sender.{Tables, distance, sender, sentFirst, sentCount}
-use Rattle.pattern.specs.Means.{TreeOf, RankOf, PairOf, PairNear, RoomFor, heldBelow, heldAbove, hasTrees, lowerRank, aboveWithTrees, upperRank, sentLow, sentHigh, exchangesTree, rankSet}
+use Rattle.pattern.specs.Means.{TreeOf, RankOf, PairOf, PairNear, heldBelow, heldAbove, hasTrees, lowerRank, aboveWithTrees, upperRank, sentLow, sentHigh, exchangesTree, rankSet}
 use Rattle.pattern.specs.Sets.{sendsTo}
 
 -- ---- what is read stands in the tables

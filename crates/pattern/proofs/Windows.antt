@@ -5,19 +5,18 @@ use mathlib.Core.Path.{_≡_, refl, sym, ap, _∙_}
 use mathlib.Core.Bool.{Bool, true, false}
 use mathlib.Core.List.{List, [], append-nil}
 use lib.Dec.{leb, ltb}
-use lib.ListN.{length}
+use lib.ListN.{length, set, length-set}
 use borrow.Author.Tests.{ltb-true, ltb-false, leb-true, le-ltb}
 use Rattle.encoding.specs.Below.{countBelow, keptBelow}
-use Rattle.encoding.specs.Pieces.{splice}
 use Rattle.encoding.proofs.Below.{tests, either, count-le, count-none, kept-length}
 use Rattle.encoding.proofs.Pieces.{splice-none}
 use Rattle.offsets.specs.Limits.{maxRanks}
 use Rattle.offsets.specs.Table.{ranks, entry, magnitude, firstTree, endTree}
 use Rattle.offsets.proofs.OnePass.{ranks-known}
 use Rattle.offsets.proofs.Tables.{end-next, first-le-end, rises}
-use Rattle.pattern.specs.Means.{ValidTable, RankOf, RoomFor, FirstAbove, Meeting, WindowOf, sentLow, sentHigh, exchangesTree, rankSet}
+use Rattle.pattern.specs.Means.{ValidTable, RankOf, FirstAbove, Meeting, WindowOf, SetWritten, sentLow, sentHigh, exchangesTree, rankSet}
 use Rattle.pattern.specs.Sender.{Tables}
-use Rattle.pattern.proofs.Laws.{Writing}
+use Rattle.pattern.proofs.Laws.{count-one, count-skip, Writing, write-index, write-more, write-skip, write-done}
 use Rattle.pattern.proofs.Senders.{first-near, end-before, sent-old, sent-new}
 use Rattle.pattern.proofs.Sets.{sends-to, gets-from}
 
@@ -112,7 +111,7 @@ window-receiving old new q first end f w =
       after = λ i l m. none i m (omega (arith, w .after i l m, sent-old old new T i q, sent-new old new T i q));
     }
 
--- ---- the loops over the window
+-- ---- the loop over the window
 
 -- none passes from n on
 kept-past : (f : ℕ → Bool) (n m : ℕ) → n ≤ m → ((i : ℕ) → n ≤ i → i < m → f i ≡ false) → keptBelow m f ≡ keptBelow n f
@@ -123,6 +122,50 @@ kept-past f n (suc m) h none =
     (λ e. rw (none m (leb-true n m e) (omega arith), append-nil) (kept-past f n m (leb-true n m e) (λ i l u. none i l (omega arith))))
     (λ e. let d : n ≡ suc m = omega tests in ap (λ x. keptBelow x f) (sym d))
 
+-- the numbers below i that pass f are counted, and written where there is room for all
+pub record Listing (f : ℕ → Bool) (end : ℕ) (start out : List ℕ) (n i : ℕ) : Type 0 where
+  pub within : i ≤ end
+  pub counted : n ≡ countBelow i f
+  pub long : length out ≡ length start
+  pub writing : length (keptBelow end f) ≤ length start → Writing f end start out n i
+
+module _ (f : ℕ → Bool) (end : ℕ) (start : List ℕ) where
+  module _ {out : List ℕ} {n i : ℕ} (s : Listing f end start out n i) where
+    -- no more are counted than there are ranks
+    pub list-count : n ≤ i
+    list-count = omega (arith, s .counted, count-le i f)
+
+    module _ (h : i < end) where
+      -- one that passes, with room for it
+      pub list-more : f i ≡ true → n < length out → Listing f end start (set out n i) (n + 1) (i + 1)
+      list-more e l =
+          record {
+            within = omega arith;
+            counted = count-one i n f (s .counted) e;
+            long = length-set out n i ∙ s .long;
+            writing = λ room. write-more f end start room out n i (s .writing room) h e;
+          }
+
+      -- and without
+      pub list-past : f i ≡ true → length out ≤ n → Listing f end start out (n + 1) (i + 1)
+      list-past e l =
+          record {
+            within = omega arith;
+            counted = count-one i n f (s .counted) e;
+            long = s .long;
+            writing = λ room. absurd (omega (arith, write-index f end start room out n i (s .writing room) h e));
+          }
+
+      -- one that fails
+      pub list-skip : f i ≡ false → Listing f end start out n (i + 1)
+      list-skip e =
+          record {
+            within = omega arith;
+            counted = count-skip i n f (s .counted) e;
+            long = s .long;
+            writing = λ room. write-skip f end start room out n i (s .writing room) h e;
+          }
+
 module _ {old new : List ℕ} {p : ℕ} {sending : Bool} {first end : ℕ} (w : WindowOf old new p sending first end) where
   abbrev passes : ℕ → Bool
   passes = exchangesTree old new p sending
@@ -132,37 +175,30 @@ module _ {old new : List ℕ} {p : ℕ} {sending : Bool} {first end : ℕ} (w : 
   unfolding rankSet
   window-set = kept-past passes end (ranks old) (w .within) (w .after)
 
-  -- and none passes before its first
-  pub count-start : 0 ≡ countBelow first passes
-  count-start = sym (count-none first passes (w .before))
-
-  -- the loop's count is the length of the set
-  counted : (n : ℕ) {i : ℕ} → i ≤ end → end ≤ i → n ≡ countBelow i passes → n ≡ length (rankSet old new p sending)
-  counted n {i} h l c =
-      let e : i ≡ end = omega arith in
-      let d : n ≡ countBelow end passes = rw e at c in
-      d ∙ (sym (kept-length end passes) ∙ sym (ap length window-set))
-
-  pub set-length : (n : ℕ) {i : ℕ} → end ≤ maxRanks → i ≤ end → end ≤ i → n ≡ countBelow i passes → (n ≡ length (rankSet old new p sending)) × (n ≤ maxRanks)
-  set-length n {i} b h l c = (counted n h l c, omega (arith, count-le i passes))
-
-  -- room for the set is room for what the loop keeps
-  pub set-room : {out : List ℕ} → RoomFor old new p sending out → length (keptBelow end passes) ≤ length out
-  set-room f = rw (← window-set) (f .room)
-
-  -- nothing is written yet
-  pub write-from : (start : List ℕ) → Writing passes end start start 0 first
+  -- and none passes before its first: nothing is written yet
+  pub list-start : (start : List ℕ) → Listing passes end start start 0 first
   unfolding keptBelow
-  write-from start =
+  list-start start =
       let none : keptBelow first passes ≡ [] = kept-past passes 0 first (omega arith) (λ i l h. w .before i h) in
-      record { within = w .ordered; counted = count-start; kept = rw none (sym (splice-none start 0)) }
+      let zero-counted : 0 ≡ countBelow first passes = sym (count-none first passes (w .before)) in
+      record {
+        within = w .ordered;
+        counted = zero-counted;
+        long = refl;
+        writing = λ room. record { within = w .ordered; counted = zero-counted; kept = rw none (sym (splice-none start 0)) };
+      }
 
-  -- what the loop wrote is the set
-  pub set-written : (start out : List ℕ) (n i : ℕ) → Writing passes end start out n i → end ≤ i → (n ≡ length (rankSet old new p sending)) × (out ≡ splice start 0 (rankSet old new p sending))
-  set-written start out n i s l =
+  -- what the loop counted and wrote is the set
+  pub list-done : (start out : List ℕ) (n i : ℕ) → end ≤ maxRanks → Listing passes end start out n i → end ≤ i → SetWritten old new p sending start out n
+  list-done start out n i b s l =
       let e : i ≡ end = omega (arith, s .within) in
-      let k : out ≡ splice start 0 (keptBelow end passes) = rw e at (s .kept) in
-      (counted n (s .within) l (s .counted), rw window-set k)
+      let d : n ≡ countBelow end passes = rw e at (s .counted) in
+      let c : n ≡ length (keptBelow end passes) = d ∙ sym (kept-length end passes) in
+      record {
+        counted = c ∙ sym (ap length window-set);
+        few = omega (arith, list-count passes end start s);
+        kept = λ room. rw window-set (write-done passes end start (omega arith) out n i (s .writing (omega arith)) l);
+      }
 
 -- ---- room for a set
 

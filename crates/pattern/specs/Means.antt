@@ -7,7 +7,8 @@ use lib.Dec.{leb, ltb}
 use lib.IntN.{pos}
 use lib.ListN.{length, getD}
 use Rattle.encoding.specs.Below.{keptBelow, leastBelow}
-use Rattle.encoding.specs.Pieces.{Bytes}
+use Rattle.encoding.specs.Pieces.{Bytes, splice}
+use Rattle.offsets.specs.Limits.{maxRanks}
 use Rattle.offsets.specs.Table.{ranks, ranksOk, valid, trees, entry, magnitude, firstTree, endTree, holds}
 use Rattle.pattern.specs.declared.Ranks.{Ranks}
 use Rattle.pattern.specs.declared.Sender.{Sender}
@@ -127,10 +128,11 @@ pub record WindowOf (old new : List ℕ) (rank : ℕ) (sending : Bool) (first en
   pub before : (i : ℕ) → i < first → exchangesTree old new rank sending i ≡ false
   pub after : (i : ℕ) → end ≤ i → i < ranks old → exchangesTree old new rank sending i ≡ false
 
--- what writing a set takes: room in the lent list
-pub record RoomFor (old new : List ℕ) (p : ℕ) (sending : Bool) (out : List ℕ) : Type 0 where
-  pub rank : RankOf old new p
-  pub room : length (rankSet old new p sending) ≤ length out
+-- n ranks are in the set, and they are written where the list has room for them
+pub record SetWritten (old new : List ℕ) (p : ℕ) (sending : Bool) (start out : List ℕ) (n : ℕ) : Type 0 where
+  pub counted : n ≡ length (rankSet old new p sending)
+  pub few : n ≤ maxRanks
+  pub kept : n ≤ length start → out ≡ splice start 0 (rankSet old new p sending)
 
 -- either call for a set
 unfoldable pub rankSetOf : List ℕ → List ℕ → ℕ → Bool → List ℕ → Ranks × List ℕ

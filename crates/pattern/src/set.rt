@@ -3,10 +3,9 @@ ghost use mathlib.Core.Path.{_≡_};
 ghost use Prim.Native.Nat.{_≤_};
 ghost use lib.Dec.{ltb};
 ghost use lib.ListN.{length};
-ghost use Rattle.encoding.specs.Pieces.{splice};
 ghost use Rattle.offsets.specs.Limits.{maxRanks};
 ghost use Rattle.pattern.specs.Calls.{ranksAnswer};
-ghost use Rattle.pattern.specs.Means.{RankOf, PairNear, RoomFor, SmallNumbers, exchangesTree, rankSet, ranksRefused, rankSetOf};
+ghost use Rattle.pattern.specs.Means.{RankOf, PairNear, SetWritten, SmallNumbers, exchangesTree, rankSet, ranksRefused, rankSetOf};
 use crate::Ranks;
 use crate::range::lower_rank;
 use crate::range::sends_near;
@@ -35,42 +34,10 @@ fn exchanges(
     sends_some(old, new, other, rank)
 }
 
-// How many ranks are in the send set, or in the receive set.
-pub fn set_count(old: &[u8], new: &[u8], rank: usize, sending: bool) -> usize
-    requires { ⌜ RankOf (now old) (now new) rank ⌝ }
-    ensures { λ r. ⌜ (r ≡ length (rankSet (now (old .entry)) (now (new .entry)) rank sending)) × (r ≤ maxRanks) ⌝ }
-{
-    let window = window_of(old, new, rank, sending);
-    let end = window.end;
-    let lower = lower_rank(old, rank);
-    let upper = upper_rank(old, rank);
-    let mut count = 0;
-    let mut other = window.first;
-    while other < end {
-        let here = exchanges(old, new, rank, other, sending, lower, upper);
-        other += 1;
-        if here {
-            count += 1;
-        }
-    }
-    count
-}
-
-// Whether a list with room for so many ranks is too short for the set. One for P ranks never is, and the set isn't counted.
-fn too_short(old: &[u8], new: &[u8], rank: usize, sending: bool, room: usize) -> bool
-    requires { ⌜ RankOf (now old) (now new) rank ⌝ }
-    ensures { λ r. ⌜ r ≡ ltb room (length (rankSet (now (old .entry)) (now (new .entry)) rank sending)) ⌝ }
-{
-    if ranks(old) <= room {
-        return false;
-    }
-    room < set_count(old, new, rank, sending)
-}
-
-// Write the send set, or the receive set: how many ranks are in it.
+// How many ranks are in the send set, or in the receive set; written where the list has room for them.
 fn set_write(old: &[u8], new: &[u8], rank: usize, sending: bool, out: &mut [u32]) -> usize
-    requires { ⌜ RoomFor (now old) (now new) rank sending (now out) ⌝ }
-    ensures { λ r. ⌜ (r ≡ length (rankSet (now (old .entry)) (now (new .entry)) rank sending)) × (now (out .exit) ≡ splice (now (out .entry)) 0 (rankSet (now (old .entry)) (now (new .entry)) rank sending)) ⌝ }
+    requires { ⌜ RankOf (now old) (now new) rank ⌝ }
+    ensures { λ r. ⌜ SetWritten (now (old .entry)) (now (new .entry)) rank sending (now (out .entry)) (now (out .exit)) r ⌝ }
 {
     let window = window_of(old, new, rank, sending);
     let end = window.end;
@@ -83,11 +50,34 @@ fn set_write(old: &[u8], new: &[u8], rank: usize, sending: bool, out: &mut [u32]
         let number = other as u32;
         other += 1;
         if here {
-            out[count] = number;
+            let place = count;
             count += 1;
+            if place < out.len() {
+                out[place] = number;
+            }
         }
     }
     count
+}
+
+// How many ranks are in the send set, or in the receive set: the loop that writes them counts them too, and so is the only one.
+pub fn set_count(old: &[u8], new: &[u8], rank: usize, sending: bool) -> usize
+    requires { ⌜ RankOf (now old) (now new) rank ⌝ }
+    ensures { λ r. ⌜ (r ≡ length (rankSet (now (old .entry)) (now (new .entry)) rank sending)) × (r ≤ maxRanks) ⌝ }
+{
+    let mut scratch = [0u32; 1];
+    set_write(old, new, rank, sending, &mut scratch)
+}
+
+// Whether a list with room for so many ranks is too short for the set. One for P ranks never is, and the set isn't counted.
+fn too_short(old: &[u8], new: &[u8], rank: usize, sending: bool, room: usize) -> bool
+    requires { ⌜ RankOf (now old) (now new) rank ⌝ }
+    ensures { λ r. ⌜ r ≡ ltb room (length (rankSet (now (old .entry)) (now (new .entry)) rank sending)) ⌝ }
+{
+    if ranks(old) <= room {
+        return false;
+    }
+    room < set_count(old, new, rank, sending)
 }
 
 fn ranks_refused(refusal: u32) -> Ranks

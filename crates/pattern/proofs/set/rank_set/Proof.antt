@@ -1,7 +1,7 @@
 use Prim.Native.Nat.{_≤_}
 use lib.ListN.{length}
 use mathlib.Core.Path.{refl, _∙_, ap}
-use Rattle.pattern.proofs.Windows.{room-lacks, room-has, room-counted}
+use Rattle.pattern.proofs.Windows.{room-lacks, room-counted}
 use Rattle.pattern.proofs.Answers.{old-ranks, rank-of, set-fails, rank-past, no-room, set-found, set-small, back-length, back-small}
 use borrow.Author.Needs.{needs}
 use Rattle.pattern.proofs.set.rank_set.Statement.{statement}
@@ -70,9 +70,7 @@ set-write-requires c κs =
     let if1 = c .before .before .before .before .before .if1 in
     let ranks = c .before .before .before .before .ranks in
     let if2 = c .before .before .before .if2 in
-    let too-short = c .before .before .too-short in
-    let if3 = c .before .if3 in
-    record { rank = rank-of _ _ _ (tables-refusal .ensures) (λ i. shared-slice-known .given i .fits) (λ i. shared-slice-known2 .given i .fits) (if1 .left) _ _ (ranks .ensures .0) (if2 .left); room = room-has (too-short .ensures) (if3 .left) }
+    rank-of _ _ _ (tables-refusal .ensures) (λ i. shared-slice-known .given i .fits) (λ i. shared-slice-known2 .given i .fits) (if1 .left) _ _ (ranks .ensures .0) (if2 .left)
 
 slice-reshare-prefix-ranks-found : tie.Need-slice-reshare-prefix-ranks-found
 slice-reshare-prefix-ranks-found c =
@@ -80,7 +78,7 @@ slice-reshare-prefix-ranks-found c =
     let if3 = c .before .before .before .before .if3 in
     let too-short = c .before .before .before .before .before .too-short in
     let args = c .before .before .before .before .before .before .before .before .before .before .before .before .before .args in
-    let fits : set-write .result ≤ length (args .out .now) = room-counted (too-short .ensures) (if3 .left) (set-write .ensures .0) in
+    let fits : set-write .result ≤ length (args .out .now) = room-counted (too-short .ensures) (if3 .left) (set-write .ensures .counted) in
     search needs
 
 slice-aggregate-ranks-found : tie.Need-slice-aggregate-ranks-found
@@ -88,7 +86,7 @@ slice-aggregate-ranks-found c =
     let set-write = c .before .before .before .set-write in
     let if3 = c .before .before .before .before .before .if3 in
     let too-short = c .before .before .before .before .before .before .too-short in
-    back-length _ _ (set-write .ensures .0) _ _ (room-counted (too-short .ensures) (if3 .left) (set-write .ensures .0)) (set-write .ensures .1)
+    back-length _ _ (set-write .ensures .counted) _ _ (room-counted (too-short .ensures) (if3 .left) (set-write .ensures .counted)) (set-write .ensures .kept (room-counted (too-short .ensures) (if3 .left) (set-write .ensures .counted)))
 
 ranks-found-requires : tie.Need-ranks-found-requires
 ranks-found-requires c κs =
@@ -99,7 +97,7 @@ ranks-found-requires c κs =
     let shared-slice-known = c .before .before .before .before .before .before .before .before .before .before .before .before .before .shared-slice-known in
     let shared-slice-known2 = c .before .before .before .before .before .before .before .before .before .before .before .before .shared-slice-known2 in
     let if1 = c .before .before .before .before .before .before .before .before .before .if1 in
-    back-small _ _ (set-write .ensures .0) _ _ (room-counted (too-short .ensures) (if3 .left) (set-write .ensures .0)) (set-write .ensures .1) (set-small _ _ _ _ (old-ranks _ _ _ (tables-refusal .ensures) (λ i. shared-slice-known .given i .fits) (λ i. shared-slice-known2 .given i .fits) (if1 .left)))
+    back-small _ _ (set-write .ensures .counted) _ _ (room-counted (too-short .ensures) (if3 .left) (set-write .ensures .counted)) (set-write .ensures .kept (room-counted (too-short .ensures) (if3 .left) (set-write .ensures .counted))) (set-small _ _ _ _ (old-ranks _ _ _ (tables-refusal .ensures) (λ i. shared-slice-known .given i .fits) (λ i. shared-slice-known2 .given i .fits) (if1 .left)))
 
 same-length : tie.Need-same-length
 same-length c = search needs
@@ -113,7 +111,7 @@ returns-4 c =
     let too-short = c .before .before .before .before .before .before .before .too-short in
     let if3 = c .before .before .before .before .before .before .if3 in
     let set-write = c .before .before .before .before .set-write in
-    set-found _ _ _ (tables-refusal .ensures) _ _ _ (if1 .left) _ (ranks .ensures .0) _ (set-write .ensures .0) (if2 .left) (room-counted (too-short .ensures) (if3 .left) (set-write .ensures .0)) _ _ (set-write .ensures .1) (c .ranks-found .ensures)
+    set-found _ _ _ (tables-refusal .ensures) _ _ _ (if1 .left) _ (ranks .ensures .0) _ (set-write .ensures .counted) (if2 .left) (room-counted (too-short .ensures) (if3 .left) (set-write .ensures .counted)) _ _ (set-write .ensures .kept (room-counted (too-short .ensures) (if3 .left) (set-write .ensures .counted))) (c .ranks-found .ensures)
 
 pub rank-set-spec : {M : Type 1} → statement M
 rank-set-spec =

@@ -22,7 +22,7 @@ use Rattle.pattern.proofs.Sets.{sends-to, gets-from}
 
 -- ---- the first above k, by halves
 
--- the ranks that end before low have no tree after k, and from high on |O[p]| is above k
+-- the ranks below low - 1 have no tree from k on, and from rank high on |O[p]| is above k
 pub record Halving (t : List ℕ) (k low high : ℕ) : Type 0 where
   pub start : 1 ≤ low
   pub order : low ≤ high

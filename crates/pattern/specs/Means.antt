@@ -107,7 +107,7 @@ rankSet old new rank sending = keptBelow (ranks old) (exchangesTree old new rank
 
 -- ---- the window of ranks with which a rank may exchange trees
 
--- the ranks that end before the one numbered r have no tree after k, and from r on |O[p]| is above k
+-- the ranks below r - 1 have no tree from k on, and from rank r on |O[p]| is above k
 pub record FirstAbove (t : List ℕ) (k r : ℕ) : Type 0 where
   pub low : 1 ≤ r
   pub high : r ≤ ranks t

@@ -18,7 +18,7 @@ use Rattle.offsets.proofs.Tables.{trees-high}
 use Rattle.pattern.proofs.Senders.{some-holder, sender-is, sent-high, sent-count, sent-first, sent-old, upper-le}
 use Rattle.pattern.proofs.Sets.{sends-to}
 use Rattle.pattern.specs.Sender.{Tables, distance, sender, sentFirst, sentCount}
-use Rattle.pattern.specs.Means.{TreeOf, RankOf, PairOf, PairNear, RoomFor, heldBelow, heldAbove, hasTrees, lowerRank, aboveWithTrees, upperRank, sentLow, sentHigh, exchangesTree, rankSet}
+use Rattle.pattern.specs.Means.{TreeOf, RankOf, PairOf, PairNear, heldBelow, heldAbove, hasTrees, lowerRank, aboveWithTrees, upperRank, sentLow, sentHigh, exchangesTree, rankSet}
 use Rattle.pattern.specs.Sets.{sendsTo}
 
 -- ---- what is read stands in the tables
@@ -219,8 +219,8 @@ pub pair-of : {old new : List ℕ} {p : ℕ} (P q : ℕ) → RankOf old new p �
 pair-of P q f e h = record { tables = f .tables; senderBelow = f .rankBelow; receiverBelow = omega arith }
 
 -- with the ranks that have trees on either side of it
-pub pair-near : {old new : List ℕ} {p lower upper : ℕ} (P q : ℕ) → RankOf old new p → P ≡ ranks old → q < P → lower ≡ lowerRank old p → upper ≡ upperRank old p → PairNear old new p q lower upper
-pair-near P q f e h l u = record { pair = pair-of P q f e h; isLower = l; isUpper = u }
+pub pair-near : {old new : List ℕ} {p lower upper : ℕ} (end q : ℕ) → RankOf old new p → end ≤ ranks old → q < end → lower ≡ lowerRank old p → upper ≡ upperRank old p → PairNear old new p q lower upper
+pair-near end q f e h l u = record { pair = pair-of _ q f refl (omega arith); isLower = l; isUpper = u }
 
 -- one turn of the count
 pub count-one : (i n : ℕ) (f : ℕ → Bool) → n ≡ countBelow i f → f i ≡ true → n + 1 ≡ countBelow (i + 1) f
@@ -276,25 +276,3 @@ module _ (f : ℕ → Bool) (P : ℕ) (start : List ℕ) (room : length (keptBel
   -- the loop has come to its bound
   pub write-done : (out : List ℕ) (n i : ℕ) → Writing f P start out n i → P ≤ i → out ≡ splice start 0 (keptBelow P f)
   write-done out n i w h = let e : P ≡ i = omega (arith, w .within) in rw e (w .kept)
-
--- ---- the sets of a rank
-
--- the loop's count is the length of the set
-pub set-length : (old new : List ℕ) (p : ℕ) (sending : Bool) (P n : ℕ) {i : ℕ} → P ≡ ranks old → P ≤ maxRanks → i ≤ P → P ≤ i → n ≡ countBelow i (exchangesTree old new p sending)
-    → (n ≡ length (rankSet old new p sending)) × (n ≤ maxRanks)
-unfolding rankSet
-set-length old new p sending P n {i} e b h l c =
-    let f = exchangesTree old new p sending in
-    let t : i ≡ ranks old = omega arith in
-    let d : n ≡ countBelow (ranks old) f = rw t at c in
-    (d ∙ sym (kept-length (ranks old) f), omega (arith, count-le (ranks old) f))
-
--- room for the set is room for what the loop keeps
-pub set-room : {old new out : List ℕ} {p P : ℕ} {sending : Bool} → RoomFor old new p sending out → P ≡ ranks old → length (keptBelow P (exchangesTree old new p sending)) ≤ length out
-unfolding rankSet
-set-room f e = rw e (f .room)
-
--- and what the loop wrote is the set
-pub set-written : (old new start out : List ℕ) (p P : ℕ) (sending : Bool) → P ≡ ranks old → out ≡ splice start 0 (keptBelow P (exchangesTree old new p sending)) → out ≡ splice start 0 (rankSet old new p sending)
-unfolding rankSet
-set-written old new start out p P sending e w = rw e at w

@@ -3,5 +3,6 @@ pub mod Counting
 pub mod Senders
 pub mod Sets
 pub mod Laws
+pub mod Windows
 pub mod Answers
 pub mod Examples

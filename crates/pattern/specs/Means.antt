@@ -7,6 +7,8 @@ use lib.Dec.{leb, ltb}
 use lib.IntN.{pos}
 use lib.ListN.{length, getD}
 use Rattle.encoding.specs.Below.{keptBelow, leastBelow}
+use Rattle.encoding.specs.Pieces.{Bytes, splice}
+use Rattle.offsets.specs.Limits.{maxRanks}
 use Rattle.offsets.specs.Table.{ranks, ranksOk, valid, trees, entry, magnitude, firstTree, endTree, holds}
 use Rattle.pattern.specs.declared.Ranks.{Ranks}
 use Rattle.pattern.specs.declared.Sender.{Sender}
@@ -23,6 +25,12 @@ pub record TreeOf (t : List ℕ) (k : ℕ) : Type 0 where
   pub ranksFit : ranksOk t ≡ true
   pub isValid : valid t ≡ true
   pub treeBelow : k < trees t
+
+-- a valid table
+pub record ValidTable (t : List ℕ) : Type 0 where
+  pub bytes : Bytes t
+  pub ranksFit : ranksOk t ≡ true
+  pub isValid : valid t ≡ true
 
 -- two tables that agree, and a rank of theirs
 pub record RankOf (old new : List ℕ) (p : ℕ) : Type 0 where
@@ -97,10 +105,34 @@ exchangesTree old new rank sending other = cond sending (sendsTo old new rank ot
 unfoldable pub rankSet : List ℕ → List ℕ → ℕ → Bool → List ℕ
 rankSet old new rank sending = keptBelow (ranks old) (exchangesTree old new rank sending)
 
--- what writing a set takes: room in the lent list
-pub record RoomFor (old new : List ℕ) (p : ℕ) (sending : Bool) (out : List ℕ) : Type 0 where
-  pub rank : RankOf old new p
-  pub room : length (rankSet old new p sending) ≤ length out
+-- ---- the window of ranks with which a rank may exchange trees
+
+-- the ranks below r - 1 have no tree from k on, and from rank r on |O[p]| is above k
+pub record FirstAbove (t : List ℕ) (k r : ℕ) : Type 0 where
+  pub low : 1 ≤ r
+  pub high : r ≤ ranks t
+  pub before : (i : ℕ) → suc i < r → endTree t i ≤ k
+  pub after : (i : ℕ) → r ≤ i → i < ranks t → k < magnitude (entry t i)
+
+-- a rank outside the window has no tree from a on and before b
+pub record Meeting (t : List ℕ) (a b first end : ℕ) : Type 0 where
+  pub ordered : first ≤ end
+  pub within : end ≤ ranks t
+  pub before : (i : ℕ) → i < first → endTree t i ≤ a
+  pub after : (i : ℕ) → end ≤ i → i < ranks t → b ≤ firstTree t i
+
+-- with a rank outside the window no tree is exchanged
+pub record WindowOf (old new : List ℕ) (rank : ℕ) (sending : Bool) (first end : ℕ) : Type 0 where
+  pub ordered : first ≤ end
+  pub within : end ≤ ranks old
+  pub before : (i : ℕ) → i < first → exchangesTree old new rank sending i ≡ false
+  pub after : (i : ℕ) → end ≤ i → i < ranks old → exchangesTree old new rank sending i ≡ false
+
+-- n ranks are in the set, and they are written where the list has room for them
+pub record SetWritten (old new : List ℕ) (p : ℕ) (sending : Bool) (start out : List ℕ) (n : ℕ) : Type 0 where
+  pub counted : n ≡ length (rankSet old new p sending)
+  pub few : n ≤ maxRanks
+  pub kept : n ≤ length start → out ≡ splice start 0 (rankSet old new p sending)
 
 -- either call for a set
 unfoldable pub rankSetOf : List ℕ → List ℕ → ℕ → Bool → List ℕ → Ranks × List ℕ

@@ -15,6 +15,7 @@ pub mod holder;
 pub mod range;
 pub mod set;
 pub mod tables;
+pub mod window;
 
 // Who sends a tree: a rank, or nobody.
 pub enum Sender {

@@ -1,17 +1,18 @@
 // The send set and the receive set of a rank: one loop finds both.
 ghost use mathlib.Core.Path.{_≡_};
 ghost use Prim.Native.Nat.{_≤_};
+ghost use lib.Dec.{ltb};
 ghost use lib.ListN.{length};
-ghost use Rattle.encoding.specs.Pieces.{splice};
 ghost use Rattle.offsets.specs.Limits.{maxRanks};
 ghost use Rattle.pattern.specs.Calls.{ranksAnswer};
-ghost use Rattle.pattern.specs.Means.{RankOf, PairNear, RoomFor, SmallNumbers, exchangesTree, rankSet, ranksRefused, rankSetOf};
+ghost use Rattle.pattern.specs.Means.{RankOf, PairNear, SetWritten, SmallNumbers, exchangesTree, rankSet, ranksRefused, rankSetOf};
 use crate::Ranks;
 use crate::range::lower_rank;
 use crate::range::sends_near;
 use crate::range::sends_some;
 use crate::range::upper_rank;
 use crate::tables::tables_refusal;
+use crate::window::window_of;
 use offsets::table::ranks;
 
 // Whether the rank, with the ranks that have trees on either side of it, sends the other a tree; where it isn't sending, whether it gets one from the other.
@@ -33,45 +34,50 @@ fn exchanges(
     sends_some(old, new, other, rank)
 }
 
-// How many ranks are in the send set, or in the receive set.
-pub fn set_count(old: &[u8], new: &[u8], rank: usize, sending: bool) -> usize
+// How many ranks are in the send set, or in the receive set; written where the list has room for them.
+fn set_write(old: &[u8], new: &[u8], rank: usize, sending: bool, out: &mut [u32]) -> usize
     requires { ⌜ RankOf (now old) (now new) rank ⌝ }
-    ensures { λ r. ⌜ (r ≡ length (rankSet (now (old .entry)) (now (new .entry)) rank sending)) × (r ≤ maxRanks) ⌝ }
+    ensures { λ r. ⌜ SetWritten (now (old .entry)) (now (new .entry)) rank sending (now (out .entry)) (now (out .exit)) r ⌝ }
 {
-    let end = ranks(old);
+    let window = window_of(old, new, rank, sending);
+    let end = window.end;
     let lower = lower_rank(old, rank);
     let upper = upper_rank(old, rank);
     let mut count = 0;
-    let mut other = 0;
-    while other < end {
-        let here = exchanges(old, new, rank, other, sending, lower, upper);
-        other += 1;
-        if here {
-            count += 1;
-        }
-    }
-    count
-}
-
-// Write the send set, or the receive set.
-fn set_write(old: &[u8], new: &[u8], rank: usize, sending: bool, out: &mut [u32])
-    requires { ⌜ RoomFor (now old) (now new) rank sending (now out) ⌝ }
-    ensures { λ r. ⌜ now (out .exit) ≡ splice (now (out .entry)) 0 (rankSet (now (old .entry)) (now (new .entry)) rank sending) ⌝ }
-{
-    let end = ranks(old);
-    let lower = lower_rank(old, rank);
-    let upper = upper_rank(old, rank);
-    let mut count = 0;
-    let mut other = 0;
+    let mut other = window.first;
     while other < end {
         let here = exchanges(old, new, rank, other, sending, lower, upper);
         let number = other as u32;
         other += 1;
         if here {
-            out[count] = number;
+            let place = count;
             count += 1;
+            if place < out.len() {
+                out[place] = number;
+            }
         }
     }
+    count
+}
+
+// How many ranks are in the send set, or in the receive set: the loop that writes them counts them too, and so is the only one.
+pub fn set_count(old: &[u8], new: &[u8], rank: usize, sending: bool) -> usize
+    requires { ⌜ RankOf (now old) (now new) rank ⌝ }
+    ensures { λ r. ⌜ (r ≡ length (rankSet (now (old .entry)) (now (new .entry)) rank sending)) × (r ≤ maxRanks) ⌝ }
+{
+    let mut scratch = [0u32; 1];
+    set_write(old, new, rank, sending, &mut scratch)
+}
+
+// Whether a list with room for so many ranks is too short for the set. One for P ranks never is, and the set isn't counted.
+fn too_short(old: &[u8], new: &[u8], rank: usize, sending: bool, room: usize) -> bool
+    requires { ⌜ RankOf (now old) (now new) rank ⌝ }
+    ensures { λ r. ⌜ r ≡ ltb room (length (rankSet (now (old .entry)) (now (new .entry)) rank sending)) ⌝ }
+{
+    if ranks(old) <= room {
+        return false;
+    }
+    room < set_count(old, new, rank, sending)
 }
 
 fn ranks_refused(refusal: u32) -> Ranks
@@ -119,10 +125,9 @@ pub fn rank_set(old: &[u8], new: &[u8], rank: u32, sending: bool, out: &mut [u32
     if ranks(old) <= p {
         return ranks_refused(5);
     }
-    let count = set_count(old, new, p, sending);
-    if out.len() < count {
+    if too_short(old, new, p, sending, out.len()) {
         return ranks_refused(22);
     }
-    set_write(old, new, p, sending, &mut *out);
+    let count = set_write(old, new, p, sending, &mut *out);
     ranks_found(&out[..count])
 }

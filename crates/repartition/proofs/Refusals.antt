@@ -8,6 +8,8 @@ use lib.Dec.{leb, ltb, eqb}
 use lib.ListN.{length, take, drop}
 use lib.Seq.{take-at}
 use borrow.Author.Tests.{eqb-true, eq-eqb, not-false}
+use Rattle.build_all.specs.Calls.{messagesAnswer, buildAllRefusal, buildAllOf}
+use Rattle.deliver_all.specs.Calls.{deliverAllRefusal, deliverAllCount, deliverAllArea, deliverAllOf}
 use Rattle.encoding.specs.Answer.{lengthAnswer, written, writeAnswer}
 use Rattle.encoding.specs.Below.{allBelow}
 use Rattle.encoding.specs.Pieces.{splice}
@@ -62,6 +64,22 @@ refused-list : (refusal : ℕ) (counts out : List ℕ) → (refusal ≡ 0 → �
 unfolding written
 refused-list refusal counts out declined = either (eqb refusal 0) (λ e. absurd (declined (eqb-true refusal 0 e))) (λ e. rw e)
 
+refused-build-all : (part old new : List ℕ) (p epoch : ℕ) (out : List ℕ) → (buildAllOf part old new p epoch out .0 .refusal ≡ 0 → ⊥)
+    → (buildAllOf part old new p epoch out .0 .count ≡ 0) × (buildAllOf part old new p epoch out .0 .length ≡ 0) × (buildAllOf part old new p epoch out .1 ≡ out)
+unfolding buildAllOf messagesAnswer written
+refused-build-all part old new p epoch out declined =
+    either (eqb (buildAllRefusal part old new p epoch out) 0)
+    (λ e. absurd (declined (rw e)))
+    (λ e. rw e (refl, refl, refl))
+
+refused-deliver-all : (area bs answers : List ℕ) → (deliverAllOf area bs answers .0 .refusal ≡ 0 → ⊥)
+    → (deliverAllOf area bs answers .0 .count ≡ 0) × (deliverAllOf area bs answers .1 .0 ≡ area) × (deliverAllOf area bs answers .1 .1 ≡ answers)
+unfolding deliverAllOf deliverAllCount deliverAllArea written
+refused-deliver-all area bs answers declined =
+    either (eqb (deliverAllRefusal area bs answers) 0)
+    (λ e. absurd (declined (rw e)))
+    (λ e. rw e (refl, refl, refl))
+
 refused-deliver : (area m : List ℕ) → (deliverOf area m .0 ≡ 0 → ⊥) → deliverOf area m .1 ≡ area
 unfolding deliverOf
 refused-deliver area m declined =
@@ -85,6 +103,8 @@ refused-unchanged =
       open-area = λ old new rank dimension epoch out. refused-writes _ _ out;
       close-area = λ area out. refused-writes _ _ out;
       deliver = refused-deliver;
+      build-all = refused-build-all;
+      deliver-all = refused-deliver-all;
       send-set = λ old new p out. refused-set _ _ out;
       receive-set = λ old new q out. refused-set _ _ out;
       leaf-counts = λ shapes lengths bits out. refused-counts _ _ _ out;

@@ -15,6 +15,8 @@ use Rattle.brick.specs.Calls.{writeBrickOf}
 use Rattle.pattern.specs.declared.Ranks.{Ranks}
 use lib.IntN.{pos}
 use Rattle.pattern.specs.Sets.{sendsTo}
+use Rattle.build_all.specs.Calls.{buildAllOf}
+use Rattle.deliver_all.specs.Calls.{deliverAllOf}
 use Rattle.pattern.specs.Calls.{sendSetOf, receiveSetOf}
 use Rattle.part.specs.Part.{partSound}
 use Rattle.part_cut.specs.Calls.{cutPartOf}
@@ -46,6 +48,10 @@ pub record RefusedUnchanged : Type 0 where
   pub open-area : (old new : List ℕ) (rank dimension epoch : ℕ) (out : List ℕ) → Unchanged (openAreaOf old new rank dimension epoch out) out
   pub close-area : (area out : List ℕ) → Unchanged (closeOf area out) out
   pub deliver : (area m : List ℕ) → (deliverOf area m .0 ≡ 0 → ⊥) → deliverOf area m .1 ≡ area
+  pub build-all : (part old new : List ℕ) (p epoch : ℕ) (out : List ℕ) → (buildAllOf part old new p epoch out .0 .refusal ≡ 0 → ⊥)
+      → (buildAllOf part old new p epoch out .0 .count ≡ 0) × (buildAllOf part old new p epoch out .0 .length ≡ 0) × (buildAllOf part old new p epoch out .1 ≡ out)
+  pub deliver-all : (area bs answers : List ℕ) → (deliverAllOf area bs answers .0 .refusal ≡ 0 → ⊥)
+      → (deliverAllOf area bs answers .0 .count ≡ 0) × (deliverAllOf area bs answers .1 .0 ≡ area) × (deliverAllOf area bs answers .1 .1 ≡ answers)
   pub send-set : (old new : List ℕ) (p : ℕ) (out : List ℕ) → SetUnchanged (sendSetOf old new p out) out
   pub receive-set : (old new : List ℕ) (q : ℕ) (out : List ℕ) → SetUnchanged (receiveSetOf old new q out) out
   pub leaf-counts : (shapes lengths bits out : List ℕ) → (leafCounts shapes lengths bits out .0 .refusal ≡ 0 → ⊥) → (leafCounts shapes lengths bits out .0 .count ≡ 0) × (leafCounts shapes lengths bits out .1 ≡ out)

@@ -252,12 +252,13 @@
  *    that it only reads may overlap: the same table may be given as old and as
  *    new.
  *  - Nobody else writes a buffer of a call while the call runs.
- *  - The thread has stack left. \ref vejgodat_message_length,
- *    \ref vejgodat_build_message and \ref vejgodat_deliver take a set of
- *    128 KiB there and less than 1 KiB more, every other call less than 1 KiB;
- *    \ref VEJGODAT_STACK_BYTES are enough for any. A thread made with a stack
- *    of 128 KiB is too small. No call can see this: too little stack breaks the
- *    program.
+ *  - The thread has stack left. A call that checks a part or closes an area
+ *    takes sets of trees there, of 208 KiB at most; \ref vejgodat_deliver takes
+ *    129 KiB; \ref vejgodat_message_length and \ref vejgodat_build_message,
+ *    which check a part too, take 336 KiB at most; every other call takes less
+ *    than 1 KiB. \ref VEJGODAT_STACK_BYTES are enough for any. A thread made
+ *    with a stack of 128 KiB is too small. No call can see this: too little
+ *    stack breaks the program.
  */
 #ifndef VEJGODAT_H
 #define VEJGODAT_H
@@ -295,7 +296,7 @@ extern "C" {
 #define VEJGODAT_UNUSED 4294967295u
 
 /** Bytes of stack that are enough for any call. */
-#define VEJGODAT_STACK_BYTES 147456
+#define VEJGODAT_STACK_BYTES 360448
 
 /** The bytes of an offset table of P ranks. */
 #define VEJGODAT_TABLE_BYTES(P) (8 * ((size_t) (P) + 1))

@@ -1,5 +1,6 @@
 /* How much stack each call takes: it runs on a painted stack of its own, and the deepest byte that it changed is looked
- * for. None may need more than VEJGODAT_STACK_BYTES. The mesh is a row of quadrilaterals in which each ghost is far away. */
+ * for. None may need more than VEJGODAT_STACK_BYTES. The mesh is a row of quadrilaterals in which each ghost is far away,
+ * of more than 65,536 trees, from where on the sets of trees that a call makes are largest. */
 #define _POSIX_C_SOURCE 200809L
 #include <vejgodat.h>
 
@@ -8,7 +9,7 @@
 #include <stdlib.h>
 #include <string.h>
 
-#define TREES 4096
+#define TREES 98304
 #define STACK (1 << 20)
 #define PAINT 0x5a
 

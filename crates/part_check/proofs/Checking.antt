@@ -18,7 +18,8 @@ use Rattle.mesh.specs.Mesh.{dimensionOk}
 use Rattle.offsets.specs.Table.{ranks, entry, trees, firstTree, endTree, treeCount}
 use Rattle.offsets.proofs.Tables.{count-add, end-trees, trees-high}
 use Rattle.part.specs.Layout.{treePlace, ghostPlace, partSize}
-use Rattle.positions.specs.Means.{hasNumber, positionOf, Numbered, Indexed}
+use Rattle.positions.specs.Means.{hasNumber, positionOf, memberPosition, Numbered, Indexed}
+use Rattle.positions.proofs.Positions.{index-position}
 use Rattle.part.specs.Means.{viewSound, inRange, neighbourIn, numberAt, Ascending, ghostCore, ghostHas, RankKnown, partLinked}
 use Rattle.part.proofs.Sound.{part-sound-is}
 use Rattle.part.specs.Part.{partDimension, partK, partFirst, partCount, partGhostCount, storedTree, storedGhost, globalNumber, globalTree, partHeaderSound, partSound}
@@ -117,15 +118,11 @@ module _ (part : List ℕ) (n g : ℕ) where
     index-word j h = omega (arith, ghosts-few first n g K (storedTree part) (ghostCore part n) (known .numbers), known .laid .within, known .laid .most)
 
   -- the ghost that is looked up
-  module _ {at : ℕ} (from : at ≡ ghostPlace n 0) where
-    pub index-at : {ws behind : List ℕ} → Indexed part (ghostPlace n 0) g ws behind → Indexed part at g ws behind
-    index-at x = rw from x
-
-    pub ghost-found : (k : ℕ) {p : ℕ} → p ≡ positionOf part at g k → p ≡ leastBelow g (ghostHas (ghostCore part n) k)
-    unfolding positionOf hasNumber ghostHas
-    ghost-found k e =
-        e ∙ ap (λ (a : ℕ). leastBelow g (hasNumber part a k)) from
-        ∙ least-same g (hasNumber part (ghostPlace n 0) k) (ghostHas (ghostCore part n) k) (λ i h. ap (λ (x : ℕ). eqb x k) (number-there part n g i))
+  pub ghost-found : {ws behind : List ℕ} → Indexed part (ghostPlace n 0) g ws behind → (k : ℕ) {p : ℕ} → p ≡ memberPosition ws g k → p ≡ leastBelow g (ghostHas (ghostCore part n) k)
+  unfolding positionOf hasNumber ghostHas
+  ghost-found x k e =
+      e ∙ index-position x k
+      ∙ least-same g (hasNumber part (ghostPlace n 0) k) (ghostHas (ghostCore part n) k) (λ i h. ap (λ (y : ℕ). eqb y k) (number-there part n g i))
 
   -- the link of a ghost
   module _ (first D K j f : ℕ) {at k : ℕ} (here : at ≡ ghostPlace n j) (read : k ≡ neighbourOf (piece part at coreSize) f) {b : Bool} (test : b ≡ inRange first (first + n) k) where

@@ -9,7 +9,6 @@ use part::layout::tree_count;
 use part::layout::trees;
 use part::range::beside;
 use part::range::in_range;
-use positions::index::find_held;
 use records::index::GlobalIndex;
 use records::index::LocalIndex;
 use records::index::ghost_index;
@@ -237,14 +236,7 @@ fn ghost_face(
         return link_ok(part, dimension, own.0, at, face, tree_at(tree));
     }
     let number = records::read::number_of(part, at);
-    let position = find_held(
-        part,
-        ghost_at(count, 0),
-        ghosts,
-        marks,
-        behind,
-        GlobalIndex(k),
-    );
+    let position = positions::index::find(marks, behind, ghosts, GlobalIndex(k));
     if position < ghosts {
         return link_ok(part, dimension, number, at, face, ghost_at(count, position));
     }

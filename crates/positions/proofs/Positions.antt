@@ -8,17 +8,16 @@ use mathlib.Core.List.{List}
 use lib.Dec.{eqb, ltb}
 use lib.ListN.{length, getD, set, replicate, length-set, length-replicate, getD-replicate, List·getD-eq-default}
 use lib.Seq.{getD-set-same, getD-set-other}
-use lib.Pow.{shr-le}
 use borrow.Author.Tests.{ltb-true, lt-ltb, le-ltb, eqb-true, eqb-false, eq-eqb, ne-eqb}
 use Rattle.encoding.specs.Below.{anyBelow, countBelow, leastBelow}
 use Rattle.encoding.specs.Numbers.{u32At}
-use Rattle.encoding.proofs.Below.{either, tests, clash, below-suc, any-at, any-none, any-intro, any-false, any-same, count-more, count-same, count-none, count-le, count-mono, count-initial, least-is, least-none}
+use Rattle.encoding.proofs.Below.{either, tests, clash, below-suc, any-at, any-intro, count-more, count-same, count-none, count-le, count-initial, least-is, least-none}
 use Rattle.bits.specs.Bits.{bitOf, inSet, withMember}
-use Rattle.bits.proofs.Bits.{bit-shift, bit-past, in-none, in-with, with-length, count-add}
+use Rattle.bits.proofs.Bits.{bit-zero, bit-shift, bit-past, in-none, in-with, with-length, count-add}
 use Rattle.records.specs.Record.{coreSize}
 use Rattle.part.specs.Means.{numberAt, Ascending, smaller}
 use Rattle.part.proofs.Search.{Between, between-end}
-use Rattle.positions.specs.Means.{hasNumber, someHas, positionOf, Markable, Added, Countable, Counted, Blank, Numbered, Indexed, Located}
+use Rattle.positions.specs.Means.{hasNumber, someHas, positionOf, memberPosition, Markable, Added, Countable, Counted, Counts, Blank, Numbered, Indexed}
 
 -- ---- marking
 
@@ -68,7 +67,7 @@ module _ (ws : List ℕ) where
       rw (q, r)
 
   -- the members below the next word are those below this one and its bits
-  pub word-more : (i : ℕ) → countBelow (64 * (i + 1)) (inSet ws) ≡ countBelow (64 * i) (inSet ws) + countBelow 64 (bitOf (getD ws i 0))
+  word-more : (i : ℕ) → countBelow (64 * (i + 1)) (inSet ws) ≡ countBelow (64 * i) (inSet ws) + countBelow 64 (bitOf (getD ws i 0))
   word-more i =
       let e : 64 * (i + 1) ≡ 64 * i + 64 = omega arith in
       rw (e, count-add (64 * i) 64 (inSet ws), count-same 64 (λ b. inSet ws (64 * i + b)) (bitOf (getD ws i 0)) (in-word i))
@@ -103,7 +102,7 @@ module _ (ws : List ℕ) where
       (s, omega (arith, count-le (64 * words) (inSet ws)))
 
   -- the members below k are those below the end of its word but for those of the word from k on
-  pub word-rest : (k : ℕ) → getD ws (k / 64) 0 < 2 ^ 64 → countBelow (64 * (k / 64 + 1)) (inSet ws) ≡ countBelow k (inSet ws) + countBelow 64 (bitOf (getD ws (k / 64) 0 / 2 ^ (k % 64)))
+  word-rest : (k : ℕ) → getD ws (k / 64) 0 < 2 ^ 64 → countBelow (64 * (k / 64 + 1)) (inSet ws) ≡ countBelow k (inSet ws) + countBelow 64 (bitOf (getD ws (k / 64) 0 / 2 ^ (k % 64)))
   word-rest k fits =
       let w : ℕ = getD ws (k / 64) 0 in
       let b : ℕ = k % 64 in
@@ -187,24 +186,20 @@ module _ (bs : List ℕ) (at count : ℕ) (asc : Ascending bs at count) where
     members-between (suc k) = rw (add-one k) at (between-more k (members-between k))
 
     -- the position of a number is the count of members below it
-    pub members-smaller : (k : ℕ) → (countBelow k (inSet ws) ≡ smaller bs at count k) × (countBelow k (inSet ws) ≤ count)
+    members-smaller : (k : ℕ) → (countBelow k (inSet ws) ≡ smaller bs at count k) × (countBelow k (inSet ws) ≤ count)
     members-smaller k = between-end bs at count k asc (members-between k) (omega arith)
 
   -- where all numbers are below k, all records are before it
-  pub all-smaller : (k : ℕ) → ((i : ℕ) → i < count → numberAt bs at i < k) → smaller bs at count k ≡ count
+  all-smaller : (k : ℕ) → ((i : ℕ) → i < count → numberAt bs at i < k) → smaller bs at count k ≡ count
   unfolding smaller
   all-smaller k low = count-initial count (λ i. ltb (numberAt bs at i) k) count (omega arith) (λ i h. lt-ltb _ _ (low i h)) (λ i h l. absurd (omega arith))
 
   -- ---- the record with a number
 
   module _ (k : ℕ) where
-    pub none-is : someHas bs at count k ≡ false → count ≡ positionOf bs at count k
+    none-is : someHas bs at count k ≡ false → count ≡ positionOf bs at count k
     unfolding someHas positionOf
     none-is e = sym (least-none count (hasNumber bs at k) e)
-
-    none-has : ((i : ℕ) → i < count → numberAt bs at i ≡ k → ⊥) → someHas bs at count k ≡ false
-    unfolding someHas hasNumber
-    none-has none = any-none count (hasNumber bs at k) (λ i h. ne-eqb _ _ (none i h))
 
     found-is : (p : ℕ) → p < count → numberAt bs at p ≡ k → p ≡ positionOf bs at count k
     unfolding positionOf hasNumber
@@ -249,38 +244,41 @@ module _ {bs : List ℕ} {at count below : ℕ} {ws₀ behind₀ : List ℕ} (n 
     made c =
         record {
           ascending = n .ascending;
-          same = c .same-length ∙ z .same ∙ sym (m .same-length);
-          low = λ i l. omega (arith, n .low i l, m .same-length);
           members = made-members;
-          counts = λ i h. either (ltb i words)
-              (λ p. c .counts i (omega arith) (ltb-true i words p) ∙ made-all (64 * words) (omega arith))
-              (λ p. omega (arith, c .others i (omega tests), z .zeros i, made-all (64 * (i + 1)) (omega tests)));
+          counted =
+              record {
+                same = c .same-length ∙ z .same ∙ sym (m .same-length);
+                counts = λ i h. either (ltb i words)
+                    (λ p. c .counts i (omega arith) (ltb-true i words p) ∙ made-all (64 * words) (omega arith))
+                    (λ p. omega (arith, c .others i (omega tests), z .zeros i, made-all (64 * (i + 1)) (omega tests)));
+              };
         }
 
-module _ {ws behind : List ℕ} {count k : ℕ} (x : Located ws behind count k) (fits : getD ws (k / 64) 0 < 2 ^ 64) {rest : ℕ} (is : rest ≡ countBelow 64 (bitOf (getD ws (k / 64) 0 / 2 ^ (k % 64)))) where
+module _ {ws behind : List ℕ} {count : ℕ} (x : Counts ws behind count) (k : ℕ) where
   -- those below k, and those from k on in its word and behind it, are all
-  pub members-split : countBelow k (inSet ws) + (getD behind (k / 64) 0 + rest) ≡ count
-  members-split = omega (arith, x .counted (k / 64) (omega (arith, x .low)), word-rest ws k fits)
+  pub members-split : k < 64 * length ws → getD ws (k / 64) 0 < 2 ^ 64 → {rest : ℕ} → rest ≡ countBelow 64 (bitOf (getD ws (k / 64) 0 / 2 ^ (k % 64))) → countBelow k (inSet ws) + (getD behind (k / 64) 0 + rest) ≡ count
+  members-split h fits is = omega (arith, x .counts (k / 64) (omega arith), word-rest ws k fits)
 
-module _ {bs : List ℕ} {at count : ℕ} {ws behind : List ℕ} (x : Indexed bs at count ws behind) (k : ℕ) where
-  pub find-past : length ws ≤ k / 64 → (count ≡ smaller bs at count k) × (count ≤ count)
-  find-past h = (sym (all-smaller bs at count (x .ascending) k (λ i l. omega (arith, x .low i l))), omega arith)
+-- what isn't in a word is no member
+pub member-past : (ws : List ℕ) (count k : ℕ) → length ws ≤ k / 64 → (count ≡ memberPosition ws count k) × (count ≤ count)
+unfolding memberPosition inSet
+member-past ws count k h = (rw (List·getD-eq-default ws 0 h, bit-zero (k % 64)), omega arith)
 
-  pub find-located : k / 64 < length ws → Located ws behind count k
-  find-located h = record { same = x .same; low = omega arith; counted = x .counts }
+pub member-none : (ws : List ℕ) (count k : ℕ) {b : Bool} → b ≡ inSet ws k → b ≡ false → (count ≡ memberPosition ws count k) × (count ≤ count)
+unfolding memberPosition
+member-none ws count k e f = (rw (← e, f), omega arith)
 
-  module _ {p : ℕ} (is : p ≡ countBelow k (inSet ws)) where
-    pub find-is : (p ≡ smaller bs at count k) × (p ≤ count)
-    find-is = let r = members-smaller bs at count (x .ascending) ws (x .members) k in (is ∙ r .0, omega (arith, r .1))
+pub member-is : (ws : List ℕ) (count k : ℕ) {b : Bool} {p : ℕ} → b ≡ inSet ws k → b ≡ true → p ≡ countBelow k (inSet ws) → p ≡ memberPosition ws count k
+unfolding memberPosition
+member-is ws count k e t q = rw (← e, t, q)
 
-    pub held-is : {b : Bool} → b ≡ inSet ws k → b ≡ true → (p ≡ positionOf bs at count k) × (p ≤ count)
-    held-is e t =
-        let found = has-some bs at count (x .ascending) k (sym (x .members k) ∙ sym e ∙ t) in
-        let same : p ≡ found .0 = find-is .0 ∙ smaller-is bs at count (x .ascending) k (found .0) (found .1) (has-is bs at count (x .ascending) k (found .0) (found .2)) in
-        (rw same (found-is bs at count (x .ascending) k (found .0) (found .1) (has-is bs at count (x .ascending) k (found .0) (found .2))), omega (arith, find-is .1))
-
-  pub held-past : length ws ≤ k / 64 → (count ≡ positionOf bs at count k) × (count ≤ count)
-  held-past h = (none-is bs at count (x .ascending) k (none-has bs at count (x .ascending) k (λ i l e. omega (arith, x .low i l))), omega arith)
-
-  pub held-none : {b : Bool} → b ≡ inSet ws k → b ≡ false → (count ≡ positionOf bs at count k) × (count ≤ count)
-  held-none e f = (none-is bs at count (x .ascending) k (sym (x .members k) ∙ sym e ∙ f), omega arith)
+-- the position among the members is that among the records
+pub index-position : {bs : List ℕ} {at count : ℕ} {ws behind : List ℕ} → Indexed bs at count ws behind → (k : ℕ) → memberPosition ws count k ≡ positionOf bs at count k
+unfolding memberPosition
+index-position {bs} {at} {count} {ws} x k =
+    either (inSet ws k)
+    (λ t.
+    let found = has-some bs at count (x .ascending) k (sym (x .members k) ∙ t) in
+    let number : numberAt bs at (found .0) ≡ k = has-is bs at count (x .ascending) k (found .0) (found .2) in
+    rw t (members-smaller bs at count (x .ascending) ws (x .members) k .0 ∙ smaller-is bs at count (x .ascending) k (found .0) (found .1) number ∙ found-is bs at count (x .ascending) k (found .0) (found .1) number))
+    (λ f. rw f (none-is bs at count (x .ascending) k (sym (x .members k) ∙ f)))

@@ -1,7 +1,7 @@
 -- Means, no part of what is promised: the numbers of ascending records as a set of bits, with counts, and what is looked up in it.
 use Prim.Native.Nat.{ℕ, _+_, _*_, _^_, _≤_, _<_}
 use mathlib.Core.Path.{_≡_}
-use mathlib.Core.Bool.{Bool, false, _||_}
+use mathlib.Core.Bool.{Bool, false, cond, _||_}
 use mathlib.Core.List.{List}
 use lib.Dec.{eqb}
 use lib.ListN.{length, getD}
@@ -56,16 +56,17 @@ pub record Numbered (bs : List ℕ) (at count below : ℕ) : Type 0 where
   pub ascending : Ascending bs at count
   pub low : (i : ℕ) → i < count → numberAt bs at i < below
 
--- records that ascend and their index: a set of their numbers, and how many members are in the words behind each word
-pub record Indexed (bs : List ℕ) (at count : ℕ) (ws behind : List ℕ) : Type 0 where
-  pub ascending : Ascending bs at count
+-- how many members are in the words behind each word of a set of count numbers
+pub record Counts (ws behind : List ℕ) (count : ℕ) : Type 0 where
   pub same : length behind ≡ length ws
-  pub low : (i : ℕ) → i < count → numberAt bs at i < 64 * length ws
-  pub members : (k : ℕ) → inSet ws k ≡ someHas bs at count k
   pub counts : (i : ℕ) → i < length ws → getD behind i 0 + countBelow (64 * (i + 1)) (inSet ws) ≡ count
 
--- number k has a word, and the count behind that word is right
-pub record Located (ws behind : List ℕ) (count k : ℕ) : Type 0 where
-  pub same : length behind ≡ length ws
-  pub low : k < 64 * length ws
-  pub counted : (i : ℕ) → i < length ws → getD behind i 0 + countBelow (64 * (i + 1)) (inSet ws) ≡ count
+-- the position of k among the members; count where it is none
+unfoldable pub memberPosition : List ℕ → ℕ → ℕ → ℕ
+memberPosition ws count k = cond (inSet ws k) (countBelow k (inSet ws)) count
+
+-- records that ascend and their index: a set of their numbers, and its counts
+pub record Indexed (bs : List ℕ) (at count : ℕ) (ws behind : List ℕ) : Type 0 where
+  pub ascending : Ascending bs at count
+  pub members : (k : ℕ) → inSet ws k ≡ someHas bs at count k
+  pub counted : Counts ws behind count

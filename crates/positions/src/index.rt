@@ -4,12 +4,11 @@ use bits::word::ones;
 use encoding::bytes::read_u32;
 use records::index::GlobalIndex;
 ghost use mathlib.Core.Path.{_≡_};
-ghost use Prim.Native.Nat.{_*_, _≤_};
+ghost use Prim.Native.Nat.{_*_, _≤_, _<_};
 ghost use lib.ListN.{length};
 ghost use Rattle.encoding.specs.Below.{countBelow};
 ghost use Rattle.bits.specs.Bits.{inSet};
-ghost use Rattle.part.specs.Means.{smaller};
-ghost use Rattle.positions.specs.Means.{someHas, positionOf, Markable, Added, Countable, Counted, Blank, Numbered, Indexed, Located};
+ghost use Rattle.positions.specs.Means.{someHas, memberPosition, Markable, Added, Countable, Counted, Counts, Blank, Numbered, Indexed};
 
 // Adds the number of each of `count` core records from byte `at` on.
 fn mark_numbers(bs: &[u8], at: usize, count: u32, marks: &mut [u64])
@@ -50,43 +49,17 @@ pub fn make(bs: &[u8], at: usize, count: u32, below: u32, marks: &mut [u64], beh
 
 // How many members are below k, of `count` in all: those that aren't from k on.
 fn members_below(marks: &[u64], behind: &[u32], count: u32, k: u32) -> u32
-    requires { ⌜ Located (now marks) (now behind) count k ⌝ }
+    requires { ⌜ Counts (now marks) (now behind) count × (k < 64 * length (now marks)) ⌝ }
     ensures { λ r. ⌜ (r ≡ countBelow k (inSet (now (marks .entry)))) × (r ≤ count) ⌝ }
 {
     let i = (k / 64) as usize;
     count - (behind[i] + ones(marks[i] >> (k % 64)))
 }
 
-// The position of the number among `count` core records from byte `at` on, by their index.
-pub fn find(
-    bs: &[u8],
-    at: usize,
-    count: u32,
-    marks: &[u64],
-    behind: &[u32],
-    number: GlobalIndex,
-) -> u32
-    requires { ⌜ Indexed (now bs) at count (now marks) (now behind) ⌝ }
-    ensures { λ r. ⌜ (r ≡ smaller (now (bs .entry)) at count (number .0)) × (r ≤ count) ⌝ }
-{
-    let k = number.0;
-    if marks.len() <= (k / 64) as usize {
-        return count;
-    }
-    members_below(marks, behind, count, k)
-}
-
-// The position of the record with the number; `count` where none has it. No record is read.
-pub fn find_held(
-    bs: &[u8],
-    at: usize,
-    count: u32,
-    marks: &[u64],
-    behind: &[u32],
-    number: GlobalIndex,
-) -> u32
-    requires { ⌜ Indexed (now bs) at count (now marks) (now behind) ⌝ }
-    ensures { λ r. ⌜ (r ≡ positionOf (now (bs .entry)) at count (number .0)) × (r ≤ count) ⌝ }
+// The position of the number among the members; `count`, which is how many there are, where it is none.
+pub fn find(marks: &[u64], behind: &[u32], count: u32, number: GlobalIndex) -> u32
+    requires { ⌜ Counts (now marks) (now behind) count ⌝ }
+    ensures { λ r. ⌜ (r ≡ memberPosition (now (marks .entry)) count (number .0)) × (r ≤ count) ⌝ }
 {
     let k = number.0;
     if marks.len() <= (k / 64) as usize {

@@ -1,5 +1,5 @@
 use Rattle.part.proofs.Ranges.{range-last, range-first}
-use Rattle.part_check.proofs.Checking.{index-at, ghost-found, index-word, link-local, link-held, link-free}
+use Rattle.part_check.proofs.Checking.{ghost-found, index-word, link-local, link-held, link-free}
 use native.Mathlib.Omega.{arith}
 use borrow.Author.Needs.{needs}
 use Rattle.part_check.proofs.sound.ghost_face.Statement.{statement}
@@ -43,26 +43,41 @@ returns c =
 number-of-requires : tie.Need-number-of-requires
 number-of-requires c κs = search needs
 
+find-requires : tie.Need-find-requires
+find-requires c κs = c .before .before .before .before .before .before .before .before .pre .3 .counted
+
 ghost-at-requires-2 : tie.Need-ghost-at-requires-2
 ghost-at-requires-2 c κs = search needs
-
-find-held-requires : tie.Need-find-held-requires
-find-held-requires c κs = index-at _ _ _ (c .ghost-at2 .ensures) (c .before .before .before .before .before .before .before .before .before .pre .3)
-
-ghost-at-requires-3 : tie.Need-ghost-at-requires-3
-ghost-at-requires-3 c κs = search needs
 
 link-ok-requires-2 : tie.Need-link-ok-requires-2
 link-ok-requires-2 c κs = search needs
 
 returns-2 : tie.Need-returns-2
-returns-2 c = link-held _ _ _ _ _ _ _ _ (c .before .before .before .before .before .before .before .before .before .ghost-at .ensures) (c .before .before .before .before .before .before .before .before .neighbour-of .ensures) (c .before .before .before .before .before .before .before .in-range .ensures) (c .before .before .before .before .before .before .if1 .left) (ghost-found _ _ _ (c .before .before .before .before .ghost-at2 .ensures) _ (c .before .before .before .find-held .ensures .0)) (c .before .before .if2 .taken) (c .before .before .before .before .before .number-of .ensures) (c .before .ghost-at3 .ensures) (c .link-ok2 .ensures)
+returns-2 c =
+    let pre = c .before .before .before .before .before .before .before .before .before .before .before .before .pre in
+    let ghost-at = c .before .before .before .before .before .before .before .before .ghost-at in
+    let neighbour-of = c .before .before .before .before .before .before .before .neighbour-of in
+    let in-range = c .before .before .before .before .before .before .in-range in
+    let if1 = c .before .before .before .before .before .if1 in
+    let number-of = c .before .before .before .before .number-of in
+    let find = c .before .before .before .find in
+    let if2 = c .before .before .if2 in
+    let ghost-at2 = c .before .ghost-at2 in
+    link-held _ _ _ _ _ _ _ _ (ghost-at .ensures) (neighbour-of .ensures) (in-range .ensures) (if1 .left) (ghost-found _ _ _ (pre .3) _ (find .ensures .0)) (if2 .taken) (number-of .ensures) (ghost-at2 .ensures) (c .link-ok2 .ensures)
 
 orientation-ok-requires : tie.Need-orientation-ok-requires
 orientation-ok-requires c κs = search needs
 
 returns-3 : tie.Need-returns-3
-returns-3 c = link-free _ _ _ _ _ _ _ _ (c .before .before .before .before .before .before .before .before .ghost-at .ensures) (c .before .before .before .before .before .before .before .neighbour-of .ensures) (c .before .before .before .before .before .before .in-range .ensures) (c .before .before .before .before .before .if1 .left) (ghost-found _ _ _ (c .before .before .before .ghost-at2 .ensures) _ (c .before .before .find-held .ensures .0)) (c .before .if2 .left) (c .orientation-ok .ensures)
+returns-3 c =
+    let pre = c .before .before .before .before .before .before .before .before .before .before .before .pre in
+    let ghost-at = c .before .before .before .before .before .before .before .ghost-at in
+    let neighbour-of = c .before .before .before .before .before .before .neighbour-of in
+    let in-range = c .before .before .before .before .before .in-range in
+    let if1 = c .before .before .before .before .if1 in
+    let find = c .before .before .find in
+    let if2 = c .before .if2 in
+    link-free _ _ _ _ _ _ _ _ (ghost-at .ensures) (neighbour-of .ensures) (in-range .ensures) (if1 .left) (ghost-found _ _ _ (pre .3) _ (find .ensures .0)) (if2 .left) (c .orientation-ok .ensures)
 
 pub ghost-face-spec : {M : Type 1} → statement M
 ghost-face-spec =
@@ -78,9 +93,8 @@ ghost-face-spec =
     link-ok-requires
     returns
     number-of-requires
+    find-requires
     ghost-at-requires-2
-    find-held-requires
-    ghost-at-requires-3
     link-ok-requires-2
     returns-2
     orientation-ok-requires

@@ -1,4 +1,5 @@
-use Rattle.positions.proofs.Positions.{find-past, find-located, find-is}
+use Rattle.positions.proofs.Positions.{member-past, member-none, member-is}
+use borrow.Author.Tests.{not-true, not-false}
 use borrow.Author.Needs.{needs}
 use Rattle.positions.proofs.index.find.Statement.{statement}
 use Rattle.positions.proofs.index.find.Tie as tie
@@ -7,13 +8,19 @@ cast-if1 : tie.Need-cast-if1
 cast-if1 c = search needs
 
 returns : tie.Need-returns
-returns c = find-past (c .before .before .before .before .pre) _ (c .if1 .taken)
+returns c = member-past _ _ _ (c .if1 .taken)
 
-members-below-requires : tie.Need-members-below-requires
-members-below-requires c κs = find-located (c .before .before .before .before .pre) _ (c .if1 .left)
+in-set-requires : tie.Need-in-set-requires
+in-set-requires c κs = search needs
 
 returns-2 : tie.Need-returns-2
-returns-2 c = find-is (c .before .before .before .before .before .pre) _ (c .members-below .ensures .0)
+returns-2 c = member-none _ _ _ (c .before .in-set .ensures) (not-true _ (c .if2 .taken))
+
+members-below-requires : tie.Need-members-below-requires
+members-below-requires c κs = search needs
+
+returns-3 : tie.Need-returns-3
+returns-3 c = (member-is _ _ _ (c .before .before .in-set .ensures) (not-false _ (c .before .if2 .left)) (c .members-below .ensures .0), c .members-below .ensures .1)
 
 pub find-spec : {M : Type 1} → statement M
-find-spec = tie.close (tie.spec cast-if1 returns members-below-requires returns-2)
+find-spec = tie.close (tie.spec cast-if1 returns in-set-requires returns-2 members-below-requires returns-3)

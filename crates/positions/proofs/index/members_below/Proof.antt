@@ -29,13 +29,13 @@ ones-requires : tie.Need-ones-requires
 ones-requires c κs = search needs
 
 add-result : tie.Need-add-result
-add-result c = omega (arith, members-split (c .before .before .before .before .before .pre) (c .before .before .before .before .shared-slice-known .given _ .fits) (c .ones .ensures .0))
+add-result c = omega (arith, members-split (c .before .before .before .before .before .pre .0) _ (c .before .before .before .before .before .pre .1) (c .before .before .before .before .shared-slice-known .given _ .fits) (c .ones .ensures .0))
 
 sub-result : tie.Need-sub-result
-sub-result c = omega (arith, members-split (c .before .before .before .before .before .pre) (c .before .before .before .before .shared-slice-known .given _ .fits) (c .ones .ensures .0))
+sub-result c = omega (arith, members-split (c .before .before .before .before .before .pre .0) _ (c .before .before .before .before .before .pre .1) (c .before .before .before .before .shared-slice-known .given _ .fits) (c .ones .ensures .0))
 
 returns : tie.Need-returns
-returns c = (omega (arith, members-split (c .before .before .before .before .before .pre) (c .before .before .before .before .shared-slice-known .given _ .fits) (c .ones .ensures .0)), omega arith)
+returns c = (omega (arith, members-split (c .before .before .before .before .before .pre .0) _ (c .before .before .before .before .before .pre .1) (c .before .before .before .before .shared-slice-known .given _ .fits) (c .ones .ensures .0)), omega arith)
 
 pub members-below-spec : {M : Type 1} → statement M
 members-below-spec =

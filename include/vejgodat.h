@@ -862,8 +862,8 @@ vejgodat_length     vejgodat_cut_part (const uint8_t * mesh, size_t mesh_len,
  * Checks, in this order: those of \ref vejgodat_check_table (2, 3);
  * \ref VEJGODAT_INDEX (5) if \a rank is not below P; \ref VEJGODAT_PART (8) if
  * the part isn't sound, for whatever reason.
- * Cost: O(P) for the check of the table; then O(F (n + g log g)), since a
- * ghost's neighbours are searched by halves among the ghosts. Constant after
+ * Cost: O(P) for the check of the table; then O(F (n + g) + K / 64), since a
+ * ghost's neighbours are looked up in a set of the ghosts. Constant after
  * the table where header or length is wrong.
  *
  * \param [in] part       Any bytes. Not changed.
@@ -1239,8 +1239,8 @@ vejgodat_progress   vejgodat_progress_of (const uint8_t * area,
  * Checks, in this order: \ref VEJGODAT_AREA (10) if the area isn't sound;
  * \ref VEJGODAT_MISSING (20) if a sender of the receive set isn't heard;
  * \ref VEJGODAT_JOIN (21) if the part that the slots give isn't sound.
- * Cost: one pass over the area, which looks for each face at its neighbour,
- * whose ghosts are searched by halves.
+ * Cost: one pass over the area, which looks for each face at its neighbour;
+ * ghosts are looked up in a set of them.
  *
  * \param [in] area       An area; any bytes. Not changed.
  * \param [in] area_len   The number of its bytes.

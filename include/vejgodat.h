@@ -256,11 +256,10 @@
  *    that it only reads may overlap: the same table may be given as old and as
  *    new.
  *  - Nobody else writes a buffer of a call while the call runs.
- *  - The thread has stack left. \ref vejgodat_message_length,
- *    \ref vejgodat_build_message, \ref vejgodat_deliver,
- *    \ref vejgodat_build_all_length, \ref vejgodat_build_all and
- *    \ref vejgodat_deliver_all take a set of
- *    128 KiB there and less than 1 KiB more, every other call less than 1 KiB;
+ *  - The thread has stack left. A call that checks a part or closes an area
+ *    takes sets of trees there, of 208 KiB at most; \ref vejgodat_deliver and
+ *    \ref vejgodat_deliver_all take 129 KiB; those that build messages check a
+ *    part too, and take 336 KiB at most; every other call takes less than 1 KiB.
  *    \ref VEJGODAT_STACK_BYTES are enough for any. A thread made with a stack
  *    of 128 KiB is too small. Only \ref vejgodat_triangle_length and
  *    \ref vejgodat_import_triangle take more, 1.75 MiB whatever the file is;
@@ -307,7 +306,7 @@ extern "C" {
 
 /** Bytes of stack that are enough for any call but those that read an element
  * file. */
-#define VEJGODAT_STACK_BYTES 147456
+#define VEJGODAT_STACK_BYTES 360448
 
 /** Bytes of stack that are enough for \ref vejgodat_triangle_length and
  * \ref vejgodat_import_triangle, and so for any call. */
@@ -981,8 +980,8 @@ vejgodat_length     vejgodat_cut_part (const uint8_t * mesh, size_t mesh_len,
  * Checks, in this order: those of \ref vejgodat_check_table (2, 3);
  * \ref VEJGODAT_INDEX (5) if \a rank is not below P; \ref VEJGODAT_PART (8) if
  * the part isn't sound, for whatever reason.
- * Cost: O(P) for the check of the table; then O(F (n + g log g)), since a
- * ghost's neighbours are searched by halves among the ghosts. Constant after
+ * Cost: O(P) for the check of the table; then O(F (n + g) + K / 64), since a
+ * ghost's neighbours are looked up in a set of the ghosts. Constant after
  * the table where header or length is wrong.
  *
  * \param [in] part       Any bytes. Not changed.
@@ -1460,8 +1459,8 @@ vejgodat_progress   vejgodat_progress_of (const uint8_t * area,
  * Checks, in this order: \ref VEJGODAT_AREA (10) if the area isn't sound;
  * \ref VEJGODAT_MISSING (20) if a sender of the receive set isn't heard;
  * \ref VEJGODAT_JOIN (21) if the part that the slots give isn't sound.
- * Cost: one pass over the area, which looks for each face at its neighbour,
- * whose ghosts are searched by halves.
+ * Cost: one pass over the area, which looks for each face at its neighbour;
+ * ghosts are looked up in a set of them.
  *
  * \param [in] area       An area; any bytes. Not changed.
  * \param [in] area_len   The number of its bytes.

@@ -1,6 +1,7 @@
 /* How much stack each call takes: it runs on a painted stack of its own, and the deepest byte that it changed is looked
  * for. None may need more than VEJGODAT_STACK_BYTES, or VEJGODAT_IMPORT_STACK_BYTES where it reads an element file. The
- * mesh is a row of quadrilaterals in which each ghost is far away. */
+ * mesh is a row of quadrilaterals in which each ghost is far away, of more than 65,536 trees, from where on the sets of
+ * trees that a call makes are largest. */
 #define _POSIX_C_SOURCE 200809L
 #include <vejgodat.h>
 
@@ -9,7 +10,7 @@
 #include <stdlib.h>
 #include <string.h>
 
-#define TREES 4096
+#define TREES 98304
 #define STACK (1 << 22)
 #define PAINT 0x5a
 

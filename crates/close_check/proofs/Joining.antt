@@ -27,7 +27,7 @@ use Rattle.area.proofs.Tabled.{tabled-long}
 use Rattle.area.proofs.Soundness.{sound-holds}
 use Rattle.area_theorems.proofs.Kept.{Ghosts}
 use Rattle.area_theorems.proofs.Again.{area-parts, sound-ghosts}
-use Rattle.close_check.specs.Means.{treeFrom, ghostFrom, Slots, linkOfTree, linkOfGhost, treeJoins, ghostJoins, recordsJoin, joinSound, Complete}
+use Rattle.close_check.specs.Means.{treeFrom, ghostFrom, Slots, SlotsNumbered, linkOfTree, linkOfGhost, treeJoins, ghostJoins, recordsJoin, joinSound, Complete}
 use Rattle.close_check.proofs.AreaSlots.{range-is, tree-slot, tree-number}
 use Rattle.close_check.proofs.Links.{tree-link-is, ghost-link-is}
 use Rattle.close_check.proofs.ByDimension.{records-by-dimension}
@@ -85,7 +85,7 @@ module _ (a : List ℕ) (bytes : Bytes a) (sound : areaSound a ≡ true) where
     unfolding treeSlotCore treeFrom
     tree-numbered = tree-number a bytes sound all
 
-    pub area-slots : Slots a (slotsPlace (areaP a)) (areaFirst a) (areaCount a) (areaGhosts a)
+    area-slots : Slots a (slotsPlace (areaP a)) (areaFirst a) (areaCount a) (areaGhosts a)
     area-slots =
         record {
           behind = omega (arith, slots-place-is (areaP a));
@@ -94,6 +94,14 @@ module _ (a : List ℕ) (bytes : Bytes a) (sound : areaSound a ≡ true) where
           numbered = tree-numbered;
           outside = ghost-outside;
           ascends = held-ghosts .ascends;
+        }
+
+    pub area-numbered : SlotsNumbered a (slotsPlace (areaP a)) (areaFirst a) (areaCount a) (areaGhosts a) (areaK a)
+    area-numbered =
+        record {
+          slots = area-slots;
+          below = held-ghosts .below;
+          few = omega (arith, H .treesAre, trees-high (areaOld a) (H .tables .oldBytes) (H .tables .oldRanks) (H .tables .oldValid));
         }
 
     tree-same : (D i : ℕ) → i < areaCount a → localSound first n g tree ghostly D i ≡ treeJoins linkBetween a at first n g D i
@@ -142,8 +150,8 @@ module _ (a new : List ℕ) (bytes : Bytes a) (C : Complete a new) {rank first :
   first-word = omega (arith, first-is, range-most a bytes (C .sound))
 
   module _ {P at n g : ℕ} (is-P : P ≡ areaP a) (is-at : at ≡ slotsPlace P) (is-n : n ≡ areaCount a) (is-g : g ≡ areaGhosts a) where
-    pub slots-read : Slots a at first n g
-    slots-read = rw (is-at, is-P, first-is, is-n, is-g) (area-slots a bytes (C .sound) (C .all))
+    pub numbered-read : {K : ℕ} → K ≡ areaK a → SlotsNumbered a at first n g K
+    numbered-read k = rw (is-at, is-P, first-is, is-n, is-g, k) (area-numbered a bytes (C .sound) (C .all))
 
     pub join-read : {D K : ℕ} {r : Bool} → D ≡ areaDimension a → K ≡ areaK a → r ≡ recordsJoin (linkByDimension D) a at first n g D K → r ≡ joinSound a
     join-read d k e = e ∙ rw (is-at, is-P, first-is, is-n, is-g, d, k) (sym (join-is a bytes (C .sound) (C .all)))

@@ -40,6 +40,12 @@ pub record Slots (a : List ℕ) (at first n g : ℕ) : Type 0 where
   pub outside : (j : ℕ) → j < g → inRange first (first + n) (numberOf (ghostFrom a at n j)) ≡ false
   pub ascends : (i j : ℕ) → i < j → j < g → numberOf (ghostFrom a at n i) < numberOf (ghostFrom a at n j)
 
+-- and whose ghosts have numbers below K
+pub record SlotsNumbered (a : List ℕ) (at first n g K : ℕ) : Type 0 where
+  pub slots : Slots a at first n g
+  pub below : (j : ℕ) → j < g → numberOf (ghostFrom a at n j) < K
+  pub few : K ≤ maxTrees
+
 module _ (a : List ℕ) (at first n g : ℕ) where
   -- where the record with number k begins; 0 where none has it
   unfoldable pub placeOf : ℕ → ℕ

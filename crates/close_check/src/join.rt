@@ -1,120 +1,39 @@
 // Whether the records in an area's slots make a sound part. Trees and ghosts have global numbers here, and links are followed by these.
 use mesh::link::link_ok;
-use part::layout::place_near;
 use part::range::beside;
-use part::range::find_ghost;
 use part::range::in_range;
 use records::index::GlobalIndex;
 use records::index::LocalIndex;
 use records::index::to_local;
 ghost use mathlib.Core.Path.{_≡_};
-ghost use mathlib.Core.Bool.{false, _&&_};
-ghost use Prim.Native.Nat.{_+_, _-_, _%_, _≤_, _<_};
-ghost use lib.Dec.{ltb};
-ghost use lib.ListN.{length};
+ghost use mathlib.Core.Bool.{false};
+ghost use Prim.Native.Nat.{_+_, _*_, _≤_, _<_};
 ghost use Rattle.encoding.specs.Below.{allBelow};
-ghost use Rattle.encoding.specs.Pieces.{piece};
-ghost use Rattle.records.specs.Record.{coreSize};
-ghost use Rattle.part.specs.Means.{inRange, ghostHas};
+ghost use Rattle.records.specs.Record.{treeSize};
+ghost use Rattle.part.specs.Means.{inRange};
+ghost use Rattle.positions.specs.Means.{Indexed};
 ghost use Rattle.mesh.specs.Means.{linkByDimension};
-ghost use Rattle.close_check.specs.Means.{ghostFrom, Slots, placeOf, linkOfTree, linkOfGhost, treeJoins, ghostJoins, recordsJoin, joinSound, Complete};
+ghost use Rattle.close_check.specs.Means.{Slots, SlotsNumbered, placeOf, linkOfTree, linkOfGhost, treeJoins, ghostJoins, recordsJoin, joinSound, Complete};
 
-fn ghost_has(
-    area: &[u8],
-    at: usize,
-    first: u32,
-    count: u32,
-    ghosts: u32,
-    number: GlobalIndex,
-    position: u32,
-) -> bool
-    requires { ⌜ Slots (now area) at first count ghosts ⌝ }
-    ensures { λ r. ⌜ r ≡ (ltb position ghosts && ghostHas (ghostFrom (now (area .entry)) at count) (number .0) position) ⌝ }
-{
-    let wanted = number.0;
-    if ghosts <= position {
-        return false;
-    }
-    let from = at + 64 * (count as usize) + 40 * (position as usize);
-    records::read::number_of(area, from) == wanted
-}
-
-// Where the ghost with the number begins, by halves; 0 where none has it.
-fn ghost_search(
-    area: &[u8],
-    at: usize,
-    first: u32,
-    count: u32,
-    ghosts: u32,
-    number: GlobalIndex,
-) -> usize
-    requires { ⌜ Slots (now area) at first count ghosts × (inRange first (first + count) (number .0) ≡ false) ⌝ }
-    ensures { λ r. ⌜ r ≡ placeOf (now (area .entry)) at first count ghosts (number .0) ⌝ }
-{
-    let k = number.0;
-    let ghosts_at = at + 64 * (count as usize);
-    let position = find_ghost(area, ghosts_at, ghosts, number);
-    if ghosts <= position {
-        return 0;
-    }
-    let to = ghosts_at + 40 * (position as usize);
-    if records::read::number_of(area, to) != k {
-        return 0;
-    }
-    to
-}
-
-// The same; `near` is tried before the search.
-fn ghost_near(
-    area: &[u8],
-    at: usize,
-    first: u32,
-    count: u32,
-    ghosts: u32,
-    number: GlobalIndex,
-    near: u32,
-) -> usize
-    requires { ⌜ Slots (now area) at first count ghosts × (inRange first (first + count) (number .0) ≡ false) ⌝ }
-    ensures { λ r. ⌜ r ≡ placeOf (now (area .entry)) at first count ghosts (number .0) ⌝ }
-{
-    if ghost_has(area, at, first, count, ghosts, number, near) {
-        return at + 64 * (count as usize) + 40 * (near as usize);
-    }
-    ghost_search(area, at, first, count, ghosts, number)
-}
-
-// The same. A number below the first ghost's or above the last one's isn't held. Else, since the ghosts below the range often have consecutive numbers, and so have those above it, the place by that is tried first.
+// Where the ghost with the number begins; 0 where none has it.
 fn ghost_place(
     area: &[u8],
     at: usize,
     first: u32,
     count: u32,
     ghosts: u32,
+    marks: &[u64],
+    behind: &[u32],
     number: GlobalIndex,
 ) -> usize
-    requires { ⌜ Slots (now area) at first count ghosts × (inRange first (first + count) (number .0) ≡ false) ⌝ }
+    requires { ⌜ Slots (now area) at first count ghosts × (inRange first (first + count) (number .0) ≡ false) × Indexed (now area) (at + treeSize * count) ghosts (now marks) (now behind) ⌝ }
     ensures { λ r. ⌜ r ≡ placeOf (now (area .entry)) at first count ghosts (number .0) ⌝ }
 {
-    let k = number.0;
-    if ghosts == 0 {
+    let position = positions::index::find(marks, behind, ghosts, number);
+    if ghosts <= position {
         return 0;
     }
-    let last = ghosts - 1;
-    let ghosts_at = at + 64 * (count as usize);
-    let low = records::read::number_of(area, ghosts_at);
-    if k < low {
-        return 0;
-    }
-    let high = records::read::number_of(area, ghosts_at + 40 * (last as usize));
-    if high < k {
-        return 0;
-    }
-    if k < first {
-        let near = place_near(0, low, k);
-        return ghost_near(area, at, first, count, ghosts, number, near);
-    }
-    let near = place_near(last, high, k);
-    ghost_near(area, at, first, count, ghosts, number, near)
+    at + 64 * (count as usize) + 40 * (position as usize)
 }
 
 // Where the record with the number begins, a tree by subtraction; 0 where no slot has it.
@@ -124,9 +43,11 @@ fn place_of(
     first: u32,
     count: u32,
     ghosts: u32,
+    marks: &[u64],
+    behind: &[u32],
     number: GlobalIndex,
 ) -> usize
-    requires { ⌜ Slots (now area) at first count ghosts ⌝ }
+    requires { ⌜ Slots (now area) at first count ghosts × Indexed (now area) (at + treeSize * count) ghosts (now marks) (now behind) ⌝ }
     ensures { λ r. ⌜ r ≡ placeOf (now (area .entry)) at first count ghosts (number .0) ⌝ }
 {
     if in_range(first, first + count, number) {
@@ -134,7 +55,7 @@ fn place_of(
         let i = tree.0;
         return at + 64 * (i as usize);
     }
-    ghost_place(area, at, first, count, ghosts, number)
+    ghost_place(area, at, first, count, ghosts, marks, behind, number)
 }
 
 // ---- trees
@@ -146,16 +67,27 @@ fn tree_link(
     count: u32,
     ghosts: u32,
     dimension: u32,
+    marks: &[u64],
+    behind: &[u32],
     tree: LocalIndex,
     face: u32,
 ) -> bool
-    requires { ⌜ Slots (now area) at first count ghosts × (tree .0 < count) × (face < 6) ⌝ }
+    requires { ⌜ Slots (now area) at first count ghosts × (tree .0 < count) × (face < 6) × Indexed (now area) (at + treeSize * count) ghosts (now marks) (now behind) ⌝ }
     ensures { λ r. ⌜ r ≡ linkOfTree (linkByDimension dimension) (now (area .entry)) at first count ghosts (tree .0) face ⌝ }
 {
     let i = tree.0;
     let from = at + 64 * (i as usize);
     let k = records::read::neighbour_of(area, from, face);
-    let to = place_of(area, at, first, count, ghosts, GlobalIndex(k));
+    let to = place_of(
+        area,
+        at,
+        first,
+        count,
+        ghosts,
+        marks,
+        behind,
+        GlobalIndex(k),
+    );
     if to != 0 {
         let number = records::read::number_of(area, from);
         return link_ok(area, dimension, number, from, face, to);
@@ -170,15 +102,28 @@ fn tree_links(
     count: u32,
     ghosts: u32,
     dimension: u32,
+    marks: &[u64],
+    behind: &[u32],
     tree: LocalIndex,
     faces: u32,
 ) -> bool
-    requires { ⌜ Slots (now area) at first count ghosts × (tree .0 < count) × (faces ≤ 6) ⌝ }
+    requires { ⌜ Slots (now area) at first count ghosts × (tree .0 < count) × (faces ≤ 6) × Indexed (now area) (at + treeSize * count) ghosts (now marks) (now behind) ⌝ }
     ensures { λ r. ⌜ r ≡ allBelow faces (linkOfTree (linkByDimension dimension) (now (area .entry)) at first count ghosts (tree .0)) ⌝ }
 {
     let mut face = 0;
     while face < faces {
-        if !tree_link(area, at, first, count, ghosts, dimension, tree, face) {
+        if !tree_link(
+            area,
+            at,
+            first,
+            count,
+            ghosts,
+            dimension,
+            marks,
+            behind,
+            tree,
+            face,
+        ) {
             return false;
         }
         face += 1;
@@ -193,25 +138,57 @@ fn tree_joins(
     count: u32,
     ghosts: u32,
     dimension: u32,
+    marks: &[u64],
+    behind: &[u32],
     tree: LocalIndex,
 ) -> bool
-    requires { ⌜ Slots (now area) at first count ghosts × (tree .0 < count) ⌝ }
+    requires { ⌜ Slots (now area) at first count ghosts × (tree .0 < count) × Indexed (now area) (at + treeSize * count) ghosts (now marks) (now behind) ⌝ }
     ensures { λ r. ⌜ r ≡ treeJoins (linkByDimension dimension) (now (area .entry)) at first count ghosts dimension (tree .0) ⌝ }
 {
     let i = tree.0;
     let shape = records::read::shape_of(area, at + 64 * (i as usize));
     let faces = records::shape::face_count(shape);
     (records::shape::dimension_of(shape) == dimension)
-        & tree_links(area, at, first, count, ghosts, dimension, tree, faces)
+        & tree_links(
+            area,
+            at,
+            first,
+            count,
+            ghosts,
+            dimension,
+            marks,
+            behind,
+            tree,
+            faces,
+        )
 }
 
-fn trees_join(area: &[u8], at: usize, first: u32, count: u32, ghosts: u32, dimension: u32) -> bool
-    requires { ⌜ Slots (now area) at first count ghosts ⌝ }
+fn trees_join(
+    area: &[u8],
+    at: usize,
+    first: u32,
+    count: u32,
+    ghosts: u32,
+    dimension: u32,
+    marks: &[u64],
+    behind: &[u32],
+) -> bool
+    requires { ⌜ Slots (now area) at first count ghosts × Indexed (now area) (at + treeSize * count) ghosts (now marks) (now behind) ⌝ }
     ensures { λ r. ⌜ r ≡ allBelow count (treeJoins (linkByDimension dimension) (now (area .entry)) at first count ghosts dimension) ⌝ }
 {
     let mut i = 0;
     while i < count {
-        if !tree_joins(area, at, first, count, ghosts, dimension, LocalIndex(i)) {
+        if !tree_joins(
+            area,
+            at,
+            first,
+            count,
+            ghosts,
+            dimension,
+            marks,
+            behind,
+            LocalIndex(i),
+        ) {
             return false;
         }
         i += 1;
@@ -230,15 +207,26 @@ fn ghost_link(
     ghosts: u32,
     dimension: u32,
     trees: u32,
+    marks: &[u64],
+    behind: &[u32],
     j: u32,
     face: u32,
 ) -> bool
-    requires { ⌜ Slots (now area) at first count ghosts × (j < ghosts) × (face < 6) ⌝ }
+    requires { ⌜ Slots (now area) at first count ghosts × (j < ghosts) × (face < 6) × Indexed (now area) (at + treeSize * count) ghosts (now marks) (now behind) ⌝ }
     ensures { λ r. ⌜ r ≡ linkOfGhost (linkByDimension dimension) (now (area .entry)) at first count ghosts trees j face ⌝ }
 {
     let from = at + 64 * (count as usize) + 40 * (j as usize);
     let k = records::read::neighbour_of(area, from, face);
-    let to = place_of(area, at, first, count, ghosts, GlobalIndex(k));
+    let to = place_of(
+        area,
+        at,
+        first,
+        count,
+        ghosts,
+        marks,
+        behind,
+        GlobalIndex(k),
+    );
     if to == 0 {
         return (k < trees) & mesh::link::orientation_ok(area, from, face);
     }
@@ -254,15 +242,29 @@ fn ghost_links(
     ghosts: u32,
     dimension: u32,
     trees: u32,
+    marks: &[u64],
+    behind: &[u32],
     j: u32,
     faces: u32,
 ) -> bool
-    requires { ⌜ Slots (now area) at first count ghosts × (j < ghosts) × (faces ≤ 6) ⌝ }
+    requires { ⌜ Slots (now area) at first count ghosts × (j < ghosts) × (faces ≤ 6) × Indexed (now area) (at + treeSize * count) ghosts (now marks) (now behind) ⌝ }
     ensures { λ r. ⌜ r ≡ allBelow faces (linkOfGhost (linkByDimension dimension) (now (area .entry)) at first count ghosts trees j) ⌝ }
 {
     let mut face = 0;
     while face < faces {
-        if !ghost_link(area, at, first, count, ghosts, dimension, trees, j, face) {
+        if !ghost_link(
+            area,
+            at,
+            first,
+            count,
+            ghosts,
+            dimension,
+            trees,
+            marks,
+            behind,
+            j,
+            face,
+        ) {
             return false;
         }
         face += 1;
@@ -278,9 +280,11 @@ fn ghost_joins(
     ghosts: u32,
     dimension: u32,
     trees: u32,
+    marks: &[u64],
+    behind: &[u32],
     j: u32,
 ) -> bool
-    requires { ⌜ Slots (now area) at first count ghosts × (j < ghosts) ⌝ }
+    requires { ⌜ Slots (now area) at first count ghosts × (j < ghosts) × Indexed (now area) (at + treeSize * count) ghosts (now marks) (now behind) ⌝ }
     ensures { λ r. ⌜ r ≡ ghostJoins (linkByDimension dimension) (now (area .entry)) at first count ghosts dimension trees j ⌝ }
 {
     let from = at + 64 * (count as usize) + 40 * (j as usize);
@@ -288,7 +292,19 @@ fn ghost_joins(
     let faces = records::shape::face_count(shape);
     (records::shape::dimension_of(shape) == dimension)
         & beside(area, from, faces, first, first + count)
-        & ghost_links(area, at, first, count, ghosts, dimension, trees, j, faces)
+        & ghost_links(
+            area,
+            at,
+            first,
+            count,
+            ghosts,
+            dimension,
+            trees,
+            marks,
+            behind,
+            j,
+            faces,
+        )
 }
 
 fn ghosts_join(
@@ -299,13 +315,26 @@ fn ghosts_join(
     ghosts: u32,
     dimension: u32,
     trees: u32,
+    marks: &[u64],
+    behind: &[u32],
 ) -> bool
-    requires { ⌜ Slots (now area) at first count ghosts ⌝ }
+    requires { ⌜ Slots (now area) at first count ghosts × Indexed (now area) (at + treeSize * count) ghosts (now marks) (now behind) ⌝ }
     ensures { λ r. ⌜ r ≡ allBelow ghosts (ghostJoins (linkByDimension dimension) (now (area .entry)) at first count ghosts dimension trees) ⌝ }
 {
     let mut j = 0;
     while j < ghosts {
-        if !ghost_joins(area, at, first, count, ghosts, dimension, trees, j) {
+        if !ghost_joins(
+            area,
+            at,
+            first,
+            count,
+            ghosts,
+            dimension,
+            trees,
+            marks,
+            behind,
+            j,
+        ) {
             return false;
         }
         j += 1;
@@ -321,12 +350,87 @@ fn records_join(
     ghosts: u32,
     dimension: u32,
     trees: u32,
+    marks: &[u64],
+    behind: &[u32],
 ) -> bool
-    requires { ⌜ Slots (now area) at first count ghosts ⌝ }
+    requires { ⌜ Slots (now area) at first count ghosts × Indexed (now area) (at + treeSize * count) ghosts (now marks) (now behind) ⌝ }
     ensures { λ r. ⌜ r ≡ recordsJoin (linkByDimension dimension) (now (area .entry)) at first count ghosts dimension trees ⌝ }
 {
-    trees_join(area, at, first, count, ghosts, dimension)
-        & ghosts_join(area, at, first, count, ghosts, dimension, trees)
+    trees_join(area, at, first, count, ghosts, dimension, marks, behind)
+        & ghosts_join(
+            area,
+            at,
+            first,
+            count,
+            ghosts,
+            dimension,
+            trees,
+            marks,
+            behind,
+        )
+}
+
+// The same, with an index for as many trees as there can be.
+fn records_of_many(
+    area: &[u8],
+    at: usize,
+    first: u32,
+    count: u32,
+    ghosts: u32,
+    dimension: u32,
+    trees: u32,
+) -> bool
+    requires { ⌜ SlotsNumbered (now area) at first count ghosts trees ⌝ }
+    ensures { λ r. ⌜ r ≡ recordsJoin (linkByDimension dimension) (now (area .entry)) at first count ghosts dimension trees ⌝ }
+{
+    let mut marks = [0u64; 16384];
+    let mut behind = [0u32; 16384];
+    let ghosts_at = at + 64 * (count as usize);
+    positions::index::make(area, ghosts_at, ghosts, trees, &mut marks, &mut behind);
+    records_join(
+        area,
+        at,
+        first,
+        count,
+        ghosts,
+        dimension,
+        trees,
+        &marks,
+        &behind,
+    )
+}
+
+// The same. To clear the words for all trees takes longer than to join few: up to 65,536 trees have fewer words.
+fn all_records_join(
+    area: &[u8],
+    at: usize,
+    first: u32,
+    count: u32,
+    ghosts: u32,
+    dimension: u32,
+    trees: u32,
+) -> bool
+    requires { ⌜ SlotsNumbered (now area) at first count ghosts trees ⌝ }
+    ensures { λ r. ⌜ r ≡ recordsJoin (linkByDimension dimension) (now (area .entry)) at first count ghosts dimension trees ⌝ }
+{
+    if trees <= 65536 {
+        let mut marks = [0u64; 1024];
+        let mut behind = [0u32; 1024];
+        let ghosts_at = at + 64 * (count as usize);
+        positions::index::make(area, ghosts_at, ghosts, trees, &mut marks, &mut behind);
+        return records_join(
+            area,
+            at,
+            first,
+            count,
+            ghosts,
+            dimension,
+            trees,
+            &marks,
+            &behind,
+        );
+    }
+    records_of_many(area, at, first, count, ghosts, dimension, trees)
 }
 
 // Whether the part that a sound area with every due sender heard makes is sound.
@@ -335,7 +439,7 @@ pub fn join_sound(area: &[u8], new: &[u8]) -> bool
     ensures { λ r. ⌜ r ≡ joinSound (now (area .entry)) ⌝ }
 {
     let first = offsets::table::first_tree(new, area::read::rank(area));
-    records_join(
+    all_records_join(
         area,
         area::layout::slots_place(area::read::ranks(area)),
         first as u32,

@@ -1,16 +1,16 @@
 -- What the functions that check a part find is what the definitions say.
 use Prim.Native.Nat.{ℕ, _+_, _-_, _≤_, _<_}
 use native.Mathlib.Omega.{arith}
-use mathlib.Core.Path.{_≡_, sym, _∙_}
+use mathlib.Core.Path.{_≡_, sym, ap, _∙_}
 use mathlib.Core.Bool.{Bool, true, false, not, _&&_, and-false}
 use mathlib.Core.List.{List}
 use lib.Dec.{ltb, eqb}
 use lib.ListN.{length}
-use borrow.Author.Tests.{lt-ltb, le-ltb, eq-eqb, ne-eqb, eqb-true}
+use borrow.Author.Tests.{ltb-true, lt-ltb, le-ltb, eq-eqb, ne-eqb, eqb-true}
 use Rattle.encoding.specs.Below.{allBelow, anyBelow, leastBelow}
 use Rattle.encoding.specs.Numbers.{u32At}
 use Rattle.encoding.specs.Pieces.{piece, Bytes}
-use Rattle.encoding.proofs.Below.{either, iff-eq, and-fst, and-snd, least-none, least-lt}
+use Rattle.encoding.proofs.Below.{either, iff-eq, all-at, and-fst, and-snd, least-none, least-lt, least-same}
 use Rattle.records.specs.Shape.{dimensionOf, faceCount}
 use Rattle.records.specs.Record.{coreSize, numberOf, shapeOf, neighbourOf, inForm}
 use Rattle.mesh.specs.Link.{orientationOk}
@@ -18,11 +18,13 @@ use Rattle.mesh.specs.Mesh.{dimensionOk}
 use Rattle.offsets.specs.Table.{ranks, entry, trees, firstTree, endTree, treeCount}
 use Rattle.offsets.proofs.Tables.{count-add, end-trees, trees-high}
 use Rattle.part.specs.Layout.{treePlace, ghostPlace, partSize}
-use Rattle.part.specs.Means.{viewSound, inRange, neighbourIn, Ascending, ghostCore, ghostHas, RankKnown, partLinked}
+use Rattle.positions.specs.Means.{hasNumber, positionOf, memberPosition, Numbered, Indexed}
+use Rattle.positions.proofs.Positions.{index-position}
+use Rattle.part.specs.Means.{viewSound, inRange, neighbourIn, numberAt, Ascending, ghostCore, ghostHas, RankKnown, partLinked}
 use Rattle.part.proofs.Sound.{part-sound-is}
 use Rattle.part.specs.Part.{partDimension, partK, partFirst, partCount, partGhostCount, storedTree, storedGhost, globalNumber, globalTree, partHeaderSound, partSound}
 use Rattle.mesh.specs.Means.{linkByDimension}
-use Rattle.part_check.specs.Means.{treeTo, treeFace, treeStored, treeNumbered, ghostBehind, ghostNumbered, ghostTo, ghostFace, ghostStored, recordsSound, PartLaid, PartNumbered}
+use Rattle.part_check.specs.Means.{treeTo, treeFace, treeStored, treeNumbered, ghostBehind, ghostNumbered, numbersSound, ghostTo, ghostFace, ghostStored, recordsSound, PartLaid, PartNumbered}
 use Rattle.part.proofs.Global.{global-alike, global-neighbour}
 use Rattle.part_check.proofs.Judging.{ghosts-ascend, ghosts-few, lookedUp, Seen, view-is}
 use Rattle.part_check.proofs.ByDimension.{records-by-dimension}
@@ -93,9 +95,34 @@ module _ (part : List ℕ) (n g : ℕ) where
           ascends = λ i j h l. rw (number-there part n g i, number-there part n g j) (ghosts-ascend first n g K (storedTree part) (ghostCore part n) (known .numbers) i j h l);
         }
 
+    -- and have numbers that an index of 2^20 bits can hold
+    ghosts-low : (i : ℕ) → i < g → numberAt part (ghostPlace n 0) i < K
+    unfolding numbersSound ghostNumbered
+    ghosts-low i h =
+        let x : Bool = allBelow n (treeNumbered first (storedTree part)) in
+        let y : Bool = allBelow g (ghostNumbered first n (ghostCore part n) K) in
+        let low : Bool = ltb (numberOf (ghostCore part n i)) K in
+        let out : Bool = not (inRange first (first + n) (numberOf (ghostCore part n i))) in
+        let t : (low && out && ghostBehind (ghostCore part n) i) ≡ true = all-at g (ghostNumbered first n (ghostCore part n) K) (and-snd x y (known .numbers)) i h in
+        rw (number-there part n g i) (ltb-true _ _ (and-fst low out (and-fst (low && out) (ghostBehind (ghostCore part n) i) t)))
+
+    module _ {at : ℕ} (from : at ≡ ghostPlace n 0) where
+      pub ghosts-numbered : Numbered part at g K
+      ghosts-numbered = rw from (record { ascending = ghosts-ascending; low = ghosts-low })
+
+      pub ghosts-indexed : {ws behind : List ℕ} → Indexed part at g ws behind → Indexed part (ghostPlace n 0) g ws behind
+      ghosts-indexed x = rw from at x
+
     -- the local index of a ghost has 32 bits
     pub index-word : (j : ℕ) → j < g → n + j < 4294967296
     index-word j h = omega (arith, ghosts-few first n g K (storedTree part) (ghostCore part n) (known .numbers), known .laid .within, known .laid .most)
+
+  -- the ghost that is looked up
+  pub ghost-found : {ws behind : List ℕ} → Indexed part (ghostPlace n 0) g ws behind → (k : ℕ) {p : ℕ} → p ≡ memberPosition ws g k → p ≡ leastBelow g (ghostHas (ghostCore part n) k)
+  unfolding positionOf hasNumber ghostHas
+  ghost-found x k e =
+      e ∙ index-position x k
+      ∙ least-same g (hasNumber part (ghostPlace n 0) k) (ghostHas (ghostCore part n) k) (λ i h. ap (λ (y : ℕ). eqb y k) (number-there part n g i))
 
   -- the link of a ghost
   module _ (first D K j f : ℕ) {at k : ℕ} (here : at ≡ ghostPlace n j) (read : k ≡ neighbourOf (piece part at coreSize) f) {b : Bool} (test : b ≡ inRange first (first + n) k) where

@@ -4,7 +4,6 @@ use part::layout::dimension;
 use part::layout::first_tree;
 use part::layout::ghost_at;
 use part::layout::ghost_count;
-use part::layout::place_near;
 use part::layout::tree_at;
 use part::layout::tree_count;
 use part::layout::trees;
@@ -18,7 +17,7 @@ use records::index::to_local;
 ghost use mathlib.Core.Path.{_≡_};
 ghost use mathlib.Core.Bool.{_&&_};
 ghost use Prim.Native.Nat.{_+_, _≤_, _<_};
-ghost use lib.Dec.{eqb, ltb};
+ghost use lib.Dec.{eqb};
 ghost use lib.ListN.{length};
 ghost use Rattle.encoding.specs.Below.{allBelow, leastBelow};
 ghost use Rattle.offsets.specs.Limits.{maxTrees};
@@ -27,6 +26,7 @@ ghost use Rattle.part.specs.Layout.{treePlace, ghostPlace, partSize};
 ghost use Rattle.part.specs.Part.{partCount, partGhostCount, storedTree, partHeaderSound, partSound};
 ghost use Rattle.part.specs.Means.{Ascending, ghostCore, ghostHas, RankKnown};
 ghost use Rattle.mesh.specs.Means.{linkByDimension};
+ghost use Rattle.positions.specs.Means.{Indexed};
 ghost use Rattle.part_check.specs.Means.{treeFace, treeStored, treeNumbered, ghostBehind, ghostNumbered, numbersSound, ghostFace, ghostStored, recordsSound, PartLaid, PartNumbered};
 
 // Whether the header is as table and rank say, and the length as the header says.
@@ -213,7 +213,7 @@ fn trees_sound(part: &[u8], count: u32, ghosts: u32, dimension: u32) -> bool
 
 // ---- ghosts
 
-// The position of the ghost with the number, or how many ghosts there are.
+// The position of the ghost with the number, or how many ghosts there are, by halves: for a part whose ghosts are not indexed.
 pub fn ghost_with(part: &[u8], count: u32, ghosts: u32, number: GlobalIndex) -> u32
     requires { ⌜ Ascending (now part) (ghostPlace count 0) ghosts ⌝ }
     ensures { λ r. ⌜ r ≡ leastBelow ghosts (ghostHas (ghostCore (now (part .entry)) count) (number .0)) ⌝ }
@@ -229,36 +229,6 @@ pub fn ghost_with(part: &[u8], count: u32, ghosts: u32, number: GlobalIndex) -> 
     position
 }
 
-fn ghost_has(part: &[u8], count: u32, ghosts: u32, number: GlobalIndex, position: u32) -> bool
-    requires { ⌜ Ascending (now part) (ghostPlace count 0) ghosts ⌝ }
-    ensures { λ r. ⌜ r ≡ (ltb position ghosts && ghostHas (ghostCore (now (part .entry)) count) (number .0) position) ⌝ }
-{
-    let wanted = number.0;
-    if ghosts <= position {
-        return false;
-    }
-    records::read::number_of(part, ghost_at(count, position)) == wanted
-}
-
-// As ghost_with, for a neighbour of ghost j, whose number is `own`. Ghosts side by side often have consecutive numbers: the place by that is tried before the search.
-fn ghost_near(
-    part: &[u8],
-    count: u32,
-    ghosts: u32,
-    j: u32,
-    own: GlobalIndex,
-    number: GlobalIndex,
-) -> u32
-    requires { ⌜ Ascending (now part) (ghostPlace count 0) ghosts ⌝ }
-    ensures { λ r. ⌜ r ≡ leastBelow ghosts (ghostHas (ghostCore (now (part .entry)) count) (number .0)) ⌝ }
-{
-    let place = place_near(j, own.0, number.0);
-    if ghost_has(part, count, ghosts, number, place) {
-        return place;
-    }
-    ghost_with(part, count, ghosts, number)
-}
-
 // The neighbour is a tree of the range, another ghost, or not held.
 fn ghost_face(
     part: &[u8],
@@ -267,10 +237,12 @@ fn ghost_face(
     ghosts: u32,
     dimension: u32,
     trees: u32,
+    marks: &[u64],
+    behind: &[u32],
     j: u32,
     face: u32,
 ) -> bool
-    requires { ⌜ PartNumbered (now part) first count ghosts trees × (j < ghosts) × (face < 6) ⌝ }
+    requires { ⌜ PartNumbered (now part) first count ghosts trees × (j < ghosts) × (face < 6) × Indexed (now part) (ghostPlace count 0) ghosts (now marks) (now behind) ⌝ }
     ensures { λ r. ⌜ r ≡ ghostFace (linkByDimension dimension) first count ghosts (storedTree (now (part .entry))) (ghostCore (now (part .entry)) count) trees j face ⌝ }
 {
     let at = ghost_at(count, j);
@@ -281,7 +253,7 @@ fn ghost_face(
         return link_ok(part, dimension, own.0, at, face, tree_at(tree));
     }
     let number = records::read::number_of(part, at);
-    let position = ghost_near(part, count, ghosts, j, GlobalIndex(number), GlobalIndex(k));
+    let position = positions::index::find(marks, behind, ghosts, GlobalIndex(k));
     if position < ghosts {
         return link_ok(part, dimension, number, at, face, ghost_at(count, position));
     }
@@ -295,15 +267,28 @@ fn ghost_faces(
     ghosts: u32,
     dimension: u32,
     trees: u32,
+    marks: &[u64],
+    behind: &[u32],
     j: u32,
     faces: u32,
 ) -> bool
-    requires { ⌜ PartNumbered (now part) first count ghosts trees × (j < ghosts) × (faces ≤ 6) ⌝ }
+    requires { ⌜ PartNumbered (now part) first count ghosts trees × (j < ghosts) × (faces ≤ 6) × Indexed (now part) (ghostPlace count 0) ghosts (now marks) (now behind) ⌝ }
     ensures { λ r. ⌜ r ≡ allBelow faces (ghostFace (linkByDimension dimension) first count ghosts (storedTree (now (part .entry))) (ghostCore (now (part .entry)) count) trees j) ⌝ }
 {
     let mut face = 0;
     while face < faces {
-        if !ghost_face(part, first, count, ghosts, dimension, trees, j, face) {
+        if !ghost_face(
+            part,
+            first,
+            count,
+            ghosts,
+            dimension,
+            trees,
+            marks,
+            behind,
+            j,
+            face,
+        ) {
             return false;
         }
         face += 1;
@@ -318,9 +303,11 @@ fn ghost_sound(
     ghosts: u32,
     dimension: u32,
     trees: u32,
+    marks: &[u64],
+    behind: &[u32],
     j: u32,
 ) -> bool
-    requires { ⌜ PartNumbered (now part) first count ghosts trees × (j < ghosts) ⌝ }
+    requires { ⌜ PartNumbered (now part) first count ghosts trees × (j < ghosts) × Indexed (now part) (ghostPlace count 0) ghosts (now marks) (now behind) ⌝ }
     ensures { λ r. ⌜ r ≡ ghostStored (linkByDimension dimension) first count ghosts (storedTree (now (part .entry))) (ghostCore (now (part .entry)) count) dimension trees j ⌝ }
 {
     let at = ghost_at(count, j);
@@ -329,10 +316,55 @@ fn ghost_sound(
     records::form::in_form(part, at, records::read::number_of(part, at))
         & (records::shape::dimension_of(shape) == dimension)
         & beside(part, at, faces, first, first + count)
-        & ghost_faces(part, first, count, ghosts, dimension, trees, j, faces)
+        & ghost_faces(
+            part,
+            first,
+            count,
+            ghosts,
+            dimension,
+            trees,
+            marks,
+            behind,
+            j,
+            faces,
+        )
 }
 
 fn ghosts_sound(
+    part: &[u8],
+    first: u32,
+    count: u32,
+    ghosts: u32,
+    dimension: u32,
+    trees: u32,
+    marks: &[u64],
+    behind: &[u32],
+) -> bool
+    requires { ⌜ PartNumbered (now part) first count ghosts trees × Indexed (now part) (ghostPlace count 0) ghosts (now marks) (now behind) ⌝ }
+    ensures { λ r. ⌜ r ≡ allBelow ghosts (ghostStored (linkByDimension dimension) first count ghosts (storedTree (now (part .entry))) (ghostCore (now (part .entry)) count) dimension trees) ⌝ }
+{
+    let mut j = 0;
+    while j < ghosts {
+        if !ghost_sound(
+            part,
+            first,
+            count,
+            ghosts,
+            dimension,
+            trees,
+            marks,
+            behind,
+            j,
+        ) {
+            return false;
+        }
+        j += 1;
+    }
+    true
+}
+
+// The same, with an index for as many trees as there can be.
+fn ghosts_of_many(
     part: &[u8],
     first: u32,
     count: u32,
@@ -343,14 +375,63 @@ fn ghosts_sound(
     requires { ⌜ PartNumbered (now part) first count ghosts trees ⌝ }
     ensures { λ r. ⌜ r ≡ allBelow ghosts (ghostStored (linkByDimension dimension) first count ghosts (storedTree (now (part .entry))) (ghostCore (now (part .entry)) count) dimension trees) ⌝ }
 {
-    let mut j = 0;
-    while j < ghosts {
-        if !ghost_sound(part, first, count, ghosts, dimension, trees, j) {
-            return false;
-        }
-        j += 1;
+    let mut marks = [0u64; 16384];
+    let mut behind = [0u32; 16384];
+    positions::index::make(
+        part,
+        ghost_at(count, 0),
+        ghosts,
+        trees,
+        &mut marks,
+        &mut behind,
+    );
+    ghosts_sound(
+        part,
+        first,
+        count,
+        ghosts,
+        dimension,
+        trees,
+        &marks,
+        &behind,
+    )
+}
+
+// The same. To clear the words for all trees takes longer than to check a small part: up to 65,536 trees have fewer words.
+fn all_ghosts_sound(
+    part: &[u8],
+    first: u32,
+    count: u32,
+    ghosts: u32,
+    dimension: u32,
+    trees: u32,
+) -> bool
+    requires { ⌜ PartNumbered (now part) first count ghosts trees ⌝ }
+    ensures { λ r. ⌜ r ≡ allBelow ghosts (ghostStored (linkByDimension dimension) first count ghosts (storedTree (now (part .entry))) (ghostCore (now (part .entry)) count) dimension trees) ⌝ }
+{
+    if trees <= 65536 {
+        let mut marks = [0u64; 1024];
+        let mut behind = [0u32; 1024];
+        positions::index::make(
+            part,
+            ghost_at(count, 0),
+            ghosts,
+            trees,
+            &mut marks,
+            &mut behind,
+        );
+        return ghosts_sound(
+            part,
+            first,
+            count,
+            ghosts,
+            dimension,
+            trees,
+            &marks,
+            &behind,
+        );
     }
-    true
+    ghosts_of_many(part, first, count, ghosts, dimension, trees)
 }
 
 // ---- the whole
@@ -370,7 +451,7 @@ fn records_sound(
         return false;
     }
     trees_sound(part, count, ghosts, dimension)
-        & ghosts_sound(part, first, count, ghosts, dimension, trees)
+        & all_ghosts_sound(part, first, count, ghosts, dimension, trees)
 }
 
 // Whether the part is sound for a valid table and a rank of it.

@@ -26,7 +26,7 @@ orientation-ok-requires c κs = search needs
 
 returns : tie.Need-returns
 returns c =
-    let pre = c .before .before .before .before .before .pre in
+    let pre = c .before .before .before .before .before .before .before .pre in
     let neighbour-of = c .before .before .before .neighbour-of in
     let place-of = c .before .before .place-of in
     let if1 = c .before .if1 in
@@ -37,14 +37,14 @@ number-of-requires c κs = search needs
 
 link-ok-requires : tie.Need-link-ok-requires
 link-ok-requires c κs =
-    let pre = c .before .before .before .before .before .pre in
+    let pre = c .before .before .before .before .before .before .before .pre in
     let place-of = c .before .before .place-of in
     let if1 = c .before .if1 in
     (search needs, search needs, to-fits _ _ _ _ _ (pre .0) _ (place-of .ensures) (if1 .left))
 
 returns-2 : tie.Need-returns-2
 returns-2 c =
-    let pre = c .before .before .before .before .before .before .pre in
+    let pre = c .before .before .before .before .before .before .before .before .pre in
     let neighbour-of = c .before .before .before .before .neighbour-of in
     let place-of = c .before .before .before .place-of in
     let if1 = c .before .before .if1 in

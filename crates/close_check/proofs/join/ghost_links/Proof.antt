@@ -12,10 +12,10 @@ use Rattle.close_check.proofs.join.ghost_links.Statement.{statement}
 use Rattle.close_check.proofs.join.ghost_links.Tie as tie
 
 abbrev Inv-loop : tie.InvT-loop
-Inv-loop area at first count ghosts dimension trees j faces face₀ face = (face ≤ faces) × (allBelow face (linkOfGhost (linkByDimension dimension) area at first count ghosts trees j) ≡ true)
+Inv-loop area at first count ghosts dimension trees marks behind j faces face₀ face = (face ≤ faces) × (allBelow face (linkOfGhost (linkByDimension dimension) area at first count ghosts trees j) ≡ true)
 
 abbrev μ-loop : tie.MeasureT-loop
-μ-loop area at first count ghosts dimension trees j faces face₀ face = faces - face
+μ-loop area at first count ghosts dimension trees marks behind j faces face₀ face = faces - face
 
 loop-holds : tie.Need-loop-holds Inv-loop μ-loop
 unfolding allBelow

@@ -12,10 +12,10 @@ use Rattle.close_check.proofs.join.ghosts_join.Statement.{statement}
 use Rattle.close_check.proofs.join.ghosts_join.Tie as tie
 
 abbrev Inv-loop : tie.InvT-loop
-Inv-loop area at first count ghosts dimension trees j₀ j = (j ≤ ghosts) × (allBelow j (ghostJoins (linkByDimension dimension) area at first count ghosts dimension trees) ≡ true)
+Inv-loop area at first count ghosts dimension trees marks behind j₀ j = (j ≤ ghosts) × (allBelow j (ghostJoins (linkByDimension dimension) area at first count ghosts dimension trees) ≡ true)
 
 abbrev μ-loop : tie.MeasureT-loop
-μ-loop area at first count ghosts dimension trees j₀ j = ghosts - j
+μ-loop area at first count ghosts dimension trees marks behind j₀ j = ghosts - j
 
 loop-holds : tie.Need-loop-holds Inv-loop μ-loop
 unfolding allBelow

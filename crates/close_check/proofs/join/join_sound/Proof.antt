@@ -1,5 +1,5 @@
 use native.Mathlib.Omega.{arith}
-use Rattle.close_check.proofs.Joining.{complete-long, first-word, slots-read, join-read}
+use Rattle.close_check.proofs.Joining.{complete-long, first-word, numbered-read, join-read}
 use borrow.Author.Needs.{needs}
 use Rattle.close_check.proofs.join.join_sound.Statement.{statement}
 use Rattle.close_check.proofs.join.join_sound.Tie as tie
@@ -16,8 +16,8 @@ ranks-requires c κs = search needs
 slots-place-requires : tie.Need-slots-place-requires
 slots-place-requires c κs = search needs
 
-cast-records-join : tie.Need-cast-records-join
-cast-records-join c =
+cast-all-records-join : tie.Need-cast-all-records-join
+cast-all-records-join c =
     let shared-slice-known = c .before .before .before .before .before .shared-slice-known in
     let pre = c .before .before .before .before .before .before .pre in
     let rank = c .before .before .before .rank in
@@ -36,8 +36,8 @@ dimension-requires c κs = search needs
 trees-requires : tie.Need-trees-requires
 trees-requires c κs = search needs
 
-records-join-requires : tie.Need-records-join-requires
-records-join-requires c κs =
+all-records-join-requires : tie.Need-all-records-join-requires
+all-records-join-requires c κs =
     let shared-slice-known = c .before .before .before .before .before .before .before .before .before .shared-slice-known in
     let pre = c .before .before .before .before .before .before .before .before .before .before .pre in
     let rank = c .before .before .before .before .before .before .before .rank in
@@ -46,7 +46,7 @@ records-join-requires c κs =
     let slots-place = c .before .before .before .before .slots-place in
     let count = c .before .before .before .count in
     let ghosts = c .before .before .ghosts in
-    slots-read _ _ (λ i. shared-slice-known .given i .fits) pre (rank .ensures) (first-tree .ensures) (ranks .ensures) (slots-place .ensures .0) (count .ensures) (ghosts .ensures)
+    numbered-read _ _ (λ i. shared-slice-known .given i .fits) pre (rank .ensures) (first-tree .ensures) (ranks .ensures) (slots-place .ensures .0) (count .ensures) (ghosts .ensures) (c .trees .ensures)
 
 returns : tie.Need-returns
 returns c =
@@ -60,7 +60,7 @@ returns c =
     let ghosts = c .before .before .before .ghosts in
     let dimension = c .before .before .dimension in
     let trees = c .before .trees in
-    join-read _ _ (λ i. shared-slice-known .given i .fits) pre (rank .ensures) (first-tree .ensures) (ranks .ensures) (slots-place .ensures .0) (count .ensures) (ghosts .ensures) (dimension .ensures) (trees .ensures) (c .records-join .ensures)
+    join-read _ _ (λ i. shared-slice-known .given i .fits) pre (rank .ensures) (first-tree .ensures) (ranks .ensures) (slots-place .ensures .0) (count .ensures) (ghosts .ensures) (dimension .ensures) (trees .ensures) (c .all-records-join .ensures)
 
 pub join-sound-spec : {M : Type 1} → statement M
 join-sound-spec =
@@ -70,10 +70,10 @@ join-sound-spec =
     first-tree-requires
     ranks-requires
     slots-place-requires
-    cast-records-join
+    cast-all-records-join
     count-requires
     ghosts-requires
     dimension-requires
     trees-requires
-    records-join-requires
+    all-records-join-requires
     returns)

@@ -11,7 +11,7 @@ in-range-requires : tie.Need-in-range-requires
 in-range-requires c κs = search needs
 
 to-local-requires : tie.Need-to-local-requires
-to-local-requires c κs = range-low _ _ _ _ _ (c .before .before .before .pre) _ (c .before .in-range .ensures) (c .if1 .taken)
+to-local-requires c κs = range-low _ _ _ _ _ (c .before .before .before .before .before .pre .0) _ (c .before .in-range .ensures) (c .if1 .taken)
 
 cast-result : tie.Need-cast-result
 cast-result c = search needs
@@ -24,13 +24,15 @@ add-result c = search needs
 
 returns : tie.Need-returns
 returns c =
-    let pre = c .before .before .before .before .pre in
+    let pre = c .before .before .before .before .before .before .pre in
     let in-range = c .before .before .in-range in
     let if1 = c .before .if1 in
-    place-tree _ _ _ _ _ pre _ (in-range .ensures) (if1 .taken) _ (c .to-local .ensures)
+    place-tree _ _ _ _ _ (pre .0) _ (in-range .ensures) (if1 .taken) _ (c .to-local .ensures)
 
 ghost-place-requires : tie.Need-ghost-place-requires
-ghost-place-requires c κs = (c .before .before .before .pre, sym (c .before .in-range .ensures) ∙ c .if1 .left)
+ghost-place-requires c κs =
+    let pre = c .before .before .before .before .before .pre in
+    (pre .0, sym (c .before .in-range .ensures) ∙ c .if1 .left, pre .1)
 
 returns-2 : tie.Need-returns-2
 returns-2 c = c .ghost-place .ensures

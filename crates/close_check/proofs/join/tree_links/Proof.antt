@@ -12,10 +12,10 @@ use Rattle.close_check.proofs.join.tree_links.Statement.{statement}
 use Rattle.close_check.proofs.join.tree_links.Tie as tie
 
 abbrev Inv-loop : tie.InvT-loop
-Inv-loop area at first count ghosts dimension tree faces face₀ face = (face ≤ faces) × (allBelow face (linkOfTree (linkByDimension dimension) area at first count ghosts (tree .0)) ≡ true)
+Inv-loop area at first count ghosts dimension marks behind tree faces face₀ face = (face ≤ faces) × (allBelow face (linkOfTree (linkByDimension dimension) area at first count ghosts (tree .0)) ≡ true)
 
 abbrev μ-loop : tie.MeasureT-loop
-μ-loop area at first count ghosts dimension tree faces face₀ face = faces - face
+μ-loop area at first count ghosts dimension marks behind tree faces face₀ face = faces - face
 
 loop-holds : tie.Need-loop-holds Inv-loop μ-loop
 unfolding allBelow

@@ -12,10 +12,10 @@ use Rattle.close_check.proofs.join.trees_join.Statement.{statement}
 use Rattle.close_check.proofs.join.trees_join.Tie as tie
 
 abbrev Inv-loop : tie.InvT-loop
-Inv-loop area at first count ghosts dimension i₀ i = (i ≤ count) × (allBelow i (treeJoins (linkByDimension dimension) area at first count ghosts dimension) ≡ true)
+Inv-loop area at first count ghosts dimension marks behind i₀ i = (i ≤ count) × (allBelow i (treeJoins (linkByDimension dimension) area at first count ghosts dimension) ≡ true)
 
 abbrev μ-loop : tie.MeasureT-loop
-μ-loop area at first count ghosts dimension i₀ i = count - i
+μ-loop area at first count ghosts dimension marks behind i₀ i = count - i
 
 loop-holds : tie.Need-loop-holds Inv-loop μ-loop
 unfolding allBelow

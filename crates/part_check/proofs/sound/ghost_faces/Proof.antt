@@ -14,10 +14,10 @@ use Rattle.part_check.proofs.sound.ghost_faces.Statement.{statement}
 use Rattle.part_check.proofs.sound.ghost_faces.Tie as tie
 
 abbrev Inv-loop : tie.InvT-loop
-Inv-loop part first count ghosts dimension trees j faces face₀ face = (face ≤ faces) × (allBelow face (ghostFace (linkByDimension dimension) first count ghosts (storedTree part) (ghostCore part count) trees j) ≡ true)
+Inv-loop part first count ghosts dimension trees marks behind j faces face₀ face = (face ≤ faces) × (allBelow face (ghostFace (linkByDimension dimension) first count ghosts (storedTree part) (ghostCore part count) trees j) ≡ true)
 
 abbrev μ-loop : tie.MeasureT-loop
-μ-loop part first count ghosts dimension trees j faces face₀ face = faces - face
+μ-loop part first count ghosts dimension trees marks behind j faces face₀ face = faces - face
 
 loop-holds : tie.Need-loop-holds Inv-loop μ-loop
 unfolding allBelow

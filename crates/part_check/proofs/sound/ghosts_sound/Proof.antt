@@ -14,10 +14,10 @@ use Rattle.part_check.proofs.sound.ghosts_sound.Statement.{statement}
 use Rattle.part_check.proofs.sound.ghosts_sound.Tie as tie
 
 abbrev Inv-loop : tie.InvT-loop
-Inv-loop part first count ghosts dimension trees j₀ j = (j ≤ ghosts) × (allBelow j (ghostStored (linkByDimension dimension) first count ghosts (storedTree part) (ghostCore part count) dimension trees) ≡ true)
+Inv-loop part first count ghosts dimension trees marks behind j₀ j = (j ≤ ghosts) × (allBelow j (ghostStored (linkByDimension dimension) first count ghosts (storedTree part) (ghostCore part count) dimension trees) ≡ true)
 
 abbrev μ-loop : tie.MeasureT-loop
-μ-loop part first count ghosts dimension trees j₀ j = ghosts - j
+μ-loop part first count ghosts dimension trees marks behind j₀ j = ghosts - j
 
 loop-holds : tie.Need-loop-holds Inv-loop μ-loop
 unfolding allBelow

@@ -15,8 +15,8 @@ returns c = rw (← c .before .numbers-sound .ensures, not-true (c .before .numb
 trees-sound-requires : tie.Need-trees-sound-requires
 trees-sound-requires c κs = search needs
 
-ghosts-sound-requires : tie.Need-ghosts-sound-requires
-ghosts-sound-requires c κs =
+all-ghosts-sound-requires : tie.Need-all-ghosts-sound-requires
+all-ghosts-sound-requires c κs =
     let pre = c .before .before .before .before .pre in
     let numbers-sound = c .before .before .numbers-sound in
     let if1 = c .before .if1 in
@@ -28,9 +28,9 @@ returns-2 c =
     let numbers-sound = c .before .before .before .numbers-sound in
     let if1 = c .before .before .if1 in
     let trees-sound = c .before .trees-sound in
-    rw (← numbers-sound .ensures, not-false (numbers-sound .result) (if1 .left), trees-sound .ensures, c .ghosts-sound .ensures)
+    rw (← numbers-sound .ensures, not-false (numbers-sound .result) (if1 .left), trees-sound .ensures, c .all-ghosts-sound .ensures)
 
 pub records-sound-spec : {M : Type 1} → statement M
 records-sound-spec =
     tie.close
-    (tie.spec numbers-sound-requires returns trees-sound-requires ghosts-sound-requires returns-2)
+    (tie.spec numbers-sound-requires returns trees-sound-requires all-ghosts-sound-requires returns-2)

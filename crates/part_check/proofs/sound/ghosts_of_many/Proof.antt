@@ -1,0 +1,43 @@
+use Rattle.part_check.proofs.Checking.{ghosts-numbered, ghosts-indexed}
+use Rattle.positions.proofs.Positions.{blank}
+use native.Mathlib.Omega.{arith}
+use borrow.Author.Needs.{needs}
+use Rattle.part_check.proofs.sound.ghosts_of_many.Statement.{statement}
+use Rattle.part_check.proofs.sound.ghosts_of_many.Tie as tie
+
+ghost-at-requires : tie.Need-ghost-at-requires
+ghost-at-requires c κs = search needs
+
+slice-aggregate-make : tie.Need-slice-aggregate-make
+slice-aggregate-make c = search needs
+
+slice-aggregate-make-2 : tie.Need-slice-aggregate-make-2
+slice-aggregate-make-2 c = search needs
+
+make-requires : tie.Need-make-requires
+make-requires c κs = (ghosts-numbered _ _ _ _ _ (c .before .before .before .before .pre) (c .before .before .ghost-at .ensures), omega (arith, c .before .before .before .before .pre .laid .most), blank 16384 (omega arith))
+
+slice-aggregate-ghosts-sound : tie.Need-slice-aggregate-ghosts-sound
+slice-aggregate-ghosts-sound c = search needs
+
+slice-aggregate-ghosts-sound-2 : tie.Need-slice-aggregate-ghosts-sound-2
+slice-aggregate-ghosts-sound-2 c = search needs
+
+ghosts-sound-requires : tie.Need-ghosts-sound-requires
+ghosts-sound-requires c κs = (c .before .before .before .before .before .before .before .before .before .pre, ghosts-indexed _ _ _ _ _ (c .before .before .before .before .before .before .before .before .before .pre) (c .before .before .before .before .before .before .before .ghost-at .ensures) (c .before .before .before .before .make .ensures))
+
+returns : tie.Need-returns
+returns c = search needs
+
+pub ghosts-of-many-spec : {M : Type 1} → statement M
+ghosts-of-many-spec =
+    tie.close
+    (tie.spec
+    ghost-at-requires
+    slice-aggregate-make
+    slice-aggregate-make-2
+    make-requires
+    slice-aggregate-ghosts-sound
+    slice-aggregate-ghosts-sound-2
+    ghosts-sound-requires
+    returns)

@@ -1,0 +1,72 @@
+use Rattle.positions.proofs.Positions.{counted-start, counted-more, counted-end, word-total}
+use Rattle.positions.specs.Means.{Counted}
+use Rattle.bits.specs.Bits.{inSet}
+use Rattle.encoding.proofs.Below.{count-le}
+use Rattle.encoding.specs.Below.{countBelow}
+use native.Mathlib.Omega.{arith}
+use mathlib.Core.Path.{_≡_}
+use Prim.Native.Nat.{_≤_, _+_, _*_}
+use borrow.Author.Needs.{needs}
+use Rattle.positions.proofs.index.count_behind.Statement.{statement}
+use Rattle.positions.proofs.index.count_behind.Tie as tie
+
+abbrev Inv-loop : tie.InvT-loop
+Inv-loop marks words behind₀ total₀ i₀ behind total i = (i ≤ words) × (total + countBelow (64 * i) (inSet marks) ≡ countBelow (64 * words) (inSet marks)) × Counted marks words behind₀ i behind
+
+abbrev μ-loop : tie.MeasureT-loop
+μ-loop marks words behind₀ total₀ i₀ behind total i = i
+
+loop-holds : tie.Need-loop-holds Inv-loop μ-loop
+loop-holds c = (omega arith, omega arith, counted-start _ _ _)
+
+sub-i : tie.Need-sub-i Inv-loop μ-loop
+sub-i c = search needs
+
+mul-behind : tie.Need-mul-behind Inv-loop μ-loop
+mul-behind c = search needs
+
+slice-write-behind : tie.Need-slice-write-behind Inv-loop μ-loop
+slice-write-behind c = omega (arith, c .before .loop .inv .2 .same-length, c .before .before .before .before .pre .room)
+
+mul-ones : tie.Need-mul-ones Inv-loop μ-loop
+mul-ones c = search needs
+
+shared-slice-read-ones : tie.Need-shared-slice-read-ones Inv-loop μ-loop
+shared-slice-read-ones c = omega (arith, c .before .before .before .before .before .pre .marked)
+
+ones-requires : tie.Need-ones-requires Inv-loop μ-loop
+ones-requires c κs = search needs
+
+add-total : tie.Need-add-total Inv-loop μ-loop
+add-total c = omega (arith, word-total _ _ _ _ (c .before .before .loop-test .taken) (c .before .before .before .loop .inv .1) (c .ones .ensures .0) .1, c .before .before .before .before .before .before .pre .few)
+
+loop-less : tie.Need-loop-less Inv-loop μ-loop
+loop-less c = search needs
+
+loop-again : tie.Need-loop-again Inv-loop μ-loop
+loop-again c = (omega arith, word-total _ _ _ _ (c .before .before .loop-test .taken) (c .before .before .before .loop .inv .1) (c .ones .ensures .0) .0, counted-more _ _ _ (c .before .before .before .before .before .before .pre .room) (c .before .before .loop-test .taken) (c .before .before .before .loop .inv .0) (c .before .before .before .loop .inv .1) (c .before .before .before .loop .inv .2))
+
+same-length : tie.Need-same-length Inv-loop μ-loop
+same-length c = c .before .loop .inv .2 .same-length
+
+returns : tie.Need-returns Inv-loop μ-loop
+returns c = counted-end _ _ (c .before .loop .inv .2) (omega arith)
+
+pub count-behind-spec : {M : Type 1} → statement M
+count-behind-spec =
+    tie.close
+    (tie.spec
+    Inv-loop
+    μ-loop
+    loop-holds
+    sub-i
+    mul-behind
+    slice-write-behind
+    mul-ones
+    shared-slice-read-ones
+    ones-requires
+    add-total
+    loop-less
+    loop-again
+    same-length
+    returns)

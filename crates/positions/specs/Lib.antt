@@ -1,0 +1,2 @@
+-- The position of a number among core records that ascend.
+pub mod Means

@@ -22,6 +22,8 @@ use Rattle.plan_text.specs.Plan.{planAnswer, planOutputAnswer}
 use Rattle.refinement.specs.Calls.{countAnswer, leafCounts}
 use Rattle.ele_mesh.specs.Calls.{importTriangle}
 use Rattle.regions.specs.Calls.{regionCountsOf}
+use Rattle.probes.specs.Calls.{listedRefused, listedAnswer, treesNear}
+use Rattle.columns.specs.Calls.{partToColumns, columnsToPart}
 use Rattle.brick.specs.Calls.{writeBrickOf}
 use Rattle.pattern.specs.Sets.{sendsTo}
 use Rattle.pattern.specs.Calls.{tableChecks, ranksAnswer, setAnswer, sendSetOf, receiveSetOf}
@@ -60,6 +62,13 @@ refused-counts refusal n counts out declined =
     (λ e. absurd (declined (rw e)))
     (λ e. rw e (refl, refl))
 
+refused-listed : (refusal n : ℕ) (list out : List ℕ) → (listedAnswer refusal n .refusal ≡ 0 → ⊥) → (listedAnswer refusal n .count ≡ 0) × (written refusal list out ≡ out)
+unfolding listedAnswer written
+refused-listed refusal n list out declined =
+    either (eqb refusal 0)
+    (λ e. absurd (declined (rw e)))
+    (λ e. rw e (refl, refl))
+
 refused-list : (refusal : ℕ) (counts out : List ℕ) → (refusal ≡ 0 → ⊥) → written refusal counts out ≡ out
 unfolding written
 refused-list refusal counts out declined = either (eqb refusal 0) (λ e. absurd (declined (eqb-true refusal 0 e))) (λ e. rw e)
@@ -88,7 +97,7 @@ refused-deliver area m declined =
     (λ e. rw e)
 
 pub refused-unchanged : RefusedUnchanged
-unfolding writeTable tableFromLeaves tableFromWeights tableFromBlocks planAnswer planOutputAnswer leafCounts importTriangle regionCountsOf writeBrickOf cutPartOf buildMessageOf openAreaOf closeOf sendSetOf receiveSetOf
+unfolding writeTable tableFromLeaves tableFromWeights tableFromBlocks planAnswer planOutputAnswer leafCounts importTriangle treesNear partToColumns columnsToPart regionCountsOf writeBrickOf cutPartOf buildMessageOf openAreaOf closeOf sendSetOf receiveSetOf
 refused-unchanged =
     record {
       write-table = λ P first count out. refused-writes _ _ out;
@@ -110,6 +119,9 @@ refused-unchanged =
       leaf-counts = λ shapes lengths bits out. refused-counts _ _ _ out;
       import-triangle = λ text out. refused-writes _ _ out;
       region-counts = λ part table rank out. refused-list _ _ out;
+      trees-near = λ part table rank probe out. refused-listed _ _ _ out;
+      part-to-columns = λ part table rank out. refused-writes _ _ out;
+      columns-to-part = λ file table rank out. refused-writes _ _ out;
     }
 
 -- ---- what a number means

@@ -11,6 +11,9 @@ use Rattle.plan_text.specs.Plan.{planAnswer, planOutputAnswer}
 use Rattle.refinement.specs.Calls.{leafCounts}
 use Rattle.ele_mesh.specs.Calls.{importTriangle}
 use Rattle.regions.specs.Calls.{regionCountsOf}
+use Rattle.probes.specs.declared.Probe.{Probe}
+use Rattle.probes.specs.Calls.{treesNear}
+use Rattle.columns.specs.Calls.{partToColumns, columnsToPart}
 use Rattle.brick.specs.Calls.{writeBrickOf}
 use Rattle.pattern.specs.declared.Ranks.{Ranks}
 use lib.IntN.{pos}
@@ -57,6 +60,9 @@ pub record RefusedUnchanged : Type 0 where
   pub leaf-counts : (shapes lengths bits out : List ℕ) → (leafCounts shapes lengths bits out .0 .refusal ≡ 0 → ⊥) → (leafCounts shapes lengths bits out .0 .count ≡ 0) × (leafCounts shapes lengths bits out .1 ≡ out)
   pub import-triangle : (text out : List ℕ) → Unchanged (importTriangle text out) out
   pub region-counts : (part table : List ℕ) (rank : ℕ) (out : List ℕ) → (regionCountsOf part table rank out .0 ≡ 0 → ⊥) → regionCountsOf part table rank out .1 ≡ out
+  pub trees-near : (part table : List ℕ) (rank : ℕ) (probe : Probe) (out : List ℕ) → (treesNear part table rank probe out .0 .refusal ≡ 0 → ⊥) → (treesNear part table rank probe out .0 .count ≡ 0) × (treesNear part table rank probe out .1 ≡ out)
+  pub part-to-columns : (part table : List ℕ) (rank : ℕ) (out : List ℕ) → Unchanged (partToColumns part table rank out) out
+  pub columns-to-part : (file table : List ℕ) (rank : ℕ) (out : List ℕ) → Unchanged (columnsToPart file table rank out) out
 
 -- "nothing for you", "already heard" and "not all heard" hold only where the tables and bits say so
 pub record RefusalsMean : Type 0 where

@@ -45,7 +45,7 @@ use Rattle.repartition.specs.Lists.{Call, deliver, close, AllBuilt, open
 use Rattle.repartition.specs.Demand.{size, heardBy, bytesAfter, closeAfter}
 use Rattle.repartition.proofs.Canonical.{slotHeard, ghostHeard, ghostsHeard, canonical}
 use Rattle.repartition.proofs.Demand.{state-after, answers-are, close-is, demand-3}
-use Rattle.repartition.specs.TreeData.{dataPlace, dataAt, dataOf, SameBut, PartsDiffer, MeshesDiffer, unsent, UnsentHidden, DataUnread, withMesh, outsideNew, SameAfter, OutsideHidden}
+use Rattle.repartition.specs.TreeData.{dataPlace, dataAt, dataOf, SameBut, PartsDiffer, MeshesDiffer, unsent, PieceHidden, UnsentHidden, DataUnread, withMesh, outsideNew, SameAfter, OutsideHidden}
 
 -- ---- bytes that may differ
 
@@ -276,29 +276,29 @@ data-unread a b same =
       build-message = λ old new p q epoch out bo bn. answer-same a b test same old new p q bo bn epoch out;
     }
 
-pub unsent-hidden : UnsentHidden
+pub piece-hidden : PieceHidden
 unfolding unsent
+piece-hidden a b old new p q epoch bo bn same e =
+    let test : ℕ → Bool = unsent old new p q in
+    let w : Passed b old new p q = checks-passed b old new p q bo bn e in
+    let T = w .tables in
+    let header = header-same a b test same in
+    let sound-a : partSound a old p ≡ true = sound-same a b test same old p ∙ w .sound in
+    message-data a b old new p q T (w .sender-below) (w .receiver-below) sound-a (w .sound) header (λ t h. tree-same a b test same t) (λ j h. ghost-same a b test same j)
+    (λ k s.
+    let r = holds-range old p k (sent-own a old new p q T (w .sender-below) (w .receiver-below) sound-a k s) in
+    let first : partFirst a ≡ firstTree old p = part-header a old p sound-a .first-tree in
+    let back : partFirst a + (k - partFirst a) ≡ k = omega (arith, r .0) in
+    other-same partHeader (partFirst a) (partCount a) test a b same (k - partFirst a) coreSize 24 (ap test back ∙ ap not s) (omega arith)
+    ∙ ap (λ (n : ℕ). piece b (treePlace (k - n) + coreSize) 24) (first-same a b header))
+    epoch
+
+pub unsent-hidden : UnsentHidden
 unsent-hidden a b old new p q bo bn same =
     let test : ℕ → Bool = unsent old new p q in (
       message-length-same a b test same old new p q bo bn,
-      λ epoch out. build-same a b test same old new p q bo bn epoch out (messages epoch),
+      λ epoch out. build-same a b test same old new p q bo bn epoch out (piece-hidden a b old new p q epoch bo bn same),
     )
-  where
-    messages : (epoch : ℕ) → firstFailed (buildChecks b old new p q) ≡ 0 → partMessage a old new p q epoch ≡ partMessage b old new p q epoch
-    messages epoch e =
-        let test : ℕ → Bool = unsent old new p q in
-        let w : Passed b old new p q = checks-passed b old new p q bo bn e in
-        let T = w .tables in
-        let header = header-same a b test same in
-        let sound-a : partSound a old p ≡ true = sound-same a b test same old p ∙ w .sound in
-        message-data a b old new p q T (w .sender-below) (w .receiver-below) sound-a (w .sound) header (λ t h. tree-same a b test same t) (λ j h. ghost-same a b test same j)
-        (λ k s.
-        let r = holds-range old p k (sent-own a old new p q T (w .sender-below) (w .receiver-below) sound-a k s) in
-        let first : partFirst a ≡ firstTree old p = part-header a old p sound-a .first-tree in
-        let back : partFirst a + (k - partFirst a) ≡ k = omega (arith, r .0) in
-        other-same partHeader (partFirst a) (partCount a) test a b same (k - partFirst a) coreSize 24 (ap test back ∙ ap not s) (omega arith)
-        ∙ ap (λ (n : ℕ). piece b (treePlace (k - n) + coreSize) 24) (first-same a b header))
-        epoch
 
 -- ---- areas
 

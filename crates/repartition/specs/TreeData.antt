@@ -7,6 +7,7 @@ use lib.Dec.{leb, ltb}
 use lib.ListN.{length, getD, take}
 use Rattle.encoding.specs.Below.{anyBelow}
 use Rattle.encoding.specs.Pieces.{Bytes}
+use Rattle.encoding.specs.Refusal.{firstFailed}
 use Rattle.offsets.specs.Table.{holds}
 use Rattle.pattern.specs.Sender.{sends}
 use Rattle.records.specs.Record.{coreSize, treeSize}
@@ -16,7 +17,8 @@ use Rattle.part.specs.Part.{partFirst, partCount}
 use Rattle.part_check.specs.Calls.{partRefusal}
 use Rattle.part_neighbour.specs.Calls.{neighbourAnswer}
 use Rattle.regions.specs.Calls.{regionCountsOf}
-use Rattle.message.specs.Calls.{messageLengthOf, buildMessageOf}
+use Rattle.message.specs.Build.{partMessage}
+use Rattle.message.specs.Calls.{buildChecks, messageLengthOf, buildMessageOf}
 use Rattle.repartition.specs.Run.{Run, Setting}
 use Rattle.repartition.specs.Lists.{Call, AllBuilt, opened, answersOf}
 use Rattle.repartition.specs.Demand.{size, bytesAfter, closeAfter}
@@ -59,6 +61,12 @@ UnsentHidden =
     (a b old new : List ℕ) (p q : ℕ) → Bytes old → Bytes new → PartsDiffer (unsent old new p q) a b
     → (messageLengthOf a old new p q ≡ messageLengthOf b old new p q)
     × ((epoch : ℕ) (out : List ℕ) → buildMessageOf a old new p q epoch out ≡ buildMessageOf b old new p q epoch out)
+
+-- The same of the message's bytes, where it is built: those that build_message writes, and the piece of what build_all writes that is for q (allMessages in crates/build_all/specs/Messages.antt).
+abbrev pub PieceHidden : Type 0
+PieceHidden =
+    (a b old new : List ℕ) (p q epoch : ℕ) → Bytes old → Bytes new → PartsDiffer (unsent old new p q) a b
+    → firstFailed (buildChecks b old new p q) ≡ 0 → partMessage a old new p q epoch ≡ partMessage b old new p q epoch
 
 -- what is the same for two parts that differ in tree data alone, whichever trees' it is
 pub record SameAnswers (a b : List ℕ) : Type 0 where

@@ -7,8 +7,6 @@ use native.Mathlib.Omega.{arith}
 use borrow.Author.Needs.{needs}
 use Rattle.ele_mesh.proofs.chain.clear.Statement.{statement}
 use Rattle.ele_mesh.proofs.chain.clear.Tie as tie
-use Rattle.ele_mesh.proofs.chain.clear.Reads as reads
-use Rattle.ele_mesh.proofs.chain.clear.Lts as lts
 
 abbrev Inv-loop : tie.InvT-loop
 Inv-loop heads₀ h₀ heads h = (h ≤ hashes) × ((length heads ≡ length heads₀) × Blank heads h)
@@ -16,35 +14,29 @@ Inv-loop heads₀ h₀ heads h = (h ≤ hashes) × ((length heads ≡ length hea
 abbrev μ-loop : tie.MeasureT-loop
 μ-loop heads₀ h₀ heads h = hashes - h
 
--- src/chain.rt:25:5
 loop-holds : tie.Need-loop-holds Inv-loop μ-loop
 loop-holds c = (omega arith, (refl, blank-none (c .args .heads .now)))
 
--- src/chain.rt:26:9
 mul-heads : tie.Need-mul-heads Inv-loop μ-loop
 mul-heads c = search needs
 
--- src/chain.rt:26:9
 slice-write-heads : tie.Need-slice-write-heads Inv-loop μ-loop
 slice-write-heads c = search needs
 
--- src/chain.rt:27:9
 add-h : tie.Need-add-h Inv-loop μ-loop
 add-h c = search needs
 
--- src/chain.rt:25:5
 loop-less : tie.Need-loop-less Inv-loop μ-loop
 loop-less c = search needs
 
--- src/chain.rt:25:5
 loop-again : tie.Need-loop-again Inv-loop μ-loop
-loop-again c = (omega arith, (length-set (c .before .loop .heads) (c .before .loop .h) 0 ∙ c .before .loop .inv .1 .0, blank-more (c .before .loop .heads) (c .before .loop .h) (omega arith) (c .before .loop .inv .1 .1)))
+loop-again c =
+    let loop = c .before .loop in
+    (omega arith, (length-set (loop .heads) (loop .h) 0 ∙ loop .inv .1 .0, blank-more (loop .heads) (loop .h) (omega arith) (loop .inv .1 .1)))
 
--- src/chain.rt:20:1
 same-length : tie.Need-same-length Inv-loop μ-loop
 same-length c = c .before .loop .inv .1 .0
 
--- src/chain.rt:20:1
 returns : tie.Need-returns Inv-loop μ-loop
 returns c = λ k l. c .before .loop .inv .1 .1 k (omega arith)
 

@@ -9,9 +9,6 @@ use native.Mathlib.Omega.{arith}
 use borrow.Author.Needs.{needs}
 use Rattle.ele_mesh.proofs.chain.edges_ok.Statement.{statement}
 use Rattle.ele_mesh.proofs.chain.edges_ok.Tie as tie
-use Rattle.ele_mesh.proofs.chain.edges_ok.Reads as reads
-use Rattle.ele_mesh.proofs.chain.edges_ok.Lts as lts
-use Rattle.ele_mesh.proofs.chain.earlier.Reads as earlier-reads
 
 abbrev Inv-loop : tie.InvT-loop
 Inv-loop vs m heads links f₀ f = (f ≤ length vs) × (allBelow f (paired vs) ≡ true)
@@ -19,33 +16,29 @@ Inv-loop vs m heads links f₀ f = (f ≤ length vs) × (allBelow f (paired vs) 
 abbrev μ-loop : tie.MeasureT-loop
 μ-loop vs m heads links f₀ f = length vs - f
 
--- src/chain.rt:113:5
 loop-holds : tie.Need-loop-holds Inv-loop μ-loop
 loop-holds c = (omega arith, paired-none _)
 
--- src/chain.rt:114:16
 earlier-requires : tie.Need-earlier-requires Inv-loop μ-loop
 earlier-requires c κs = (c .before .before .before .before .before .pre, c .loop-test .taken)
 
--- src/chain.rt:115:13
 returns : tie.Need-returns Inv-loop μ-loop
 returns c = paired-not _ _ (c .before .earlier .ensures) (c .before .before .loop-test .taken) (c .if1 .taken)
 
--- src/chain.rt:117:9
 add-f : tie.Need-add-f Inv-loop μ-loop
 add-f c = search needs
 
--- src/chain.rt:113:5
 loop-less : tie.Need-loop-less Inv-loop μ-loop
 loop-less c = search needs
 
--- src/chain.rt:113:5
 loop-again : tie.Need-loop-again Inv-loop μ-loop
 loop-again c = (omega arith, paired-more _ _ (c .before .earlier .ensures) (c .before .before .before .loop .inv .1) (c .if1 .left))
 
--- src/chain.rt:108:1
 returns-2 : tie.Need-returns-2 Inv-loop μ-loop
-returns-2 c = sym (all-to _ (paired (c .before .before .before .before .before .args .vs .now)) _ (c .before .loop .inv .0) (c .loop-test .left) (c .before .loop .inv .1))
+returns-2 c =
+    let args = c .before .before .before .before .before .args in
+    let loop = c .before .loop in
+    sym (all-to _ (paired (args .vs .now)) _ (loop .inv .0) (c .loop-test .left) (loop .inv .1))
 
 pub edges-ok-spec : {M : Type 1} → statement M
 edges-ok-spec =

@@ -9,8 +9,6 @@ use native.Mathlib.Omega.{arith}
 use borrow.Author.Needs.{needs}
 use Rattle.ele_mesh.proofs.check.vertices_differ.Statement.{statement}
 use Rattle.ele_mesh.proofs.check.vertices_differ.Tie as tie
-use Rattle.ele_mesh.proofs.check.vertices_differ.Reads as reads
-use Rattle.ele_mesh.proofs.check.vertices_differ.Lts as lts
 
 abbrev Inv-loop : tie.InvT-loop
 Inv-loop vs n t₀ t = (n ≡ length vs / 3) × ((t ≤ n) × (allBelow t (λ t. not (vertexTwice vs t)) ≡ true))
@@ -18,75 +16,59 @@ Inv-loop vs n t₀ t = (n ≡ length vs / 3) × ((t ≤ n) × (allBelow t (λ t.
 abbrev μ-loop : tie.MeasureT-loop
 μ-loop vs n t₀ t = n - t
 
--- src/check.rt:22:5
 loop-holds : tie.Need-loop-holds Inv-loop μ-loop
 loop-holds c = (refl, (omega arith, differ-none _))
 
--- src/check.rt:23:20
 mul-a : tie.Need-mul-a Inv-loop μ-loop
 mul-a c = search needs
 
--- src/check.rt:23:20
 add-a : tie.Need-add-a Inv-loop μ-loop
 add-a c = search needs
 
--- src/check.rt:23:17
 mul-a-2 : tie.Need-mul-a-2 Inv-loop μ-loop
 mul-a-2 c = search needs
 
--- src/check.rt:23:17
 shared-slice-read-a : tie.Need-shared-slice-read-a Inv-loop μ-loop
 shared-slice-read-a c = search needs
 
--- src/check.rt:24:20
 mul-b : tie.Need-mul-b Inv-loop μ-loop
 mul-b c = search needs
 
--- src/check.rt:24:20
 add-b : tie.Need-add-b Inv-loop μ-loop
 add-b c = search needs
 
--- src/check.rt:24:17
 mul-b-2 : tie.Need-mul-b-2 Inv-loop μ-loop
 mul-b-2 c = search needs
 
--- src/check.rt:24:17
 shared-slice-read-b : tie.Need-shared-slice-read-b Inv-loop μ-loop
 shared-slice-read-b c = search needs
 
--- src/check.rt:25:20
 mul-c : tie.Need-mul-c Inv-loop μ-loop
 mul-c c = search needs
 
--- src/check.rt:25:20
 add-c : tie.Need-add-c Inv-loop μ-loop
 add-c c = search needs
 
--- src/check.rt:25:17
 mul-c-2 : tie.Need-mul-c-2 Inv-loop μ-loop
 mul-c-2 c = search needs
 
--- src/check.rt:25:17
 shared-slice-read-c : tie.Need-shared-slice-read-c Inv-loop μ-loop
 shared-slice-read-c c = search needs
 
--- src/check.rt:27:13
 returns : tie.Need-returns Inv-loop μ-loop
 returns c = differ-not _ _ refl refl refl (omega arith) (c .if1 .taken)
 
--- src/check.rt:29:9
 add-t : tie.Need-add-t Inv-loop μ-loop
 add-t c = search needs
 
--- src/check.rt:22:5
 loop-less : tie.Need-loop-less Inv-loop μ-loop
 loop-less c = search needs
 
--- src/check.rt:22:5
 loop-again : tie.Need-loop-again Inv-loop μ-loop
-loop-again c = (c .before .before .before .before .before .loop .inv .0, (omega arith, differ-more _ _ refl refl refl (c .before .before .before .before .before .loop .inv .1 .1) (c .if1 .left)))
+loop-again c =
+    let loop = c .before .before .before .before .before .loop in
+    (loop .inv .0, (omega arith, differ-more _ _ refl refl refl (loop .inv .1 .1) (c .if1 .left)))
 
--- src/check.rt:16:1
 returns-2 : tie.Need-returns-2 Inv-loop μ-loop
 returns-2 c = differ-all _ _ (omega arith) (omega arith) (c .before .loop .inv .1 .1)
 

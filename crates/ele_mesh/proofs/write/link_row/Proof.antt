@@ -2,52 +2,37 @@ use Rattle.ele_mesh.proofs.Joins.{link-none, link-some}
 use borrow.Author.Needs.{needs}
 use Rattle.ele_mesh.proofs.write.link_row.Statement.{statement}
 use Rattle.ele_mesh.proofs.write.link_row.Tie as tie
-use Rattle.ele_mesh.proofs.write.link_row.Reads as reads
-use Rattle.ele_mesh.proofs.write.link_row.Lts as lts
-use Rattle.ele_mesh.proofs.chain.partner.Reads as partner-reads
-use Rattle.ele_mesh.proofs.write.turn_of.Reads as turn-of-reads
 
--- src/write.rt:32:13
 mul-f : tie.Need-mul-f
 mul-f c = search needs
 
--- src/write.rt:32:13
 add-f : tie.Need-add-f
 add-f c = search needs
 
--- src/write.rt:33:9
 partner-requires : tie.Need-partner-requires
 partner-requires c κs = search needs
 
--- src/write.rt:35:17
 cast-t12 : tie.Need-cast-t12
 cast-t12 c = search needs
 
--- src/write.rt:35:27
 cast-t13 : tie.Need-cast-t13
 cast-t13 c = search needs
 
--- src/write.rt:35:9
 returns : tie.Need-returns
 returns c = link-none _ _ _ (c .before .partner .ensures .0) (c .if1 .taken)
 
--- src/write.rt:37:13
 sub-g : tie.Need-sub-g
 sub-g c = search needs
 
--- src/write.rt:38:6
 cast-t14 : tie.Need-cast-t14
 cast-t14 c = search needs
 
--- src/write.rt:38:22
 cast-t16 : tie.Need-cast-t16
 cast-t16 c = search needs
 
--- src/write.rt:38:38
 turn-of-requires : tie.Need-turn-of-requires
 turn-of-requires c κs = search needs
 
--- src/write.rt:28:1
 returns-2 : tie.Need-returns-2
 returns-2 c = link-some _ _ _ (c .before .before .partner .ensures .0) (c .before .if1 .left) (c .turn-of .ensures)
 

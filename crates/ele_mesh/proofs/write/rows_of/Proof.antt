@@ -2,23 +2,16 @@ use Rattle.ele_mesh.proofs.Joins.{three-rows}
 use borrow.Author.Needs.{needs}
 use Rattle.ele_mesh.proofs.write.rows_of.Statement.{statement}
 use Rattle.ele_mesh.proofs.write.rows_of.Tie as tie
-use Rattle.ele_mesh.proofs.write.rows_of.Reads as reads
-use Rattle.ele_mesh.proofs.write.rows_of.Lts as lts
-use Rattle.ele_mesh.proofs.write.link_row.Reads as link-row-reads
 
--- src/write.rt:48:9
 link-row-requires : tie.Need-link-row-requires
 link-row-requires c κs = search needs
 
--- src/write.rt:49:9
 link-row-requires-2 : tie.Need-link-row-requires-2
 link-row-requires-2 c κs = search needs
 
--- src/write.rt:50:9
 link-row-requires-3 : tie.Need-link-row-requires-3
 link-row-requires-3 c κs = search needs
 
--- src/write.rt:42:1
 returns : tie.Need-returns
 returns c = three-rows _ (c .before .before .link-row .ensures) (c .before .link-row2 .ensures) (c .link-row3 .ensures)
 

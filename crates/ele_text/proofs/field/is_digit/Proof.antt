@@ -2,10 +2,7 @@ use mathlib.Core.Path.{refl}
 use Rattle.ele_text.specs.Text.{isDigit}
 use Rattle.ele_text.proofs.field.is_digit.Statement.{statement}
 use Rattle.ele_text.proofs.field.is_digit.Tie as tie
-use Rattle.ele_text.proofs.field.is_digit.Reads as reads
-use Rattle.ele_text.proofs.field.is_digit.Lts as lts
 
--- src/field.rt:34:1
 returns : tie.Need-returns
 unfolding isDigit
 returns c = refl

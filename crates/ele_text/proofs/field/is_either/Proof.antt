@@ -2,10 +2,7 @@ use mathlib.Core.Path.{refl}
 use Rattle.ele_text.specs.Text.{isEither}
 use Rattle.ele_text.proofs.field.is_either.Statement.{statement}
 use Rattle.ele_text.proofs.field.is_either.Tie as tie
-use Rattle.ele_text.proofs.field.is_either.Reads as reads
-use Rattle.ele_text.proofs.field.is_either.Lts as lts
 
--- src/field.rt:14:1
 returns : tie.Need-returns
 unfolding isEither
 returns c = refl

@@ -8,10 +8,6 @@ use Rattle.ele_text.proofs.Numbers.{Reading, reading-none, reading-smal
 use borrow.Author.Needs.{needs}
 use Rattle.ele_text.proofs.field.read_number.Statement.{statement}
 use Rattle.ele_text.proofs.field.read_number.Tie as tie
-use Rattle.ele_text.proofs.field.read_number.Reads as reads
-use Rattle.ele_text.proofs.field.read_number.Lts as lts
-use Rattle.ele_text.proofs.field.is_digit.Reads as is-digit-reads
-use Rattle.ele_text.proofs.field.wide.Reads as wide-reads
 
 abbrev Inv-loop : tie.InvT-loop
 Inv-loop s v₀ i₀ v i = Reading s i v
@@ -19,55 +15,57 @@ Inv-loop s v₀ i₀ v i = Reading s i v
 abbrev μ-loop : tie.MeasureT-loop
 μ-loop s v₀ i₀ v i = length s - i
 
--- src/field.rt:51:9
 returns : tie.Need-returns Inv-loop μ-loop
 returns c = number-long _ (c .if1 .taken)
 
--- src/field.rt:58:5
 loop-holds : tie.Need-loop-holds Inv-loop μ-loop
 loop-holds c = reading-none _
 
--- src/field.rt:59:17
 shared-slice-read-b : tie.Need-shared-slice-read-b Inv-loop μ-loop
 shared-slice-read-b c = search needs
 
--- src/field.rt:60:13
 is-digit-requires : tie.Need-is-digit-requires Inv-loop μ-loop
 is-digit-requires c κs = search needs
 
--- src/field.rt:61:13
 returns-2 : tie.Need-returns-2 Inv-loop μ-loop
 returns-2 c = number-broken _ _ (c .before .before .before .loop-test .taken) (sym (c .before .is-digit .ensures) ∙ not-true _ (c .if2 .taken))
 
--- src/field.rt:66:13
 mul-v : tie.Need-mul-v Inv-loop μ-loop
-mul-v c = omega (arith, reading-small _ _ _ (c .before .before .before .before .loop .inv) (omega (arith, sized-most (c .before .before .before .before .before .before .before .args .s .now) (c .before .before .before .before .before .if1 .left))))
+mul-v c =
+    let loop = c .before .before .before .before .loop in
+    let args = c .before .before .before .before .before .before .before .args in
+    let if1 = c .before .before .before .before .before .if1 in
+    omega (arith, reading-small _ _ _ (loop .inv) (omega (arith, sized-most (args .s .now) (if1 .left))))
 
--- src/field.rt:66:23
 wide-requires : tie.Need-wide-requires Inv-loop μ-loop
 wide-requires c κs = search needs
 
--- src/field.rt:66:23
 sub-v : tie.Need-sub-v Inv-loop μ-loop
 sub-v c = omega (arith, digit-range _ (sym (c .before .before .is-digit .ensures) ∙ not-false _ (c .before .if2 .left)))
 
--- src/field.rt:66:13
 add-v : tie.Need-add-v Inv-loop μ-loop
-add-v c = omega (arith, digit-range _ (sym (c .before .before .is-digit .ensures) ∙ not-false _ (c .before .if2 .left)), reading-small _ _ _ (c .before .before .before .before .before .loop .inv) (omega (arith, sized-most (c .before .before .before .before .before .before .before .before .args .s .now) (c .before .before .before .before .before .before .if1 .left))))
+add-v c =
+    let is-digit = c .before .before .is-digit in
+    let if2 = c .before .if2 in
+    let loop = c .before .before .before .before .before .loop in
+    let args = c .before .before .before .before .before .before .before .before .args in
+    let if1 = c .before .before .before .before .before .before .if1 in
+    omega (arith, digit-range _ (sym (is-digit .ensures) ∙ not-false _ (if2 .left)), reading-small _ _ _ (loop .inv) (omega (arith, sized-most (args .s .now) (if1 .left))))
 
--- src/field.rt:67:9
 add-i : tie.Need-add-i Inv-loop μ-loop
 add-i c = search needs
 
--- src/field.rt:58:5
 loop-less : tie.Need-loop-less Inv-loop μ-loop
 loop-less c = search needs
 
--- src/field.rt:58:5
 loop-again : tie.Need-loop-again Inv-loop μ-loop
-loop-again c = reading-more _ _ _ _ (c .before .before .before .before .before .loop .inv) (c .before .before .before .before .loop-test .taken) (c .wide .ensures .0) (ap isDigit (c .wide .ensures .0) ∙ (sym (c .before .before .is-digit .ensures) ∙ not-false _ (c .before .if2 .left)))
+loop-again c =
+    let loop = c .before .before .before .before .before .loop in
+    let loop-test = c .before .before .before .before .loop-test in
+    let is-digit = c .before .before .is-digit in
+    let if2 = c .before .if2 in
+    reading-more _ _ _ _ (loop .inv) (loop-test .taken) (c .wide .ensures .0) (ap isDigit (c .wide .ensures .0) ∙ (sym (is-digit .ensures) ∙ not-false _ (if2 .left)))
 
--- src/field.rt:47:1
 returns-3 : tie.Need-returns-3 Inv-loop μ-loop
 returns-3 c = number-done _ _ _ (c .before .before .if1 .left) (c .before .loop .inv) (c .loop-test .left)
 

@@ -2,10 +2,7 @@ use mathlib.Core.Path.{refl}
 use Rattle.ele_text.specs.Means.{isHead}
 use Rattle.ele_text.proofs.file.is_head.Statement.{statement}
 use Rattle.ele_text.proofs.file.is_head.Tie as tie
-use Rattle.ele_text.proofs.file.is_head.Reads as reads
-use Rattle.ele_text.proofs.file.is_head.Lts as lts
 
--- src/file.rt:19:1
 returns : tie.Need-returns
 unfolding isHead
 returns c = refl

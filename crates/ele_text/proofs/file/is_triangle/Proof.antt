@@ -2,10 +2,7 @@ use mathlib.Core.Path.{refl}
 use Rattle.ele_text.specs.Means.{isTriangle}
 use Rattle.ele_text.proofs.file.is_triangle.Statement.{statement}
 use Rattle.ele_text.proofs.file.is_triangle.Tie as tie
-use Rattle.ele_text.proofs.file.is_triangle.Reads as reads
-use Rattle.ele_text.proofs.file.is_triangle.Lts as lts
 
--- src/file.rt:25:1
 returns : tie.Need-returns
 unfolding isTriangle
 returns c = refl

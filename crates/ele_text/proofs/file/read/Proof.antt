@@ -8,12 +8,6 @@ use Rattle.ele_text.proofs.Storing.{Gone, gone-none, gone-most, gone-ac
 use borrow.Author.Needs.{needs}
 use Rattle.ele_text.proofs.file.read.Statement.{statement}
 use Rattle.ele_text.proofs.file.read.Tie as tie
-use Rattle.ele_text.proofs.file.read.Reads as reads
-use Rattle.ele_text.proofs.file.read.Lts as lts
-use Rattle.ele_text.proofs.field.until_either.Reads as until-either-reads
-use Rattle.ele_text.proofs.file.no_file.Reads as no-file-reads
-use Rattle.ele_text.proofs.file.with_row.Reads as with-row-reads
-use Rattle.ele_text.proofs.line.row_of.Reads as row-of-reads
 
 abbrev Inv-loop : tie.InvT-loop
 Inv-loop text vertices₀ f₀ at₀ vertices f at = Gone text vertices₀ vertices f at
@@ -21,85 +15,86 @@ Inv-loop text vertices₀ f₀ at₀ vertices f at = Gone text vertices₀ verti
 abbrev μ-loop : tie.MeasureT-loop
 μ-loop text vertices₀ f₀ at₀ vertices f at = length text - at
 
--- src/file.rt:91:5
 loop-holds : tie.Need-loop-holds Inv-loop μ-loop
 loop-holds c = gone-none _ _ (c .before .before .pre)
 
--- src/file.rt:92:43
 sub-until-either : tie.Need-sub-until-either Inv-loop μ-loop
 sub-until-either c = omega (arith, c .loop .inv .inside)
 
--- src/file.rt:92:43
 part-until-either-start : tie.Need-part-until-either-start Inv-loop μ-loop
 part-until-either-start c = omega (arith, c .loop .inv .inside)
 
--- src/file.rt:92:43
 part-until-either-end : tie.Need-part-until-either-end Inv-loop μ-loop
 part-until-either-end c = omega (arith, c .loop .inv .inside)
 
--- src/file.rt:92:22
 until-either-requires : tie.Need-until-either-requires Inv-loop μ-loop
 until-either-requires c κs = search needs
 
--- src/file.rt:92:17
 add-e : tie.Need-add-e Inv-loop μ-loop
 add-e c = omega (arith, gone-most _ _ _ _ _ _ (c .before .before .loop .inv) (c .until-either .ensures .0))
 
--- src/file.rt:94:47
 add-if2 : tie.Need-add-if2 Inv-loop μ-loop
 add-if2 c = omega (arith, c .before .before .before .before .loop .inv .within .count)
 
--- src/file.rt:95:17
 same-length : tie.Need-same-length Inv-loop μ-loop
 same-length c = c .before .before .before .before .before .before .before .loop .inv .same
 
--- src/file.rt:95:17
 returns : tie.Need-returns Inv-loop μ-loop
-returns c = text-accepted _ _ _ (c .before .before .before .before .before .before .before .loop .inv .within) (and-snd (eqb (c .before .before .before .before .before .before .before .loop .at) (c .before .before .before .before .before .before .before .loop .at + c .before .before .before .before .before .until-either .result)) _ (c .if2 .taken)) (gone-accepted _ _ _ _ _ _ (c .before .before .before .before .before .before .before .loop .inv) (c .before .before .before .before .before .until-either .ensures .0) (c .before .before .before .before .if1 .taken) (c .if2 .taken))
+returns c =
+    let loop = c .before .before .before .before .before .before .before .loop in
+    let until-either = c .before .before .before .before .before .until-either in
+    let if1 = c .before .before .before .before .if1 in
+    text-accepted _ _ _ (loop .inv .within) (and-snd (eqb (loop .at) (loop .at + until-either .result)) _ (c .if2 .taken)) (gone-accepted _ _ _ _ _ _ (loop .inv) (until-either .ensures .0) (if1 .taken) (c .if2 .taken))
 
--- src/file.rt:97:13
 no-file-requires : tie.Need-no-file-requires Inv-loop μ-loop
 no-file-requires c κs = search needs
 
--- src/file.rt:97:13
 same-length-2 : tie.Need-same-length-2 Inv-loop μ-loop
 same-length-2 c = c .before .before .before .before .before .before .before .before .loop .inv .same
 
--- src/file.rt:97:13
 returns-2 : tie.Need-returns-2 Inv-loop μ-loop
-returns-2 c = text-refused _ _ _ (c .no-file .ensures) (gone-refused _ _ _ _ _ _ (c .before .before .before .before .before .before .before .before .loop .inv) (c .before .before .before .before .before .before .until-either .ensures .0) (c .before .before .before .before .before .if1 .taken) (c .before .if2 .left))
+returns-2 c =
+    let loop = c .before .before .before .before .before .before .before .before .loop in
+    let until-either = c .before .before .before .before .before .before .until-either in
+    let if1 = c .before .before .before .before .before .if1 in
+    let if2 = c .before .if2 in
+    text-refused _ _ _ (c .no-file .ensures) (gone-refused _ _ _ _ _ _ (loop .inv) (until-either .ensures .0) (if1 .taken) (if2 .left))
 
--- src/file.rt:99:32
 sub-row-of : tie.Need-sub-row-of Inv-loop μ-loop
 sub-row-of c = search needs
 
--- src/file.rt:99:32
 part-row-of-start : tie.Need-part-row-of-start Inv-loop μ-loop
 part-row-of-start c = search needs
 
--- src/file.rt:99:32
 part-row-of-end : tie.Need-part-row-of-end Inv-loop μ-loop
 part-row-of-end c = search needs
 
--- src/file.rt:99:25
 row-of-requires : tie.Need-row-of-requires Inv-loop μ-loop
 row-of-requires c κs = search needs
 
--- src/file.rt:99:9
 with-row-requires : tie.Need-with-row-requires Inv-loop μ-loop
 with-row-requires c κs = (c .before .before .before .before .before .before .loop .inv .within, c .before .before .before .before .before .before .loop .inv .room)
 
--- src/file.rt:100:14
 add-at : tie.Need-add-at Inv-loop μ-loop
-add-at c = omega (arith, gone-most _ _ _ _ _ _ (c .before .before .before .before .before .before .before .before .before .loop .inv) (c .before .before .before .before .before .before .before .until-either .ensures .0))
+add-at c =
+    let loop = c .before .before .before .before .before .before .before .before .before .loop in
+    let until-either = c .before .before .before .before .before .before .before .until-either in
+    omega (arith, gone-most _ _ _ _ _ _ (loop .inv) (until-either .ensures .0))
 
--- src/file.rt:91:5
 loop-less : tie.Need-loop-less Inv-loop μ-loop
-loop-less c = omega (arith, gone-most _ _ _ _ _ _ (c .before .before .before .before .before .before .before .before .before .loop .inv) (c .before .before .before .before .before .before .before .until-either .ensures .0))
+loop-less c =
+    let loop = c .before .before .before .before .before .before .before .before .before .loop in
+    let until-either = c .before .before .before .before .before .before .before .until-either in
+    omega (arith, gone-most _ _ _ _ _ _ (loop .inv) (until-either .ensures .0))
 
--- src/file.rt:91:5
 loop-again : tie.Need-loop-again Inv-loop μ-loop
-loop-again c = gone-on _ _ _ _ _ _ (c .before .before .before .before .before .before .before .before .before .loop .inv) (c .before .before .before .before .before .before .before .until-either .ensures .0) (c .before .before .before .before .before .before .if1 .left) (c .before .before .before .before .row-of .ensures) (c .before .before .with-row .ensures) (search needs)
+loop-again c =
+    let loop = c .before .before .before .before .before .before .before .before .before .loop in
+    let until-either = c .before .before .before .before .before .before .before .until-either in
+    let if1 = c .before .before .before .before .before .before .if1 in
+    let row-of = c .before .before .before .before .row-of in
+    let with-row = c .before .before .with-row in
+    gone-on _ _ _ _ _ _ (loop .inv) (until-either .ensures .0) (if1 .left) (row-of .ensures) (with-row .ensures) (search needs)
 
 pub read-spec : {M : Type 1} → statement M
 read-spec =

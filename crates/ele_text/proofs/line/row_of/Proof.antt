@@ -5,24 +5,16 @@ use Rattle.ele_text.proofs.Rows.{row-read}
 use borrow.Author.Needs.{needs}
 use Rattle.ele_text.proofs.line.row_of.Statement.{statement}
 use Rattle.ele_text.proofs.line.row_of.Tie as tie
-use Rattle.ele_text.proofs.line.row_of.Reads as reads
-use Rattle.ele_text.proofs.line.row_of.Lts as lts
-use Rattle.ele_text.proofs.field.until_either.Reads as until-either-reads
-use Rattle.ele_text.proofs.line.plain_row.Reads as plain-row-reads
 
--- src/line.rt:74:9
 until-either-requires : tie.Need-until-either-requires
 until-either-requires c κs = search needs
 
--- src/line.rt:75:15
 slice-aggregate-plain-row : tie.Need-slice-aggregate-plain-row
 slice-aggregate-plain-row c = sym (length-take-le _ _ (omega arith))
 
--- src/line.rt:75:5
 plain-row-requires : tie.Need-plain-row-requires
 plain-row-requires c κs = search needs
 
--- src/line.rt:71:1
 returns : tie.Need-returns
 returns c = row-read _ _ (c .before .before .until-either .ensures .0) (c .plain-row .ensures .0)
 

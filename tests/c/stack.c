@@ -28,7 +28,7 @@ static uint32_t     many[VEJGODAT_MAX_TREES];
 static uint64_t     sums[VEJGODAT_MAX_TREES / VEJGODAT_BLOCK_TREES];
 static size_t       part_len, message_len, area_len;
 static uint32_t     refused;
-static uint32_t     counts[VEJGODAT_REGIONS];
+static uint32_t     counts[VEJGODAT_REGIONS], met[TREES];
 
 static void
 put (uint8_t * bytes, uint32_t number)
@@ -140,14 +140,14 @@ TAKE (region_counts,
       vejgodat_region_counts (part, part_len, OLD, 0, counts,
                               VEJGODAT_REGIONS))
 TAKE_LENGTH (trees_at_point,
-             vejgodat_trees_at_point (part, part_len, OLD, 0, 0, 0, 0, counts,
-                                      VEJGODAT_REGIONS))
+             vejgodat_trees_at_point (part, part_len, OLD, 0, 0, 0, 0, met,
+                                      TREES))
 TAKE_LENGTH (trees_below,
-             vejgodat_trees_below (part, part_len, OLD, 0, 0, 1, counts,
-                                   VEJGODAT_REGIONS))
+             vejgodat_trees_below (part, part_len, OLD, 0, 0, 1, met,
+                                   TREES))
 TAKE_LENGTH (trees_between,
-             vejgodat_trees_between (part, part_len, OLD, 0, 2, 0, 1, counts,
-                                     VEJGODAT_REGIONS))
+             vejgodat_trees_between (part, part_len, OLD, 0, 2, 0, 1, met,
+                                     TREES))
 TAKE (table_fault, vejgodat_table_fault (OLD).fault)
 
 /* a sound object, and one whose last record fails, so that the search goes through all */

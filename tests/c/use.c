@@ -948,6 +948,8 @@ probes (void)
   EXPECT (answer.refusal == VEJGODAT_PROBE && answer.count == 0);
   EXPECT (out[0] == 1 && out[1] == 1 && out[2] == 9);
 #undef PART
+}
+
 /* Where an object fails. Says it as the examples do. */
 static void
 fault_is (vejgodat_fault got, uint32_t fault, const char *place,

@@ -1,8 +1,7 @@
 //! Parts stored by columns, and back.
-use crate::{brick, tangle};
 use crate::library::Length;
 use crate::part::{check_part, quarters, GHOST, HEADER, TREE};
-use crate::{bytes_of, row, times};
+use crate::{brick, bytes_of, row, tangle, times};
 use std::hint::black_box;
 
 type Turn = unsafe extern "C" fn(*const u8, usize, *const u8, usize, u32, *mut u8, usize) -> Length;
@@ -128,5 +127,5 @@ pub fn rows() {
         column_rows("a brick", &brick(powers.map(|power| power as u32)), &bytes_of([0, 1 << power].into_iter()), 0);
     }
     column_rows("a brick, a quarter of it", &brick([6, 7, 7]), &quarters(1 << 20), 1);
-    column_rows("random links, a quarter of them", &tangle(20), &quarters(1 << 20), 1);
+    column_rows("random links, a quarter of them", &tangle(16), &quarters(1 << 16), 1);
 }

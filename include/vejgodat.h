@@ -277,7 +277,7 @@ extern "C" {
 #endif
 
 /** The version of this header: 10000 major + 100 minor + patch. */
-#define VEJGODAT_VERSION 300
+#define VEJGODAT_VERSION 400
 
 /** Where the compiler knows how, it warns if a call's result is dropped. */
 #if defined (__GNUC__) || defined (__clang__)

@@ -45,9 +45,9 @@ use refinement::Leaves;
 // 10000 major + 100 minor + patch
 #[no_mangle]
 pub extern "C" fn vejgodat_version() -> u32
-    ensures { λ r. ⌜ r ≡ 300 ⌝ }
+    ensures { λ r. ⌜ r ≡ 400 ⌝ }
 {
-    300
+    400
 }
 
 #[no_mangle]

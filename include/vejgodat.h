@@ -1426,7 +1426,7 @@ uint32_t            vejgodat_deliver (uint8_t * area, size_t area_len,
  * \param [in] messages     Messages, end to end; any bytes. Not changed.
  * \param [in] messages_len The number of their bytes.
  * \param [out] answers     Entry i becomes what \ref vejgodat_deliver would
- *                          have answered to message i: 0, or 11 to 19. The
+ *                          have answered to message i: 0, or 11 to 18. The
  *                          entries behind the last message stay. When refused,
  *                          all of them stay.
  * \param [in] answers_len  The number of entries, not bytes, of \a answers.

@@ -4,7 +4,7 @@ ghost use mathlib.Core.Bool.{true};
 ghost use Rattle.area.specs.Area.{areaSound};
 ghost use Rattle.area.specs.Deliver.{deliverOf};
 
-// Delivers a message into a sound area (11 to 19): 0 or the refusal. It reads no more of the area than the message concerns.
+// Delivers a message into a sound area (11 to 18): 0 or the refusal. It reads no more of the area than the message concerns.
 pub fn deliver_sound(area: &mut [u8], message: &[u8]) -> u32
     requires { ⌜ areaSound (now area) ≡ true ⌝ }
     ensures { λ r. ⌜ (r, now (area .exit)) ≡ deliverOf (now (area .entry)) (now (message .entry)) ⌝ }

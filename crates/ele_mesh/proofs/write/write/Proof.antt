@@ -2,7 +2,7 @@ use Rattle.ele_mesh.proofs.Joins.{drawn-fit, length-on}
 use Rattle.ele_mesh.specs.Faces.{faceLink}
 use Rattle.mesh_build.proofs.Building.{built-rows}
 use Rattle.mesh_build.proofs.Writing.{built-start, built-next, built-done}
-use Rattle.mesh_build.specs.Build.{newHeader, builtTrees}
+use Rattle.mesh_build.specs.Build.{builtTrees}
 use Rattle.mesh.specs.Mesh.{meshHeader}
 use Rattle.records.specs.Record.{treeSize}
 use Rattle.encoding.specs.Pieces.{splice}
@@ -16,7 +16,7 @@ use Rattle.ele_mesh.proofs.write.write.Statement.{statement}
 use Rattle.ele_mesh.proofs.write.write.Tie as tie
 
 abbrev Inv-loop : tie.InvT-loop
-Inv-loop vs m heads links n out₀ t₀ out t = (t ≤ n) × ((length out ≡ length out₀) × ((bs : List ℕ) → out₀ ≡ splice bs 0 (newHeader 1 n) → meshHeader + treeSize * n ≤ length bs → out ≡ splice bs 0 (newHeader 1 n ++ builtTrees 1 (faceLink vs) t)))
+Inv-loop vs m heads links n out₀ t₀ out t = (t ≤ n) × ((length out ≡ length out₀) × (out ≡ splice out₀ meshHeader (builtTrees 1 (faceLink vs) t)))
 
 abbrev μ-loop : tie.MeasureT-loop
 μ-loop vs m heads links n out₀ t₀ out t = n - t
@@ -25,7 +25,7 @@ header-requires : tie.Need-header-requires Inv-loop μ-loop
 header-requires c κs = search needs
 
 loop-holds : tie.Need-loop-holds Inv-loop μ-loop
-loop-holds c = (omega arith, (refl, λ bs e l. built-start _ _ _ bs e))
+loop-holds c = (omega arith, (refl, built-start _ _ _ _))
 
 cast-rows-of : tie.Need-cast-rows-of Inv-loop μ-loop
 cast-rows-of c = search needs
@@ -55,7 +55,8 @@ loop-again c =
     let loop-test = c .before .before .before .before .before .loop-test in
     let rows-of = c .before .before .before .rows-of in
     let tree = c .before .before .tree in
-    (omega arith, (length-on (loop .inv .1 .0) (search needs), λ bs e l. built-next _ _ _ bs _ l (loop-test .taken) (loop .inv .1 .1 bs e l) (rows-of .ensures) (tree .ensures)))
+    let pre = c .before .before .before .before .before .before .before .before .before .before .before .before .before .before .before .pre in
+    (omega arith, (length-on (loop .inv .1 .0) (search needs), built-next _ _ _ _ _ (omega (arith, pre .1)) (loop-test .taken) (loop .inv .1 .1) (rows-of .ensures) (tree .ensures)))
 
 same-length : tie.Need-same-length Inv-loop μ-loop
 same-length c = c .before .loop .inv .1 .0 ∙ (search needs)
@@ -65,7 +66,7 @@ returns c =
     let loop = c .before .loop in
     let header = c .before .before .before .before .header in
     let pre = c .before .before .before .before .before .before .before .before .before .before .pre in
-    built-done _ _ _ _ _ (loop .inv .0) (c .loop-test .left) (loop .inv .1 .1 _ (header .ensures) (pre .1))
+    built-done _ _ _ _ _ _ (omega (arith, pre .1)) (loop .inv .0) (c .loop-test .left) (header .ensures) (loop .inv .1 .1)
 
 pub write-spec : {M : Type 1} → statement M
 write-spec =

@@ -25,7 +25,7 @@ header-requires : tie.Need-header-requires Inv-loop μ-loop
 header-requires c κs = search needs
 
 loop-holds : tie.Need-loop-holds Inv-loop μ-loop
-loop-holds c = (omega arith, (refl, built-start _ _ _ _))
+loop-holds c = (omega arith, (refl, built-start _ _ 0 _))
 
 cast-rows-of : tie.Need-cast-rows-of Inv-loop μ-loop
 cast-rows-of c = search needs

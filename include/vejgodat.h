@@ -155,6 +155,12 @@
  * numbers. All neighbours are global numbers, as in a whole mesh; tree data
  * goes with the trees and not with the ghosts.
  *
+ * A message shows the tree data of the trees that are sent in it, and of no
+ * other: what its receiver gets, its length and every refusal are the same
+ * whatever the data of the others is, and so is the area of a rank whatever the
+ * data of trees outside its new range is. Cutting, looking up, columns and
+ * probes show data by intent.
+ *
  * A message is in layout if
  *
  *  - the dimension is 2 or 3 and the length is 32 + 64 n + 40 g;

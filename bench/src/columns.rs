@@ -118,10 +118,18 @@ fn column_rows(name: &str, mesh: &[u8], table: &[u8], rank: u32) {
     let [one, two, three] =
         times(repeats, 1, [&mut || _ = black_box(check()), &mut || _ = black_box(check()), &mut || _ = black_box(check())]);
     let check = one.min(two).min(three);
-    println!("|   over the check of that part: {:.2} to columns, {:.2} back | {:.2} | | | |", there / check, back / check, check / 1_000.0);
+    println!(
+        "| that part's check; {:.2} times it to columns, {:.2} times back | {:.2} | | | | |",
+        there / check,
+        back / check,
+        check / 1_000.0
+    );
 }
 
 pub fn rows() {
+    println!("\nParts by columns, and back.\n");
+    println!("| call | library, µs | ns per tree | ratio to trusting | ratio to checking | |");
+    println!("|---|---:|---:|---:|---:|---:|");
     for powers in [[4, 5, 5], [6, 6, 6]] {
         let power: i64 = powers.iter().sum();
         column_rows("a brick", &brick(powers.map(|power| power as u32)), &bytes_of([0, 1 << power].into_iter()), 0);

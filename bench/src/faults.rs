@@ -94,8 +94,8 @@ fn mesh_fault(name: &str, power: u32, mut mesh: Vec<u8>) {
 
 pub fn rows() {
     println!("\nThe first fault of a mesh, beside the check alone and beside a search in one pass.\n");
-    println!("| call | library, µs | ns per tree | ratio to the check | ratio to a search |");
-    println!("|---|---:|---:|---:|---:|");
+    println!("| call | library, µs | ns per tree | ratio to the check | ratio to a search | |");
+    println!("|---|---:|---:|---:|---:|---:|");
     for powers in [[4, 6, 6], [6, 7, 7]] {
         mesh_fault("hexahedra, a brick", powers.iter().sum(), brick(powers));
     }

@@ -7,69 +7,111 @@ use borrow.Author.Needs.{needs}
 use Rattle.area_check.proofs.sound.area_sound.Statement.{statement}
 use Rattle.area_check.proofs.sound.area_sound.Tie as tie
 
--- src/sound.rt:231:9
 header-sound-requires : tie.Need-header-sound-requires
 header-sound-requires c κs = search needs
 
--- src/sound.rt:232:9
 returns : tie.Need-returns
 returns c = area-header-fails _ (sym (c .before .header-sound .ensures) ∙ not-true _ (c .if1 .taken))
 
--- src/sound.rt:234:9
 ranks-requires : tie.Need-ranks-requires
-ranks-requires c κs = omega (arith, header-holds _ (λ i. c .before .before .shared-slice-known .given i .fits) (sym (c .before .header-sound .ensures) ∙ not-false _ (c .if1 .left)) .long)
+ranks-requires c κs =
+    let shared-slice-known = c .before .before .shared-slice-known in
+    let header-sound = c .before .header-sound in
+    omega (arith, header-holds _ (λ i. shared-slice-known .given i .fits) (sym (header-sound .ensures) ∙ not-false _ (c .if1 .left)) .long)
 
--- src/sound.rt:235:9
 new-place-requires : tie.Need-new-place-requires
-new-place-requires c κs = omega (arith, header-holds _ (λ i. c .before .before .before .shared-slice-known .given i .fits) (sym (c .before .before .header-sound .ensures) ∙ not-false _ (c .before .if1 .left)) .ranksHigh, c .ranks .ensures)
+new-place-requires c κs =
+    let shared-slice-known = c .before .before .before .shared-slice-known in
+    let header-sound = c .before .before .header-sound in
+    let if1 = c .before .if1 in
+    omega (arith, header-holds _ (λ i. shared-slice-known .given i .fits) (sym (header-sound .ensures) ∙ not-false _ (if1 .left)) .ranksHigh, c .ranks .ensures)
 
--- src/sound.rt:236:9
 words-place-requires : tie.Need-words-place-requires
-words-place-requires c κs = omega (arith, header-holds _ (λ i. c .before .before .before .before .shared-slice-known .given i .fits) (sym (c .before .before .before .header-sound .ensures) ∙ not-false _ (c .before .before .if1 .left)) .ranksHigh, c .before .ranks .ensures)
+words-place-requires c κs =
+    let shared-slice-known = c .before .before .before .before .shared-slice-known in
+    let header-sound = c .before .before .before .header-sound in
+    let if1 = c .before .before .if1 in
+    let ranks = c .before .ranks in
+    omega (arith, header-holds _ (λ i. shared-slice-known .given i .fits) (sym (header-sound .ensures) ∙ not-false _ (if1 .left)) .ranksHigh, ranks .ensures)
 
--- src/sound.rt:237:15
 sub-old : tie.Need-sub-old
 sub-old c = search needs
 
--- src/sound.rt:237:15
 part-old-start : tie.Need-part-old-start
 part-old-start c = search needs
 
--- src/sound.rt:237:15
 part-old-end : tie.Need-part-old-end
-part-old-end c = omega (arith, header-holds _ (λ i. c .before .before .before .before .before .shared-slice-known .given i .fits) (sym (c .before .before .before .before .header-sound .ensures) ∙ not-false _ (c .before .before .before .if1 .left)) .long, c .before .before .ranks .ensures, c .before .new-place .ensures .1)
+part-old-end c =
+    let shared-slice-known = c .before .before .before .before .before .shared-slice-known in
+    let header-sound = c .before .before .before .before .header-sound in
+    let if1 = c .before .before .before .if1 in
+    let ranks = c .before .before .ranks in
+    let new-place = c .before .new-place in
+    omega (arith, header-holds _ (λ i. shared-slice-known .given i .fits) (sym (header-sound .ensures) ∙ not-false _ (if1 .left)) .long, ranks .ensures, new-place .ensures .1)
 
--- src/sound.rt:238:15
 sub-new : tie.Need-sub-new
 sub-new c = search needs
 
--- src/sound.rt:238:15
 part-new-start : tie.Need-part-new-start
 part-new-start c = search needs
 
--- src/sound.rt:238:15
 part-new-end : tie.Need-part-new-end
-part-new-end c = omega (arith, header-holds _ (λ i. c .before .before .before .before .before .before .shared-slice-known .given i .fits) (sym (c .before .before .before .before .before .header-sound .ensures) ∙ not-false _ (c .before .before .before .before .if1 .left)) .long, c .before .before .before .ranks .ensures, c .before .words-place .ensures .1)
+part-new-end c =
+    let shared-slice-known = c .before .before .before .before .before .before .shared-slice-known in
+    let header-sound = c .before .before .before .before .before .header-sound in
+    let if1 = c .before .before .before .before .if1 in
+    let ranks = c .before .before .before .ranks in
+    let words-place = c .before .words-place in
+    omega (arith, header-holds _ (λ i. shared-slice-known .given i .fits) (sym (header-sound .ensures) ∙ not-false _ (if1 .left)) .long, ranks .ensures, words-place .ensures .1)
 
--- src/sound.rt:239:10
 bits-sound-requires : tie.Need-bits-sound-requires
-bits-sound-requires c κs = tabled _ (c .before .before .before .before .ranks .ensures) (c .before .before .before .new-place .ensures .0) (c .before .before .words-place .ensures .0) (header-holds _ (λ i. c .before .before .before .before .before .before .before .shared-slice-known .given i .fits) (sym (c .before .before .before .before .before .before .header-sound .ensures) ∙ not-false _ (c .before .before .before .before .before .if1 .left)))
+bits-sound-requires c κs =
+    let ranks = c .before .before .before .before .ranks in
+    let new-place = c .before .before .before .new-place in
+    let words-place = c .before .before .words-place in
+    let shared-slice-known = c .before .before .before .before .before .before .before .shared-slice-known in
+    let header-sound = c .before .before .before .before .before .before .header-sound in
+    let if1 = c .before .before .before .before .before .if1 in
+    tabled _ (ranks .ensures) (new-place .ensures .0) (words-place .ensures .0) (header-holds _ (λ i. shared-slice-known .given i .fits) (sym (header-sound .ensures) ∙ not-false _ (if1 .left)))
 
--- src/sound.rt:239:39
 ranges-sound-requires : tie.Need-ranges-sound-requires
-ranges-sound-requires c κs = tabled _ (c .before .before .before .before .before .ranks .ensures) (c .before .before .before .before .new-place .ensures .0) (c .before .before .before .words-place .ensures .0) (header-holds _ (λ i. c .before .before .before .before .before .before .before .before .shared-slice-known .given i .fits) (sym (c .before .before .before .before .before .before .before .header-sound .ensures) ∙ not-false _ (c .before .before .before .before .before .before .if1 .left)))
+ranges-sound-requires c κs =
+    let ranks = c .before .before .before .before .before .ranks in
+    let new-place = c .before .before .before .before .new-place in
+    let words-place = c .before .before .before .words-place in
+    let shared-slice-known = c .before .before .before .before .before .before .before .before .shared-slice-known in
+    let header-sound = c .before .before .before .before .before .before .before .header-sound in
+    let if1 = c .before .before .before .before .before .before .if1 in
+    tabled _ (ranks .ensures) (new-place .ensures .0) (words-place .ensures .0) (header-holds _ (λ i. shared-slice-known .given i .fits) (sym (header-sound .ensures) ∙ not-false _ (if1 .left)))
 
--- src/sound.rt:240:9
 returns-2 : tie.Need-returns-2
-returns-2 c = area-fails _ (sym (c .before .before .before .before .before .before .before .before .before .header-sound .ensures) ∙ not-false _ (c .before .before .before .before .before .before .before .before .if1 .left)) (c .before .before .bits-sound .ensures) (c .before .ranges-sound .ensures) (not-true _ (c .if2 .taken))
+returns-2 c =
+    let header-sound = c .before .before .before .before .before .before .before .before .before .header-sound in
+    let if1 = c .before .before .before .before .before .before .before .before .if1 in
+    let bits-sound = c .before .before .bits-sound in
+    let ranges-sound = c .before .ranges-sound in
+    area-fails _ (sym (header-sound .ensures) ∙ not-false _ (if1 .left)) (bits-sound .ensures) (ranges-sound .ensures) (not-true _ (c .if2 .taken))
 
--- src/sound.rt:242:5
 ghosts-sound-requires : tie.Need-ghosts-sound-requires
-ghosts-sound-requires c κs = (tabled _ (c .before .before .before .before .before .before .before .ranks .ensures) (c .before .before .before .before .before .before .new-place .ensures .0) (c .before .before .before .before .before .words-place .ensures .0) (header-holds _ (λ i. c .before .before .before .before .before .before .before .before .before .before .shared-slice-known .given i .fits) (sym (c .before .before .before .before .before .before .before .before .before .header-sound .ensures) ∙ not-false _ (c .before .before .before .before .before .before .before .before .if1 .left))), area-fits _ (sym (c .before .before .before .before .before .before .before .before .before .header-sound .ensures) ∙ not-false _ (c .before .before .before .before .before .before .before .before .if1 .left)) (c .before .before .bits-sound .ensures) (c .before .ranges-sound .ensures) (not-false _ (c .if2 .left)))
+ghosts-sound-requires c κs =
+    let ranks = c .before .before .before .before .before .before .before .ranks in
+    let new-place = c .before .before .before .before .before .before .new-place in
+    let words-place = c .before .before .before .before .before .words-place in
+    let shared-slice-known = c .before .before .before .before .before .before .before .before .before .before .shared-slice-known in
+    let header-sound = c .before .before .before .before .before .before .before .before .before .header-sound in
+    let if1 = c .before .before .before .before .before .before .before .before .if1 in
+    let bits-sound = c .before .before .bits-sound in
+    let ranges-sound = c .before .ranges-sound in
+    (tabled _ (ranks .ensures) (new-place .ensures .0) (words-place .ensures .0) (header-holds _ (λ i. shared-slice-known .given i .fits) (sym (header-sound .ensures) ∙ not-false _ (if1 .left))), area-fits _ (sym (header-sound .ensures) ∙ not-false _ (if1 .left)) (bits-sound .ensures) (ranges-sound .ensures) (not-false _ (c .if2 .left)))
 
--- src/sound.rt:228:1
 returns-3 : tie.Need-returns-3
-returns-3 c = area-read _ (sym (c .before .before .before .before .before .before .before .before .before .before .header-sound .ensures) ∙ not-false _ (c .before .before .before .before .before .before .before .before .before .if1 .left)) (c .before .before .before .bits-sound .ensures) (c .before .before .ranges-sound .ensures) (not-false _ (c .before .if2 .left)) (c .ghosts-sound .ensures)
+returns-3 c =
+    let header-sound = c .before .before .before .before .before .before .before .before .before .before .header-sound in
+    let if1 = c .before .before .before .before .before .before .before .before .before .if1 in
+    let bits-sound = c .before .before .before .bits-sound in
+    let ranges-sound = c .before .before .ranges-sound in
+    let if2 = c .before .if2 in
+    area-read _ (sym (header-sound .ensures) ∙ not-false _ (if1 .left)) (bits-sound .ensures) (ranges-sound .ensures) (not-false _ (if2 .left)) (c .ghosts-sound .ensures)
 
 pub area-sound-spec : {M : Type 1} → statement M
 area-sound-spec =

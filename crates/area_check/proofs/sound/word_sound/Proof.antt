@@ -18,64 +18,49 @@ Inv-loop area old new w at b₀ b = (b ≤ 64) × (allBelow b (λ i. bitSound ar
 abbrev μ-loop : tie.MeasureT-loop
 μ-loop area old new w at b₀ b = 64 - b
 
--- src/sound.rt:52:26
 ranks-requires : tie.Need-ranks-requires Inv-loop μ-loop
 ranks-requires c κs = search needs
 
--- src/sound.rt:52:14
 words-place-requires : tie.Need-words-place-requires Inv-loop μ-loop
 words-place-requires c κs = search needs
 
--- src/sound.rt:52:41
 mul-at : tie.Need-mul-at Inv-loop μ-loop
 mul-at c = search needs
 
--- src/sound.rt:52:14
 add-at : tie.Need-add-at Inv-loop μ-loop
 add-at c = search needs
 
--- src/sound.rt:53:8
 read-u64-requires : tie.Need-read-u64-requires Inv-loop μ-loop
 read-u64-requires c κs = search needs
 
--- src/sound.rt:54:9
 returns : tie.Need-returns Inv-loop μ-loop
 returns c = word-none _ _ (c .before .before .before .ranks .ensures) (c .before .before .words-place .ensures .0) (c .before .read-u64 .ensures) (c .if1 .taken)
 
--- src/sound.rt:57:5
 loop-holds : tie.Need-loop-holds Inv-loop μ-loop
 unfolding allBelow
 loop-holds c = search needs
 
--- src/sound.rt:58:39
 mul-bit-sound : tie.Need-mul-bit-sound Inv-loop μ-loop
 mul-bit-sound c = omega (arith, word-below _ _ (c .before .before .before .before .before .before .before .before .before .pre .1))
 
--- src/sound.rt:58:39
 add-bit-sound : tie.Need-add-bit-sound Inv-loop μ-loop
 add-bit-sound c = omega (arith, word-below _ _ (c .before .before .before .before .before .before .before .before .before .pre .1), c .loop-test .taken)
 
--- src/sound.rt:58:13
 bit-sound-requires : tie.Need-bit-sound-requires Inv-loop μ-loop
 bit-sound-requires c κs = search needs
 
--- src/sound.rt:59:13
 returns-2 : tie.Need-returns-2 Inv-loop μ-loop
 returns-2 c = word-fail _ _ _ (c .before .before .loop-test .taken) (c .before .bit-sound .ensures) (not-true _ (c .if2 .taken))
 
--- src/sound.rt:61:9
 add-b : tie.Need-add-b Inv-loop μ-loop
 add-b c = search needs
 
--- src/sound.rt:57:5
 loop-less : tie.Need-loop-less Inv-loop μ-loop
 loop-less c = search needs
 
--- src/sound.rt:57:5
 loop-again : tie.Need-loop-again Inv-loop μ-loop
 loop-again c = (omega arith, all-more _ _ (c .before .before .before .loop .inv .1) (sym (c .before .bit-sound .ensures) ∙ not-false _ (c .if2 .left)))
 
--- src/sound.rt:48:1
 returns-3 : tie.Need-returns-3 Inv-loop μ-loop
 returns-3 c = word-pass _ _ (c .before .loop .inv .0) (c .loop-test .left) (c .before .loop .inv .1)
 

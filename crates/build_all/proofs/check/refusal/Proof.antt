@@ -4,39 +4,54 @@ use borrow.Author.Tests.{not-true, not-false}
 use borrow.Author.Needs.{needs}
 use Rattle.build_all.proofs.check.refusal.Statement.{statement}
 use Rattle.build_all.proofs.check.refusal.Tie as tie
-use Rattle.build_all.proofs.check.refusal.Reads as reads
-use Rattle.build_all.proofs.check.refusal.Lts as lts
-use Rattle.offsets.proofs.table.ranks.Reads as ranks-reads
-use Rattle.part_check.proofs.sound.part_sound.Reads as part-sound-reads
-use Rattle.pattern.proofs.tables.tables_refusal.Reads as tables-refusal-reads
 
--- src/check.rt:10:9
 tables-refusal-requires : tie.Need-tables-refusal-requires
 tables-refusal-requires c κs = search needs
 
--- src/check.rt:12:9
 returns : tie.Need-returns
 returns c = fails-tables _ _ _ _ (c .before .tables-refusal .ensures) (c .if1 .taken)
 
--- src/check.rt:14:8
 ranks-requires : tie.Need-ranks-requires
-ranks-requires c κs = old-ranks _ _ _ (c .before .tables-refusal .ensures) (λ i. c .before .before .before .shared-slice-known2 .given i .fits) (λ i. c .before .before .shared-slice-known3 .given i .fits) (c .if1 .left)
+ranks-requires c κs =
+    let tables-refusal = c .before .tables-refusal in
+    let shared-slice-known2 = c .before .before .before .shared-slice-known2 in
+    let shared-slice-known3 = c .before .before .shared-slice-known3 in
+    old-ranks _ _ _ (tables-refusal .ensures) (λ i. shared-slice-known2 .given i .fits) (λ i. shared-slice-known3 .given i .fits) (c .if1 .left)
 
--- src/check.rt:15:9
 returns-2 : tie.Need-returns-2
-returns-2 c = fails-sender _ _ _ _ (c .before .before .before .tables-refusal .ensures) (c .before .before .if1 .left) (c .before .ranks .ensures .0) (c .if2 .taken)
+returns-2 c =
+    let tables-refusal = c .before .before .before .tables-refusal in
+    let if1 = c .before .before .if1 in
+    let ranks = c .before .ranks in
+    fails-sender _ _ _ _ (tables-refusal .ensures) (if1 .left) (ranks .ensures .0) (c .if2 .taken)
 
--- src/check.rt:17:9
 part-sound-requires : tie.Need-part-sound-requires
-part-sound-requires c κs = rank-known (c .before .before .before .before .before .before .before .args .part .now) _ _ _ (c .before .before .before .tables-refusal .ensures) (c .before .before .if1 .left) (c .before .ranks .ensures .0) (c .if2 .left) (λ i. c .before .before .before .before .before .shared-slice-known2 .given i .fits) (λ i. c .before .before .before .before .shared-slice-known3 .given i .fits)
+part-sound-requires c κs =
+    let args = c .before .before .before .before .before .before .before .args in
+    let tables-refusal = c .before .before .before .tables-refusal in
+    let if1 = c .before .before .if1 in
+    let ranks = c .before .ranks in
+    let shared-slice-known2 = c .before .before .before .before .before .shared-slice-known2 in
+    let shared-slice-known3 = c .before .before .before .before .shared-slice-known3 in
+    rank-known (args .part .now) _ _ _ (tables-refusal .ensures) (if1 .left) (ranks .ensures .0) (c .if2 .left) (λ i. shared-slice-known2 .given i .fits) (λ i. shared-slice-known3 .given i .fits)
 
--- src/check.rt:18:9
 returns-3 : tie.Need-returns-3
-returns-3 c = fails-part _ _ _ _ (c .before .before .before .before .before .tables-refusal .ensures) (c .before .before .before .before .if1 .left) (c .before .before .before .ranks .ensures .0) (c .before .before .if2 .left) (c .before .part-sound .ensures) (not-true _ (c .if3 .taken))
+returns-3 c =
+    let tables-refusal = c .before .before .before .before .before .tables-refusal in
+    let if1 = c .before .before .before .before .if1 in
+    let ranks = c .before .before .before .ranks in
+    let if2 = c .before .before .if2 in
+    let part-sound = c .before .part-sound in
+    fails-part _ _ _ _ (tables-refusal .ensures) (if1 .left) (ranks .ensures .0) (if2 .left) (part-sound .ensures) (not-true _ (c .if3 .taken))
 
--- src/check.rt:7:1
 returns-4 : tie.Need-returns-4
-returns-4 c = none-fails _ _ _ _ (c .before .before .before .before .before .tables-refusal .ensures) (c .before .before .before .before .if1 .left) (c .before .before .before .ranks .ensures .0) (c .before .before .if2 .left) (c .before .part-sound .ensures) (not-false _ (c .if3 .left))
+returns-4 c =
+    let tables-refusal = c .before .before .before .before .before .tables-refusal in
+    let if1 = c .before .before .before .before .if1 in
+    let ranks = c .before .before .before .ranks in
+    let if2 = c .before .before .if2 in
+    let part-sound = c .before .part-sound in
+    none-fails _ _ _ _ (tables-refusal .ensures) (if1 .left) (ranks .ensures .0) (if2 .left) (part-sound .ensures) (not-false _ (c .if3 .left))
 
 pub refusal-spec : {M : Type 1} → statement M
 refusal-spec =

@@ -6,12 +6,6 @@ use Prim.Native.Nat.{_-_, _≤_}
 use borrow.Author.Needs.{needs}
 use Rattle.build_all.proofs.each.write_messages.Statement.{statement}
 use Rattle.build_all.proofs.each.write_messages.Tie as tie
-use Rattle.build_all.proofs.each.write_messages.Reads as reads
-use Rattle.build_all.proofs.each.write_messages.Lts as lts
-use Rattle.build_all.proofs.each.write_to.Reads as write-to-reads
-use Rattle.offsets.proofs.table.ranks.Reads as ranks-reads
-use Rattle.pattern.proofs.range.lower_rank.Reads as lower-rank-reads
-use Rattle.pattern.proofs.range.upper_rank.Reads as upper-rank-reads
 
 abbrev Inv-loop : tie.InvT-loop
 Inv-loop part old new p epoch marks₀ out₀ ranks lower upper at₀ q₀ marks out at q = (q ≤ ranks) × ((length marks ≡ length marks₀) × Writing part old new p epoch out₀ out at q)
@@ -19,69 +13,82 @@ Inv-loop part old new p epoch marks₀ out₀ ranks lower upper at₀ q₀ marks
 abbrev μ-loop : tie.MeasureT-loop
 μ-loop part old new p epoch marks₀ out₀ ranks lower upper at₀ q₀ marks out at q = ranks - q
 
--- src/each.rt:98:17
 ranks-requires : tie.Need-ranks-requires Inv-loop μ-loop
 ranks-requires c κs = search needs
 
--- src/each.rt:98:17
 cast-ranks : tie.Need-cast-ranks Inv-loop μ-loop
 cast-ranks c = search needs
 
--- src/each.rt:99:9
 lower-rank-requires : tie.Need-lower-rank-requires Inv-loop μ-loop
 lower-rank-requires c κs = search needs
 
--- src/each.rt:100:9
 upper-rank-requires : tie.Need-upper-rank-requires Inv-loop μ-loop
 upper-rank-requires c κs = search needs
 
--- src/each.rt:103:5
 loop-holds : tie.Need-loop-holds Inv-loop μ-loop
 loop-holds c = (omega arith, (refl, write-start _ _ _ _ _ _))
 
--- src/each.rt:114:13
 sub-write-to : tie.Need-sub-write-to Inv-loop μ-loop
-sub-write-to c = omega (arith, write-room (c .before .before .before .before .before .before .before .before .before .before .before .args .part .now) (c .before .before .before .before .before .before .before .before .before .before .before .args .old .now) (c .before .before .before .before .before .before .before .before .before .before .before .args .new .now) (c .before .before .before .before .before .before .before .before .before .before .before .args .p) (c .before .before .before .before .before .before .before .before .before .before .before .args .epoch) (c .before .before .before .before .before .before .before .before .before .before .before .args .out .now) (c .before .before .loop .inv .1 .1) (c .before .loop-test .taken) (c .before .before .before .before .before .ranks .ensures .0) (c .before .before .before .before .before .before .before .before .before .before .before .pre .1))
+sub-write-to c =
+    let args = c .before .before .before .before .before .before .before .before .before .before .before .args in
+    let loop = c .before .before .loop in
+    let loop-test = c .before .loop-test in
+    let ranks = c .before .before .before .before .before .ranks in
+    let pre = c .before .before .before .before .before .before .before .before .before .before .before .pre in
+    omega (arith, write-room (args .part .now) (args .old .now) (args .new .now) (args .p) (args .epoch) (args .out .now) (loop .inv .1 .1) (loop-test .taken) (ranks .ensures .0) (pre .1))
 
--- src/each.rt:114:13
 part-write-to-start : tie.Need-part-write-to-start Inv-loop μ-loop
-part-write-to-start c = omega (arith, write-room (c .before .before .before .before .before .before .before .before .before .before .before .args .part .now) (c .before .before .before .before .before .before .before .before .before .before .before .args .old .now) (c .before .before .before .before .before .before .before .before .before .before .before .args .new .now) (c .before .before .before .before .before .before .before .before .before .before .before .args .p) (c .before .before .before .before .before .before .before .before .before .before .before .args .epoch) (c .before .before .before .before .before .before .before .before .before .before .before .args .out .now) (c .before .before .loop .inv .1 .1) (c .before .loop-test .taken) (c .before .before .before .before .before .ranks .ensures .0) (c .before .before .before .before .before .before .before .before .before .before .before .pre .1))
+part-write-to-start c =
+    let args = c .before .before .before .before .before .before .before .before .before .before .before .args in
+    let loop = c .before .before .loop in
+    let loop-test = c .before .loop-test in
+    let ranks = c .before .before .before .before .before .ranks in
+    let pre = c .before .before .before .before .before .before .before .before .before .before .before .pre in
+    omega (arith, write-room (args .part .now) (args .old .now) (args .new .now) (args .p) (args .epoch) (args .out .now) (loop .inv .1 .1) (loop-test .taken) (ranks .ensures .0) (pre .1))
 
--- src/each.rt:114:13
 part-write-to-end : tie.Need-part-write-to-end Inv-loop μ-loop
 part-write-to-end c = search needs
 
--- src/each.rt:104:15
 write-to-requires : tie.Need-write-to-requires Inv-loop μ-loop
-write-to-requires c κs = (to-next (c .before .before .before .before .before .before .before .before .before .before .before .before .pre .0) (c .before .before .before .loop .inv .1 .0) (c .before .before .before .before .before .before .ranks .ensures .0) (c .before .before .loop-test .taken) (c .before .before .before .before .before .lower-rank .ensures .0) (c .before .before .before .before .upper-rank .ensures .0), rest-room _ _ _ _ _ _ (c .before .before .before .loop .inv .1 .1) (c .before .before .loop-test .taken) (c .before .before .before .before .before .before .ranks .ensures .0) (c .before .before .before .before .before .before .before .before .before .before .before .before .pre .1))
+write-to-requires c κs =
+    let pre = c .before .before .before .before .before .before .before .before .before .before .before .before .pre in
+    let loop = c .before .before .before .loop in
+    let ranks = c .before .before .before .before .before .before .ranks in
+    let loop-test = c .before .before .loop-test in
+    let lower-rank = c .before .before .before .before .before .lower-rank in
+    let upper-rank = c .before .before .before .before .upper-rank in
+    (to-next (pre .0) (loop .inv .1 .0) (ranks .ensures .0) (loop-test .taken) (lower-rank .ensures .0) (upper-rank .ensures .0), rest-room _ _ _ _ _ _ (loop .inv .1 .1) (loop-test .taken) (ranks .ensures .0) (pre .1))
 
--- src/each.rt:104:9
 add-at : tie.Need-add-at Inv-loop μ-loop
 add-at c = omega (arith, write-room (c .before .before .before .before .before .before .before .before .before .before .before .before .before .before .before .before .before .args .part .now) (c .before .before .before .before .before .before .before .before .before .before .before .before .before .before .before .before .before .args .old .now) (c .before .before .before .before .before .before .before .before .before .before .before .before .before .before .before .before .before .args .new .now) (c .before .before .before .before .before .before .before .before .before .before .before .before .before .before .before .before .before .args .p) (c .before .before .before .before .before .before .before .before .before .before .before .before .before .before .before .before .before .args .epoch) (c .before .before .before .before .before .before .before .before .before .before .before .before .before .before .before .before .before .args .out .now) (c .before .before .before .before .before .before .before .before .loop .inv .1 .1) (c .before .before .before .before .before .before .before .loop-test .taken) (c .before .before .before .before .before .before .before .before .before .before .before .ranks .ensures .0) (c .before .before .before .before .before .before .before .before .before .before .before .before .before .before .before .before .before .pre .1), c .before .before .before .before .write-to .ensures .0)
 
--- src/each.rt:116:9
 add-q : tie.Need-add-q Inv-loop μ-loop
 add-q c = omega (arith, c .before .before .before .before .before .before .before .loop-test .taken)
 
--- src/each.rt:103:5
 loop-less : tie.Need-loop-less Inv-loop μ-loop
 loop-less c = omega (arith, c .before .before .before .before .before .before .before .loop-test .taken)
 
--- src/each.rt:103:5
 loop-again : tie.Need-loop-again Inv-loop μ-loop
-loop-again c = (omega (arith, c .before .before .before .before .before .before .before .loop-test .taken), (c .before .before .before .marks .given ∙ c .before .before .before .before .before .before .before .before .loop .inv .1 .0, write-next _ _ _ _ _ _ (c .before .before .before .before .before .before .before .before .loop .inv .1 .1) (c .before .before .before .before .before .before .before .loop-test .taken) (c .before .before .before .before .before .before .before .before .before .before .before .ranks .ensures .0) (c .before .before .before .before .before .before .before .before .before .before .before .before .before .before .before .before .before .pre .1) (c .before .before .before .before .write-to .ensures .0) (put-written _ _ _ _ _ _ (c .before .before .before .before .before .before .before .before .loop .inv .1 .1) (c .before .before .before .before .before .before .before .loop-test .taken) (c .before .before .before .before .before .before .before .before .before .before .before .ranks .ensures .0) (c .before .before .before .before .before .before .before .before .before .before .before .before .before .before .before .before .before .pre .1) (c .before .before .before .before .write-to .ensures .1))))
+loop-again c =
+    let loop-test = c .before .before .before .before .before .before .before .loop-test in
+    let marks = c .before .before .before .marks in
+    let loop = c .before .before .before .before .before .before .before .before .loop in
+    let ranks = c .before .before .before .before .before .before .before .before .before .before .before .ranks in
+    let pre = c .before .before .before .before .before .before .before .before .before .before .before .before .before .before .before .before .before .pre in
+    let write-to = c .before .before .before .before .write-to in
+    (omega (arith, loop-test .taken), (marks .given ∙ loop .inv .1 .0, write-next _ _ _ _ _ _ (loop .inv .1 .1) (loop-test .taken) (ranks .ensures .0) (pre .1) (write-to .ensures .0) (put-written _ _ _ _ _ _ (loop .inv .1 .1) (loop-test .taken) (ranks .ensures .0) (pre .1) (write-to .ensures .1))))
 
--- src/each.rt:86:1
 same-length : tie.Need-same-length Inv-loop μ-loop
 same-length c = c .before .loop .inv .1 .0
 
--- src/each.rt:86:1
 same-length-2 : tie.Need-same-length-2 Inv-loop μ-loop
 same-length-2 c = c .before .loop .inv .1 .1 .same-length
 
--- src/each.rt:86:1
 returns : tie.Need-returns Inv-loop μ-loop
-returns c = write-done _ _ _ _ _ _ (c .before .loop .inv .1 .1) (c .before .loop .inv .0) (c .loop-test .left) (c .before .before .before .before .ranks .ensures .0)
+returns c =
+    let loop = c .before .loop in
+    let ranks = c .before .before .before .before .ranks in
+    write-done _ _ _ _ _ _ (loop .inv .1 .1) (loop .inv .0) (c .loop-test .left) (ranks .ensures .0)
 
 pub write-messages-spec : {M : Type 1} → statement M
 write-messages-spec =

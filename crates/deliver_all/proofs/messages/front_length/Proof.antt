@@ -3,33 +3,22 @@ use Rattle.deliver_all.proofs.Parting.{front-rest, front-short, front-w
 use borrow.Author.Needs.{needs}
 use Rattle.deliver_all.proofs.messages.front_length.Statement.{statement}
 use Rattle.deliver_all.proofs.messages.front_length.Tie as tie
-use Rattle.deliver_all.proofs.messages.front_length.Reads as reads
-use Rattle.deliver_all.proofs.messages.front_length.Lts as lts
-use Rattle.message.proofs.header.ghost_count.Reads as ghost-count-reads
-use Rattle.message.proofs.header.tree_count.Reads as tree-count-reads
-use Rattle.message.proofs.layout.ghost_at.Reads as ghost-at-reads
 
--- src/messages.rt:14:9
 returns : tie.Need-returns
 returns c = (front-rest _ (c .if1 .taken), omega arith)
 
--- src/messages.rt:16:9
 tree-count-requires : tie.Need-tree-count-requires
 tree-count-requires c κs = search needs
 
--- src/messages.rt:17:9
 ghost-count-requires : tie.Need-ghost-count-requires
 ghost-count-requires c κs = search needs
 
--- src/messages.rt:18:9
 ghost-at-requires : tie.Need-ghost-at-requires
 ghost-at-requires c κs = search needs
 
--- src/messages.rt:20:9
 returns-2 : tie.Need-returns-2
 returns-2 c = (front-short _ (c .before .before .before .before .if1 .left) (c .before .before .before .tree-count .ensures) (c .before .before .ghost-count .ensures) (c .before .ghost-at .ensures) (c .if2 .taken), omega arith)
 
--- src/messages.rt:9:1
 returns-3 : tie.Need-returns-3
 returns-3 c = (front-whole _ (c .before .before .before .before .if1 .left) (c .before .before .before .tree-count .ensures) (c .before .before .ghost-count .ensures) (c .before .ghost-at .ensures) (c .if2 .left), omega arith)
 

@@ -21,14 +21,27 @@ write-eight-requires c κs = header-room _ _ _ _ _ _ _ _ _ _ _ (c .before .befor
 
 write-records-requires : tie.Need-write-records-requires
 unfolding messageHeaderBytes
-write-records-requires c κs = records-room _ _ _ _ _ _ _ _ _ _ _ (c .before .before .before .before .before .before .before .before .before .before .before .before .before .pre) (c .before .before .before .before .before .before .before .dimension .ensures) (c .before .before .before .before .before .before .trees .ensures) (c .before .before .before .before .before .ranks .ensures .0) (c .before .before .before .write-eight .ensures)
+write-records-requires c κs =
+    let pre = c .before .before .before .before .before .before .before .before .before .before .before .before .before .pre in
+    let dimension = c .before .before .before .before .before .before .before .dimension in
+    let trees = c .before .before .before .before .before .before .trees in
+    let ranks = c .before .before .before .before .before .ranks in
+    let write-eight = c .before .before .before .write-eight in
+    records-room _ _ _ _ _ _ _ _ _ _ _ pre (dimension .ensures) (trees .ensures) (ranks .ensures .0) (write-eight .ensures)
 
 same-length : tie.Need-same-length
 same-length c = search needs
 
 returns : tie.Need-returns
 unfolding messageHeaderBytes
-returns c = message-written _ _ _ _ _ _ _ _ _ _ _ (c .before .before .before .before .before .before .before .before .before .before .before .before .before .before .before .before .pre) (c .before .before .before .before .before .before .before .before .before .before .dimension .ensures) (c .before .before .before .before .before .before .before .before .before .trees .ensures) (c .before .before .before .before .before .before .before .before .ranks .ensures .0) (c .before .before .before .before .before .before .write-eight .ensures) (c .before .before .write-records .ensures)
+returns c =
+    let pre = c .before .before .before .before .before .before .before .before .before .before .before .before .before .before .before .before .pre in
+    let dimension = c .before .before .before .before .before .before .before .before .before .before .dimension in
+    let trees = c .before .before .before .before .before .before .before .before .before .trees in
+    let ranks = c .before .before .before .before .before .before .before .before .ranks in
+    let write-eight = c .before .before .before .before .before .before .write-eight in
+    let write-records = c .before .before .write-records in
+    message-written _ _ _ _ _ _ _ _ _ _ _ pre (dimension .ensures) (trees .ensures) (ranks .ensures .0) (write-eight .ensures) (write-records .ensures)
 
 pub write-message-spec : {M : Type 1} → statement M
 write-message-spec =

@@ -5,8 +5,6 @@ use Prim.Native.Nat.{_-_, _≤_}
 use borrow.Author.Needs.{needs}
 use Rattle.message_ghosts.proofs.marks.clear.Statement.{statement}
 use Rattle.message_ghosts.proofs.marks.clear.Tie as tie
-use Rattle.message_ghosts.proofs.marks.clear.Reads as reads
-use Rattle.message_ghosts.proofs.marks.clear.Lts as lts
 
 abbrev Inv-loop : tie.InvT-loop
 Inv-loop marks₀ i₀ marks i = Clearing marks₀ marks i
@@ -14,35 +12,27 @@ Inv-loop marks₀ i₀ marks i = Clearing marks₀ marks i
 abbrev μ-loop : tie.MeasureT-loop
 μ-loop marks₀ i₀ marks i = length marks₀ - i
 
--- src/marks.rt:92:5
 loop-holds : tie.Need-loop-holds Inv-loop μ-loop
 loop-holds c = clear-start _
 
--- src/marks.rt:93:9
 mul-marks : tie.Need-mul-marks Inv-loop μ-loop
 mul-marks c = search needs
 
--- src/marks.rt:93:9
 slice-write-marks : tie.Need-slice-write-marks Inv-loop μ-loop
 slice-write-marks c = omega (arith, c .before .loop .inv .same-length)
 
--- src/marks.rt:94:9
 add-i : tie.Need-add-i Inv-loop μ-loop
 add-i c = omega (arith, c .before .loop .inv .same-length)
 
--- src/marks.rt:92:5
 loop-less : tie.Need-loop-less Inv-loop μ-loop
 loop-less c = omega (arith, c .before .loop .inv .same-length)
 
--- src/marks.rt:92:5
 loop-again : tie.Need-loop-again Inv-loop μ-loop
 loop-again c = clear-more (c .before .loop .inv) (omega (arith, c .before .loop .inv .same-length))
 
--- src/marks.rt:88:1
 same-length : tie.Need-same-length Inv-loop μ-loop
 same-length c = c .before .loop .inv .same-length
 
--- src/marks.rt:88:1
 returns : tie.Need-returns Inv-loop μ-loop
 returns c = clear-done (c .before .loop .inv) (omega (arith, c .before .loop .inv .same-length))
 

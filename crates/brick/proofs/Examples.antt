@@ -2,11 +2,11 @@
 use Prim.Native.Nat.{ℕ}
 use mathlib.Core.Path.{_≡_, refl}
 use mathlib.Core.Bool.{true, false}
-use Rattle.mesh_build.specs.Build.{Link}
+use Rattle.mesh_build.specs.Build.{NewLink}
 use Rattle.brick.specs.Brick.{placeOf, treeAt, axisOf, isHigh, opposite, stepAcross, linkByStep, brickLink}
 
 -- face g of tree n, with orientation 0
-abbrev to : ℕ → ℕ → Link
+abbrev to : ℕ → ℕ → NewLink
 to n g = record { neighbour = n; face = g; orientation = 0 }
 
 -- on a periodic axis of extent 1 a tree is its own neighbour across two faces, and no boundary; on one of extent 2 the two trees meet twice

@@ -4,7 +4,7 @@ use mathlib.Core.Bool.{Bool, false, cond}
 use mathlib.Core.List.{List, [], _∷_}
 use lib.Dec.{eqb}
 use lib.ListN.{getD, set}
-use Rattle.mesh_build.specs.Build.{Link, builtMesh}
+use Rattle.mesh_build.specs.Build.{NewLink, builtMesh}
 
 -- the shape of a hexahedron
 abbrev pub hexahedron : ℕ
@@ -39,14 +39,14 @@ stepAcross high extent periodic x =
     cond (cond high (eqb (x + 1) extent) (eqb x 0)) (cond periodic (tree (cond high 0 (extent - 1))) boundary) (tree (cond high (x + 1) (x - 1)))
 
 -- the link of face f of tree k: the tree's own face at the boundary, else the opposite face; orientation 0 throughout
-unfoldable pub linkByStep : ℕ → ℕ → ℕ → ℕ → Step → Link
+unfoldable pub linkByStep : ℕ → ℕ → ℕ → ℕ → Step → NewLink
 linkByStep a b k f boundary = record { neighbour = k; face = f; orientation = 0 }
 linkByStep a b k f (tree y) = record { neighbour = treeAt a b (set (placeOf a b k) (axisOf f) y); face = opposite f; orientation = 0 }
 
 -- the extents, and whether each axis is periodic
 module _ (a b c : ℕ) (p q r : Bool) where
   -- face f of tree k
-  unfoldable pub brickLink : ℕ → ℕ → Link
+  unfoldable pub brickLink : ℕ → ℕ → NewLink
   brickLink k f =
       linkByStep a b k f (stepAcross (isHigh f) (getD (a ∷ b ∷ c ∷ []) (axisOf f) 0) (getD (p ∷ q ∷ r ∷ []) (axisOf f) false) (getD (placeOf a b k) (axisOf f) 0))
 

@@ -25,26 +25,26 @@ use Rattle.message_ghosts.specs.Means.{SendingRange}
 use Rattle.message_ghosts.proofs.Marking.{room-kept}
 use Rattle.message_build.specs.Means.{Going, MessageRoom}
 use Rattle.message_build.proofs.Answers.{message-room}
-use Rattle.build_all.specs.Messages.{endToEnd, allMessages}
+use Rattle.build_all.specs.Messages.{joinedMessages, allMessages}
 use Rattle.build_all.specs.Means.{messageTo, messagesBelow, BuildFrom, BuildTo}
 
 -- ---- the definition
 
-end-append : (message : ℕ → List ℕ) (xs ys : List ℕ) → endToEnd message (xs ++ ys) ≡ endToEnd message xs ++ endToEnd message ys
-unfolding endToEnd
+end-append : (message : ℕ → List ℕ) (xs ys : List ℕ) → joinedMessages message (xs ++ ys) ≡ joinedMessages message xs ++ joinedMessages message ys
+unfolding joinedMessages
 end-append message [] ys = refl
-end-append message (q ∷ qs) ys = ap (λ (l : List ℕ). message q ++ l) (end-append message qs ys) ∙ sym (append-assoc (message q) (endToEnd message qs) (endToEnd message ys))
+end-append message (q ∷ qs) ys = ap (λ (l : List ℕ). message q ++ l) (end-append message qs ys) ∙ sym (append-assoc (message q) (joinedMessages message qs) (joinedMessages message ys))
 
 module _ (part old new : List ℕ) (p epoch : ℕ) where
   abbrev message : ℕ → List ℕ
   message q = partMessage part old new p q epoch
 
-  one-more : (q : ℕ) → endToEnd message (cond (sendsTo old new p q) (q ∷ []) []) ≡ messageTo part old new p epoch q
-  unfolding endToEnd messageTo
+  one-more : (q : ℕ) → joinedMessages message (cond (sendsTo old new p q) (q ∷ []) []) ≡ messageTo part old new p epoch q
+  unfolding joinedMessages messageTo
   one-more q = either (sendsTo old new p q) (λ t. rw t (append-nil (message q))) (λ t. rw t)
 
-  below-kept : (n : ℕ) → messagesBelow part old new p epoch n ≡ endToEnd message (keptBelow n (sendsTo old new p))
-  unfolding messagesBelow keptBelow endToEnd
+  below-kept : (n : ℕ) → messagesBelow part old new p epoch n ≡ joinedMessages message (keptBelow n (sendsTo old new p))
+  unfolding messagesBelow keptBelow joinedMessages
   below-kept zero = refl
   below-kept (suc n) =
       ap₂ (λ (a b : List ℕ). a ++ b) (below-kept n) (sym (one-more n))

@@ -5,10 +5,10 @@ use Rattle.pattern.specs.Sets.{sendSet}
 use Rattle.message.specs.Build.{partMessage}
 
 -- the messages to the ranks of a list, end to end
-unfoldable pub endToEnd : (ℕ → List ℕ) → List ℕ → List ℕ
-endToEnd message [] = []
-endToEnd message (q ∷ qs) = message q ++ endToEnd message qs
+unfoldable pub joinedMessages : (ℕ → List ℕ) → List ℕ → List ℕ
+joinedMessages message [] = []
+joinedMessages message (q ∷ qs) = message q ++ joinedMessages message qs
 
 -- from p's part to every rank of its send set, ascending by receiver
 unfoldable pub allMessages : List ℕ → List ℕ → List ℕ → ℕ → ℕ → List ℕ
-allMessages part old new p epoch = endToEnd (λ q. partMessage part old new p q epoch) (sendSet old new p)
+allMessages part old new p epoch = joinedMessages (λ q. partMessage part old new p q epoch) (sendSet old new p)

@@ -13,7 +13,7 @@ use borrow.Author.Tests.{ltb-true, eqb-true, eqb-false, eq-eqb, ne-eqb, le-leb, 
 use Rattle.encoding.specs.Below.{allBelow, anyBelow, countBelow}
 use Rattle.encoding.proofs.Below.{tests, either, and-fst, and-snd, count-le, count-more, all-same, all-more, all-fails, all-to, any-not}
 use Rattle.ele_text.specs.Text.{maxTriangles}
-use Rattle.ele_mesh.specs.Faces.{cornerOf, vertexTwice, verticesDiffer, sameSet, threeFaces, latestBelow, meets, partner}
+use Rattle.ele_mesh.specs.Faces.{cornerOf, vertexTwice, verticesDiffer, sameSet, threeFaces, latestBelow, meetsFace, partner}
 use Rattle.ele_mesh.specs.Means.{hashes, hashOf, latestHashed, Whole, Modulus, Chained, Blank, Room, Ready}
 use Rattle.ele_mesh.proofs.Pairs.{same-hash}
 use Rattle.ele_mesh.proofs.Latest.{latest-most, latest-passes, latest-through, count-through, two-count}
@@ -151,15 +151,15 @@ module _ (vs : List ℕ) (m : ℕ) (heads links : List ℕ) (r : Ready vs m head
   pub record Sought (at : ℕ) : Type 0 where
     pub below : at ≤ length vs
     pub hashed : Hashed at
-    pub sought : partner vs f ≡ latestBelow at (meets vs f)
+    pub sought : partner vs f ≡ latestBelow at (meetsFace vs f)
 
-  meets-hashed : (g : ℕ) → meets vs f g ≡ true → eqb (hashOf vs m g) (hashOf vs m f) ≡ true
-  unfolding meets
+  meets-hashed : (g : ℕ) → meetsFace vs f g ≡ true → eqb (hashOf vs m g) (hashOf vs m f) ≡ true
+  unfolding meetsFace
   meets-hashed g e = same-hashed g (and-snd (not (eqb g f)) _ e)
 
-  seek-on : (n : ℕ) {a : ℕ} → a ≡ latestHashed vs m n (hashOf vs m f) → latestBelow n (meets vs f) ≡ latestBelow a (meets vs f)
+  seek-on : (n : ℕ) {a : ℕ} → a ≡ latestHashed vs m n (hashOf vs m f) → latestBelow n (meetsFace vs f) ≡ latestBelow a (meetsFace vs f)
   unfolding latestHashed
-  seek-on n e = latest-through (meets vs f) (λ g. eqb (hashOf vs m g) (hashOf vs m f)) n meets-hashed ∙ ap (λ (k : ℕ). latestBelow k (meets vs f)) (sym e)
+  seek-on n e = latest-through (meetsFace vs f) (λ g. eqb (hashOf vs m g) (hashOf vs m f)) n meets-hashed ∙ ap (λ (k : ℕ). latestBelow k (meetsFace vs f)) (sym e)
 
   pub sought-start : {h : ℕ} → h ≡ hashOf vs m f → h < m → {a : ℕ} → a ≡ getD heads h 0 → Sought a
   unfolding partner
@@ -172,10 +172,10 @@ module _ (vs : List ℕ) (m : ℕ) (heads links : List ℕ) (r : Ready vs m head
     back = omega arith
 
     pub sought-found : (not (eqb (at - 1) f) && b) ≡ true → at ≡ partner vs f
-    unfolding latestBelow meets
+    unfolding latestBelow meetsFace
     sought-found t =
-        let s : latestBelow (suc (at - 1)) (meets vs f) ≡ suc (at - 1) = rw (← eb, t) in
-        back ∙ sym (c .sought ∙ (ap (λ (i : ℕ). latestBelow i (meets vs f)) back ∙ s))
+        let s : latestBelow (suc (at - 1)) (meetsFace vs f) ≡ suc (at - 1) = rw (← eb, t) in
+        back ∙ sym (c .sought ∙ (ap (λ (i : ℕ). latestBelow i (meetsFace vs f)) back ∙ s))
 
     module _ (t : (not (eqb (at - 1) f) && b) ≡ false) {a : ℕ} (ea : a ≡ getD links (at - 1) 0) where
       onward : a ≡ latestHashed vs m (at - 1) (hashOf vs m f)
@@ -185,13 +185,13 @@ module _ (vs : List ℕ) (m : ℕ) (heads links : List ℕ) (r : Ready vs m head
       sought-less = omega (arith, latest-below (at - 1) onward)
 
       pub sought-more : Sought a
-      unfolding latestBelow meets
+      unfolding latestBelow meetsFace
       sought-more =
-          let s : latestBelow (suc (at - 1)) (meets vs f) ≡ latestBelow (at - 1) (meets vs f) = rw (← eb, t) in
+          let s : latestBelow (suc (at - 1)) (meetsFace vs f) ≡ latestBelow (at - 1) (meetsFace vs f) = rw (← eb, t) in
           record {
             below = omega (arith, latest-below (at - 1) onward, c .below);
             hashed = latest-hashed (at - 1) onward;
-            sought = c .sought ∙ (ap (λ (i : ℕ). latestBelow i (meets vs f)) back ∙ (s ∙ seek-on (at - 1) onward));
+            sought = c .sought ∙ (ap (λ (i : ℕ). latestBelow i (meetsFace vs f)) back ∙ (s ∙ seek-on (at - 1) onward));
           }
 
   pub sought-none : {at : ℕ} → Sought at → at ≤ 0 → 0 ≡ partner vs f

@@ -12,9 +12,9 @@ use Rattle.encoding.proofs.Below.{tests, either, clash, and-fst, and-snd, and-i
 use Rattle.offsets.specs.Limits.{treeCountOk}
 use Rattle.records.specs.Shape.{faceCount, cornersOf, corners}
 use Rattle.records.specs.Record.{unused}
-use Rattle.mesh_build.specs.Build.{Link, faceRow, treeRows, LinksFit}
+use Rattle.mesh_build.specs.Build.{NewLink, faceRow, treeRows, LinksFit}
 use Rattle.ele_text.specs.Text.{maxTriangles}
-use Rattle.ele_mesh.specs.Faces.{firstVertex, sameSet, threeFaces, latestBelow, meets, partner, turnOf, faceLink}
+use Rattle.ele_mesh.specs.Faces.{firstVertex, sameSet, threeFaces, latestBelow, meetsFace, partner, turnOf, faceLink}
 use Rattle.ele_mesh.specs.Means.{linkRow, Drawn}
 use Rattle.ele_mesh.proofs.Pairs.{same-turned, same-on, turn-turned}
 use Rattle.ele_mesh.proofs.Latest.{latest-most, latest-passes, latest-least}
@@ -47,37 +47,37 @@ module _ (vs : List ℕ) where
 
 -- ---- partners
 
-pub meets-other : (vs : List ℕ) (f g : ℕ) → meets vs f g ≡ true → g ≡ f → ⊥
-unfolding meets
+pub meets-other : (vs : List ℕ) (f g : ℕ) → meetsFace vs f g ≡ true → g ≡ f → ⊥
+unfolding meetsFace
 meets-other vs f g e = eqb-false g f (not-true (eqb g f) (and-fst (not (eqb g f)) _ e))
 
-pub meets-same : (vs : List ℕ) (f g : ℕ) → meets vs f g ≡ true → sameSet vs f g ≡ true
-unfolding meets
+pub meets-same : (vs : List ℕ) (f g : ℕ) → meetsFace vs f g ≡ true → sameSet vs f g ≡ true
+unfolding meetsFace
 meets-same vs f g e = and-snd (not (eqb g f)) _ e
 
-pub meets-intro : (vs : List ℕ) (f g : ℕ) → (g ≡ f → ⊥) → sameSet vs f g ≡ true → meets vs f g ≡ true
-unfolding meets
+pub meets-intro : (vs : List ℕ) (f g : ℕ) → (g ≡ f → ⊥) → sameSet vs f g ≡ true → meetsFace vs f g ≡ true
+unfolding meetsFace
 meets-intro vs f g n e = and-intro (not (eqb g f)) (sameSet vs f g) (ap not (ne-eqb g f n)) e
 
 module _ (vs : List ℕ) (f : ℕ) where
   pub partner-most : partner vs f ≤ length vs
   unfolding partner
-  partner-most = latest-most (length vs) (meets vs f)
+  partner-most = latest-most (length vs) (meetsFace vs f)
 
-  pub partner-meets : (g : ℕ) → partner vs f ≡ suc g → meets vs f g ≡ true
+  pub partner-meets : (g : ℕ) → partner vs f ≡ suc g → meetsFace vs f g ≡ true
   unfolding partner
-  partner-meets g e = latest-passes (length vs) (meets vs f) g e
+  partner-meets g e = latest-passes (length vs) (meetsFace vs f) g e
 
-  partner-there : (g : ℕ) → g < length vs → meets vs f g ≡ true → g < partner vs f
+  partner-there : (g : ℕ) → g < length vs → meetsFace vs f g ≡ true → g < partner vs f
   unfolding partner
-  partner-there g l e = latest-least (length vs) (meets vs f) g l e
+  partner-there g l e = latest-least (length vs) (meetsFace vs f) g l e
 
   -- none, or one
   pub partner-cases : {C : Type 0} → (partner vs f ≡ 0 → C) → ((g : ℕ) → partner vs f ≡ suc g → C) → C
   partner-cases h k = either (eqb (partner vs f) 0) (λ e. h (eqb-true (partner vs f) 0 e)) (λ e. k (partner vs f - 1) (let n : (partner vs f ≡ 0) → ⊥ = eqb-false (partner vs f) 0 e in omega arith))
 
   -- a face that meets f is its partner
-  pub partner-is : threeFaces vs ≡ false → f < length vs → (g : ℕ) → g < length vs → meets vs f g ≡ true → partner vs f ≡ suc g
+  pub partner-is : threeFaces vs ≡ false → f < length vs → (g : ℕ) → g < length vs → meetsFace vs f g ≡ true → partner vs f ≡ suc g
   partner-is none l g m e =
       partner-cases
       (λ z. absurd (omega (arith, partner-there g m e)))
@@ -90,7 +90,7 @@ module _ (vs : List ℕ) (f : ℕ) where
 -- a face is its partner's partner
 partner-back : (vs : List ℕ) → threeFaces vs ≡ false → (f g : ℕ) → f < length vs → partner vs f ≡ suc g → partner vs g ≡ suc f
 partner-back vs none f g l e =
-    let m : meets vs f g ≡ true = partner-meets vs f g e in
+    let m : meetsFace vs f g ≡ true = partner-meets vs f g e in
     partner-is vs g none (omega (arith, partner-most vs f)) f l (meets-intro vs g f (λ q. meets-other vs f g m (sym q)) (same-turned vs f g (meets-same vs f g m)))
 
 -- ---- links
@@ -110,7 +110,7 @@ module _ (vs : List ℕ) (t i : ℕ) where
   pub link-some : {m o : ℕ} → m ≡ partner vs (3 * t + i) → (m ≡ 0 → ⊥) → o ≡ turnOf vs (3 * t + i) (m - 1) → (m - 1) / 3 ∷ (m - 1) % 3 ∷ o ∷ [] ≡ linkRow (faceLink vs t i)
   link-some {m} {o} e z q = let s : partner vs (3 * t + i) ≡ suc (m - 1) = sym e ∙ omega arith in rw (link-joined (m - 1) s, q)
 
-pub three-rows : (link : ℕ → Link) {a b c : List ℕ} → a ≡ linkRow (link 0) → b ≡ linkRow (link 1) → c ≡ linkRow (link 2)
+pub three-rows : (link : ℕ → NewLink) {a b c : List ℕ} → a ≡ linkRow (link 0) → b ≡ linkRow (link 1) → c ≡ linkRow (link 2)
     → a ∷ b ∷ c ∷ (4294967295 ∷ 0 ∷ 0 ∷ []) ∷ (4294967295 ∷ 0 ∷ 0 ∷ []) ∷ (4294967295 ∷ 0 ∷ 0 ∷ []) ∷ [] ≡ treeRows 1 link
 unfolding treeRows faceRow faceCount
 three-rows link p q r = rw (p, q, r)

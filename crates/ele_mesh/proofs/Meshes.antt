@@ -10,7 +10,7 @@ use Rattle.encoding.proofs.Below.{clash, and-fst, and-snd, any-at}
 use Rattle.records.specs.Shape.{faceCount}
 use Rattle.records.specs.Record.{neighbourOf, faceOf, orientationOf}
 use Rattle.mesh.specs.Mesh.{meshCore}
-use Rattle.mesh_build.specs.Build.{Link, LinksFit, builtMesh}
+use Rattle.mesh_build.specs.Build.{NewLink, LinksFit, builtMesh}
 use Rattle.mesh_build.proofs.Building.{built-sound, built-trees, built-neighbour, built-face, built-orientation}
 use Rattle.ele_text.specs.Text.{maxTriangles, vertices, triangles}
 use Rattle.ele_mesh.specs.Faces.{firstVertex, sameSet, threeFaces, partner, turnOf, faceLink}
@@ -47,8 +47,8 @@ module _ (vs : List ℕ) (n : ℕ) (some : 1 ≤ n) (most : n ≤ maxTriangles) 
           partner-is vs (3 * t + i) pairs (omega arith) (3 * u + j) (omega arith) (meets-intro vs (3 * t + i) (3 * u + j) (λ q. other (sym q)) e) in
           let a : (3 * u + j) / 3 ≡ u = omega arith in
           let b : (3 * u + j) % 3 ≡ j = omega arith in (
-            neighbour ∙ (ap (λ (l : Link). l .neighbour) (link-joined vs t i (3 * u + j) p) ∙ a),
-            face ∙ (ap (λ (l : Link). l .face) (link-joined vs t i (3 * u + j) p) ∙ b),
+            neighbour ∙ (ap (λ (l : NewLink). l .neighbour) (link-joined vs t i (3 * u + j) p) ∙ a),
+            face ∙ (ap (λ (l : NewLink). l .face) (link-joined vs t i (3 * u + j) p) ∙ b),
           )
 
       met : Joined (builtMesh 1 (faceLink vs) n) t i u j → partner vs (3 * t + i) ≡ suc (3 * u + j)
@@ -68,13 +68,13 @@ module _ (vs : List ℕ) (n : ℕ) (some : 1 ≤ n) (most : n ≤ maxTriangles) 
       alike e = meets-same vs (3 * t + i) (3 * u + j) (partner-meets vs (3 * t + i) (3 * u + j) (met e))
 
       turned : Joined (builtMesh 1 (faceLink vs) n) t i u j → orientationOf (meshCore (builtMesh 1 (faceLink vs) n) t) i ≡ turnOf vs (3 * t + i) (3 * u + j)
-      turned e = orientation ∙ ap (λ (l : Link). l .orientation) (link-joined vs t i (3 * u + j) (met e))
+      turned e = orientation ∙ ap (λ (l : NewLink). l .orientation) (link-joined vs t i (3 * u + j) (met e))
 
     boundary : ((g : ℕ) → g < 3 * n → (g ≡ 3 * t + i → ⊥) → sameSet vs (3 * t + i) g ≡ false) → Joined (builtMesh 1 (faceLink vs) n) t i t i
     boundary h =
         let z : partner vs (3 * t + i) ≡ 0 = alone in (
-          neighbour ∙ ap (λ (l : Link). l .neighbour) (link-alone vs t i z),
-          face ∙ ap (λ (l : Link). l .face) (link-alone vs t i z),
+          neighbour ∙ ap (λ (l : NewLink). l .neighbour) (link-alone vs t i z),
+          face ∙ ap (λ (l : NewLink). l .face) (link-alone vs t i z),
         )
       where
         alone : partner vs (3 * t + i) ≡ 0

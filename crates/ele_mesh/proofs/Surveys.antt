@@ -17,7 +17,7 @@ use Rattle.mesh.specs.Mesh.{meshHeader}
 use Rattle.mesh_build.specs.Build.{builtMesh}
 use Rattle.mesh_build.proofs.Building.{built-length}
 use Rattle.ele_text.specs.declared.file.File.{File}
-use Rattle.ele_text.specs.Text.{rows as rowsIn, lines, ended, numberAt, rowOk, maxTriangles, headOk, numbered, rowsOk, textOk, behindFirst, verticesOf, vertices, triangles}
+use Rattle.ele_text.specs.Text.{rows as rowsIn, lines, ended, rowNumber, rowOk, maxTriangles, headOk, numbered, rowsOk, textOk, behindFirst, verticesOf, vertices, triangles}
 use Rattle.ele_text.specs.Means.{TextRead}
 use Rattle.ele_mesh.specs.declared.check.Found.{Found}
 use Rattle.ele_mesh.specs.Faces.{verticesDiffer, threeFaces, faceLink}
@@ -40,9 +40,9 @@ rows-bounds : (rs : List (List (List ℕ))) → rowsOk rs ≡ true → (1 ≤ le
 unfolding rowsOk behindFirst headOk
 rows-bounds [] e = clash refl (sym e)
 rows-bounds (h ∷ ts) e =
-    let k : (leb 1 (numberAt h 0) && leb (numberAt h 0) maxTriangles) ≡ true = and-snd (rowOk 3 h && (eqb (numberAt h 1) 3 && eqb (numberAt h 2) 0)) _ (and-fst (headOk h) _ e) in
-    let n : length ts ≡ numberAt h 0 = eqb-true (length ts) (numberAt h 0) (and-fst (eqb (length ts) (numberAt h 0)) _ (and-snd (headOk h) (eqb (length ts) (numberAt h 0) && (numbered 0 ts || numbered 1 ts)) e)) in
-    (omega (arith, leb-true 1 (numberAt h 0) (and-fst (leb 1 (numberAt h 0)) _ k)), omega (arith, leb-true (numberAt h 0) maxTriangles (and-snd (leb 1 (numberAt h 0)) _ k)))
+    let k : (leb 1 (rowNumber h 0) && leb (rowNumber h 0) maxTriangles) ≡ true = and-snd (rowOk 3 h && (eqb (rowNumber h 1) 3 && eqb (rowNumber h 2) 0)) _ (and-fst (headOk h) _ e) in
+    let n : length ts ≡ rowNumber h 0 = eqb-true (length ts) (rowNumber h 0) (and-fst (eqb (length ts) (rowNumber h 0)) _ (and-snd (headOk h) (eqb (length ts) (rowNumber h 0) && (numbered 0 ts || numbered 1 ts)) e)) in
+    (omega (arith, leb-true 1 (rowNumber h 0) (and-fst (leb 1 (rowNumber h 0)) _ k)), omega (arith, leb-true (rowNumber h 0) maxTriangles (and-snd (leb 1 (rowNumber h 0)) _ k)))
 
 pub triangles-bounds : (text : List ℕ) → textOk text ≡ true → (1 ≤ triangles text) × (triangles text ≤ maxTriangles)
 unfolding textOk triangles

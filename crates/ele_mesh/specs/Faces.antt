@@ -6,7 +6,7 @@ use mathlib.Core.List.{List}
 use lib.Dec.{eqb}
 use lib.ListN.{length, getD}
 use Rattle.encoding.specs.Below.{allBelow, anyBelow}
-use Rattle.mesh_build.specs.Build.{Link}
+use Rattle.mesh_build.specs.Build.{NewLink}
 
 -- corner i of triangle t
 unfoldable pub cornerOf : List ℕ → ℕ → ℕ → ℕ
@@ -45,19 +45,19 @@ latestBelow zero p = 0
 latestBelow (suc n) p = cond (p n) (suc n) (latestBelow n p)
 
 -- g is another face than f, with its vertex set
-unfoldable pub meets : List ℕ → ℕ → ℕ → Bool
-meets vs f g = not (eqb g f) && sameSet vs f g
+unfoldable pub meetsFace : List ℕ → ℕ → ℕ → Bool
+meetsFace vs f g = not (eqb g f) && sameSet vs f g
 
 -- the face that f meets, and 1 more; 0 where it meets none
 unfoldable pub partner : List ℕ → ℕ → ℕ
-partner vs f = latestBelow (length vs) (meets vs f)
+partner vs f = latestBelow (length vs) (meetsFace vs f)
 
 -- 0 if the lower-numbered corners of both faces are the same vertex, else 1
 unfoldable pub turnOf : List ℕ → ℕ → ℕ → ℕ
 turnOf vs f g = cond (eqb (firstVertex vs f) (firstVertex vs g)) 0 1
 
 -- the link of face i of triangle t: to the face that it meets, else the boundary
-unfoldable pub faceLink : List ℕ → ℕ → ℕ → Link
+unfoldable pub faceLink : List ℕ → ℕ → ℕ → NewLink
 faceLink vs t i =
     cond (eqb (partner vs (3 * t + i)) 0)
     (record { neighbour = t; face = i; orientation = 0 })

@@ -5,7 +5,7 @@ use mathlib.Core.Bool.{cond, false}
 use mathlib.Core.List.{List, [], _∷_}
 use lib.Dec.{ltb, eqb}
 use lib.ListN.{length, getD, take}
-use Rattle.mesh_build.specs.Build.{Link}
+use Rattle.mesh_build.specs.Build.{NewLink}
 use Rattle.ele_text.specs.Text.{maxTriangles, vertices, triangles}
 use Rattle.ele_mesh.specs.declared.check.Found.{Found}
 use Rattle.ele_mesh.specs.Faces.{firstVertex, secondVertex, latestBelow, threeFaces}
@@ -59,7 +59,7 @@ pub record Ready (vs : List ℕ) (m : ℕ) (heads links : List ℕ) : Type 0 whe
   pub chains : Chained vs m heads links (length vs)
 
 -- a link as a row
-abbrev pub linkRow : Link → List ℕ
+abbrev pub linkRow : NewLink → List ℕ
 linkRow l = l .neighbour ∷ l .face ∷ l .orientation ∷ []
 
 -- the refusal of a text, and what is needed to write its mesh

@@ -12,7 +12,7 @@ use borrow.Author.Tests.{leb-true, eqb-true, le-leb, eq-eqb, ne-eqb}
 use Rattle.encoding.proofs.Below.{either, clash, and-fst, and-snd, and-intro}
 use Rattle.ele_text.specs.declared.line.Row.{Row}
 use Rattle.ele_text.specs.declared.file.File.{File}
-use Rattle.ele_text.specs.Text.{pieces, isEmpty, firstPiece, butLast, lastPiece, filled, lines, ended, fields, rows as rowsIn, isNumber, numberOf, numberAt, allNumbers, rowOk, maxTriangles, headOk, numbered, rowsOk, textOk, behindFirst, verticesOf, vertices as verticesIn, triangles}
+use Rattle.ele_text.specs.Text.{pieces, isEmpty, firstPiece, butLast, lastPiece, filled, lines, ended, fields, rows as rowsIn, isNumber, fieldNumber, rowNumber, allNumbers, rowOk, maxTriangles, headOk, numbered, rowsOk, textOk, behindFirst, verticesOf, vertices as verticesIn, triangles}
 use Rattle.ele_text.specs.Means.{noRow, emptyRow, addField, withField, withFields, rowOf, Read, noRead, nothingRead, isHead, isTriangle, addRow, withRow, readEnd, withLines, noFile, readOf, Within, TextRead}
 use Rattle.ele_text.proofs.Splits.{pieces-some}
 
@@ -106,8 +106,8 @@ lines-rows (p ∷ q ∷ ps) m e =
 
 -- ---- the first row
 
-head-added : (h : List (List ℕ)) → addRow nothingRead (asRow h) ≡ cond (headOk h) (record { ok = true; rows = 1; count = numberAt h 0; next = 0; vertices = [] }) noRead
-unfolding addRow asRow addFields addField isHead headOk rowOk allNumbers numberAt
+head-added : (h : List (List ℕ)) → addRow nothingRead (asRow h) ≡ cond (headOk h) (record { ok = true; rows = 1; count = rowNumber h 0; next = 0; vertices = [] }) noRead
+unfolding addRow asRow addFields addField isHead headOk rowOk allNumbers rowNumber
 head-added [] = refl
 head-added (a ∷ []) = either (isNumber a) (λ p. rw p) (λ p. rw p)
 head-added (a ∷ b ∷ []) = either (isNumber a) (λ p. either (isNumber b) (λ q. rw (p, q)) (λ q. rw (p, q))) (λ p. rw p)
@@ -129,15 +129,15 @@ head-added (a ∷ b ∷ c ∷ d ∷ e ∷ fs) =
 
 -- the row is that of the next triangle
 isNext : ℕ → ℕ → ℕ → List (List ℕ) → Bool
-isNext rows count next t = (rowOk 4 t && leb rows count) && (eqb (numberAt t 0) next || (eqb rows 1 && eqb (numberAt t 0) 1))
+isNext rows count next t = (rowOk 4 t && leb rows count) && (eqb (rowNumber t 0) next || (eqb rows 1 && eqb (rowNumber t 0) 1))
 
 module _ (rows count next : ℕ) (vs : List ℕ) (some : 1 ≤ rows) where
   later : eqb rows 0 ≡ false
   later = ne-eqb rows 0 (λ q. omega arith)
 
   triangle-added : (t : List (List ℕ)) → addRow (record { ok = true; rows = rows; count = count; next = next; vertices = vs }) (asRow t)
-      ≡ cond (isNext rows count next t) (record { ok = true; rows = rows + 1; count = count; next = numberAt t 0 + 1; vertices = vs ++ (numberAt t 1 ∷ numberAt t 2 ∷ numberAt t 3 ∷ []) }) noRead
-  unfolding addRow asRow addFields addField isTriangle isNext rowOk allNumbers numberAt
+      ≡ cond (isNext rows count next t) (record { ok = true; rows = rows + 1; count = count; next = rowNumber t 0 + 1; vertices = vs ++ (rowNumber t 1 ∷ rowNumber t 2 ∷ rowNumber t 3 ∷ []) }) noRead
+  unfolding addRow asRow addFields addField isTriangle isNext rowOk allNumbers rowNumber
   triangle-added [] = rw later
   triangle-added (a ∷ []) = either (isNumber a) (λ p. rw (p, later)) (λ p. rw p)
   triangle-added (a ∷ b ∷ []) = either (isNumber a) (λ p. either (isNumber b) (λ q. rw (p, q, later)) (λ q. rw (p, q))) (λ p. rw p)
@@ -174,9 +174,9 @@ record Accepted (m : Read) (n : ℕ) (vs : List ℕ) : Type 0 where
   count : m .count ≡ n
   vertices : m .vertices ≡ vs
 
-numbered-cons : (k : ℕ) (t : List (List ℕ)) (ts : List (List (List ℕ))) → rowOk 4 t ≡ true → numberAt t 0 ≡ k → numbered (suc k) ts ≡ true → numbered k (t ∷ ts) ≡ true
+numbered-cons : (k : ℕ) (t : List (List ℕ)) (ts : List (List (List ℕ))) → rowOk 4 t ≡ true → rowNumber t 0 ≡ k → numbered (suc k) ts ≡ true → numbered k (t ∷ ts) ≡ true
 unfolding numbered
-numbered-cons k t ts a b c = and-intro (rowOk 4 t && eqb (numberAt t 0) k) (numbered (suc k) ts) (and-intro (rowOk 4 t) _ a (eq-eqb (numberAt t 0) k b)) c
+numbered-cons k t ts a b c = and-intro (rowOk 4 t && eqb (rowNumber t 0) k) (numbered (suc k) ts) (and-intro (rowOk 4 t) _ a (eq-eqb (rowNumber t 0) k b)) c
 
 numbered-none : (k : ℕ) → numbered k [] ≡ true
 unfolding numbered
@@ -185,25 +185,25 @@ numbered-none k = refl
 module _ (k : ℕ) (t : List (List ℕ)) (ts : List (List (List ℕ))) (e : numbered k (t ∷ ts) ≡ true) where
   this-ok : rowOk 4 t ≡ true
   unfolding numbered
-  this-ok = and-fst (rowOk 4 t) _ (and-fst (rowOk 4 t && eqb (numberAt t 0) k) _ e)
+  this-ok = and-fst (rowOk 4 t) _ (and-fst (rowOk 4 t && eqb (rowNumber t 0) k) _ e)
 
-  this-number : numberAt t 0 ≡ k
+  this-number : rowNumber t 0 ≡ k
   unfolding numbered
-  this-number = eqb-true (numberAt t 0) k (and-snd (rowOk 4 t) _ (and-fst (rowOk 4 t && eqb (numberAt t 0) k) _ e))
+  this-number = eqb-true (rowNumber t 0) k (and-snd (rowOk 4 t) _ (and-fst (rowOk 4 t && eqb (rowNumber t 0) k) _ e))
 
   rest-numbered : numbered (suc k) ts ≡ true
   unfolding numbered
-  rest-numbered = and-snd (rowOk 4 t && eqb (numberAt t 0) k) _ e
+  rest-numbered = and-snd (rowOk 4 t && eqb (rowNumber t 0) k) _ e
 
 run-yes : (ts : List (List (List ℕ))) (rows n k : ℕ) (vs : List ℕ) → 2 ≤ rows → numbered k ts ≡ true → rows + length ts ≡ n + 1
     → Accepted (addRows (record { ok = true; rows = rows; count = n; next = k; vertices = vs }) ts) n (vs ++ verticesOf ts)
 unfolding addRows verticesOf isNext
 run-yes [] rows n k vs h e l = record { ok = refl; rows = omega arith; count = refl; vertices = sym (append-nil vs) }
 run-yes (t ∷ ts) rows n k vs h e l =
-    let a : numberAt t 0 ≡ k = this-number k t ts e in
+    let a : rowNumber t 0 ≡ k = this-number k t ts e in
     let s : k + 1 ≡ suc k = add-one k in
-    let ih : Accepted (addRows (record { ok = true; rows = rows + 1; count = n; next = suc k; vertices = vs ++ (numberAt t 1 ∷ numberAt t 2 ∷ numberAt t 3 ∷ []) }) ts) n ((vs ++ (numberAt t 1 ∷ numberAt t 2 ∷ numberAt t 3 ∷ [])) ++ verticesOf ts) =
-    run-yes ts (rows + 1) n (suc k) (vs ++ (numberAt t 1 ∷ numberAt t 2 ∷ numberAt t 3 ∷ [])) (omega arith) (rest-numbered k t ts e) (omega arith) in
+    let ih : Accepted (addRows (record { ok = true; rows = rows + 1; count = n; next = suc k; vertices = vs ++ (rowNumber t 1 ∷ rowNumber t 2 ∷ rowNumber t 3 ∷ []) }) ts) n ((vs ++ (rowNumber t 1 ∷ rowNumber t 2 ∷ rowNumber t 3 ∷ [])) ++ verticesOf ts) =
+    run-yes ts (rows + 1) n (suc k) (vs ++ (rowNumber t 1 ∷ rowNumber t 2 ∷ rowNumber t 3 ∷ [])) (omega arith) (rest-numbered k t ts e) (omega arith) in
     rw (triangle-added rows n k vs (omega arith) t, this-ok k t ts e, le-leb rows n (omega arith), a, eq-eqb k k refl, s) (rw append-assoc at ih)
 
 -- what `isNext` says
@@ -212,7 +212,7 @@ module _ (rows n k : ℕ) (t : List (List ℕ)) (e : isNext rows n k t ≡ true)
   unfolding isNext
   next-ok = and-fst (rowOk 4 t) _ (and-fst (rowOk 4 t && leb rows n) _ e)
 
-  next-number : (eqb (numberAt t 0) k || (eqb rows 1 && eqb (numberAt t 0) 1)) ≡ true
+  next-number : (eqb (rowNumber t 0) k || (eqb rows 1 && eqb (rowNumber t 0) 1)) ≡ true
   unfolding isNext
   next-number = and-snd (rowOk 4 t && leb rows n) _ e
 
@@ -223,13 +223,13 @@ run-no [] rows n k vs h e = accepted-at rows n k vs ∙ rw (numbered-none k, add
 run-no (t ∷ ts) rows n k vs h e =
     either (isNext rows n k t)
     (λ p. rw (triangle-added rows n k vs (omega arith) t, p, number p, add-one k)
-    (run-no ts (rows + 1) n (suc k) (vs ++ (numberAt t 1 ∷ numberAt t 2 ∷ numberAt t 3 ∷ [])) (omega arith) (rest p)))
+    (run-no ts (rows + 1) n (suc k) (vs ++ (rowNumber t 1 ∷ rowNumber t 2 ∷ rowNumber t 3 ∷ [])) (omega arith) (rest p)))
     (λ p. rw (triangle-added rows n k vs (omega arith) t, p, broken-rows ts) accepted-none)
   where
-    number : isNext rows n k t ≡ true → numberAt t 0 ≡ k
+    number : isNext rows n k t ≡ true → rowNumber t 0 ≡ k
     number p =
-        either (eqb (numberAt t 0) k)
-        (eqb-true (numberAt t 0) k)
+        either (eqb (rowNumber t 0) k)
+        (eqb-true (rowNumber t 0) k)
         (λ q. clash (rw q at (next-number rows n k t p)) (rw (ne-eqb rows 1 (λ z. omega arith))))
 
     rest : isNext rows n k t ≡ true → (numbered (suc k) ts && eqb (rows + 1 + length ts) (n + 1)) ≡ false
@@ -258,9 +258,9 @@ module _ (n : ℕ) (some : 1 ≤ n) where
   unfolding addRows verticesOf isNext start
   first-from k [] h e l = absurd (omega arith)
   first-from k (t ∷ ts) h e l =
-      let a : numberAt t 0 ≡ k = this-number k t ts e in
+      let a : rowNumber t 0 ≡ k = this-number k t ts e in
       rw (triangle-added 1 n 0 [] (omega arith) t, this-ok k t ts e, le-leb 1 n some, a, zero-one k h, add-one k)
-      (run-yes ts 2 n (suc k) (numberAt t 1 ∷ numberAt t 2 ∷ numberAt t 3 ∷ []) (omega arith) (rest-numbered k t ts e) (omega arith))
+      (run-yes ts 2 n (suc k) (rowNumber t 1 ∷ rowNumber t 2 ∷ rowNumber t 3 ∷ []) (omega arith) (rest-numbered k t ts e) (omega arith))
 
   first-yes : (ts : List (List (List ℕ))) → inOrder n ts ≡ true → Accepted (addRows start ts) n (verticesOf ts)
   unfolding inOrder
@@ -274,24 +274,24 @@ module _ (n : ℕ) (some : 1 ≤ n) where
   first-no [] e = accepted-at 1 n 0 [] ∙ ne-eqb 1 (n + 1) (λ q. omega arith)
   first-no (t ∷ ts) e =
       either (isNext 1 n 0 t)
-      (λ p. rw (triangle-added 1 n 0 [] (omega arith) t, p, add-one (numberAt t 0))
-      (run-no ts 2 n (suc (numberAt t 0)) (numberAt t 1 ∷ numberAt t 2 ∷ numberAt t 3 ∷ []) (omega arith) (rest p)))
+      (λ p. rw (triangle-added 1 n 0 [] (omega arith) t, p, add-one (rowNumber t 0))
+      (run-no ts 2 n (suc (rowNumber t 0)) (rowNumber t 1 ∷ rowNumber t 2 ∷ rowNumber t 3 ∷ []) (omega arith) (rest p)))
       (λ p. rw (triangle-added 1 n 0 [] (omega arith) t, p, broken-rows ts) accepted-none)
     where
-      either-way : isNext 1 n 0 t ≡ true → numbered (suc (numberAt t 0)) ts ≡ true → (numbered 0 (t ∷ ts) || numbered 1 (t ∷ ts)) ≡ true
+      either-way : isNext 1 n 0 t ≡ true → numbered (suc (rowNumber t 0)) ts ≡ true → (numbered 0 (t ∷ ts) || numbered 1 (t ∷ ts)) ≡ true
       either-way p q =
-          either (eqb (numberAt t 0) 0)
-          (λ z. let a : numberAt t 0 ≡ 0 = eqb-true (numberAt t 0) 0 z in rw (numbered-cons 0 t ts (next-ok 1 n 0 t p) a (rw a at q)))
-          (λ z. let a : numberAt t 0 ≡ 1 = eqb-true (numberAt t 0) 1 (rw z at (next-number 1 n 0 t p)) in
+          either (eqb (rowNumber t 0) 0)
+          (λ z. let a : rowNumber t 0 ≡ 0 = eqb-true (rowNumber t 0) 0 z in rw (numbered-cons 0 t ts (next-ok 1 n 0 t p) a (rw a at q)))
+          (λ z. let a : rowNumber t 0 ≡ 1 = eqb-true (rowNumber t 0) 1 (rw z at (next-number 1 n 0 t p)) in
           or-right (numbered 0 (t ∷ ts)) (numbered 1 (t ∷ ts)) (numbered-cons 1 t ts (next-ok 1 n 0 t p) a (rw a at q)))
 
-      rest : isNext 1 n 0 t ≡ true → (numbered (suc (numberAt t 0)) ts && eqb (2 + length ts) (n + 1)) ≡ false
+      rest : isNext 1 n 0 t ≡ true → (numbered (suc (rowNumber t 0)) ts && eqb (2 + length ts) (n + 1)) ≡ false
       rest p =
-          either (numbered (suc (numberAt t 0)) ts && eqb (2 + length ts) (n + 1))
+          either (numbered (suc (rowNumber t 0)) ts && eqb (2 + length ts) (n + 1))
           (λ q. clash
           (and-intro (eqb (length (t ∷ ts)) n) (numbered 0 (t ∷ ts) || numbered 1 (t ∷ ts))
-          (eq-eqb (length (t ∷ ts)) n (omega (arith, eqb-true (2 + length ts) (n + 1) (and-snd (numbered (suc (numberAt t 0)) ts) _ q))))
-          (either-way p (and-fst (numbered (suc (numberAt t 0)) ts) _ q)))
+          (eq-eqb (length (t ∷ ts)) n (omega (arith, eqb-true (2 + length ts) (n + 1) (and-snd (numbered (suc (rowNumber t 0)) ts) _ q))))
+          (either-way p (and-fst (numbered (suc (rowNumber t 0)) ts) _ q)))
           e)
           (λ q. q)
 
@@ -314,11 +314,11 @@ end-yes : (m : Read) (p : List ℕ) → accepted m ≡ true → readEnd m p ≡ 
 unfolding readEnd accepted
 end-yes m p e = rw e (either (isEmpty p) (λ q. rw q) (λ q. rw q))
 
-head-some : (h : List (List ℕ)) → headOk h ≡ true → 1 ≤ numberAt h 0
+head-some : (h : List (List ℕ)) → headOk h ≡ true → 1 ≤ rowNumber h 0
 unfolding headOk
 head-some h e =
-    leb-true 1 (numberAt h 0)
-    (and-fst (leb 1 (numberAt h 0)) _ (and-snd (rowOk 3 h && (eqb (numberAt h 1) 3 && eqb (numberAt h 2) 0)) (leb 1 (numberAt h 0) && leb (numberAt h 0) maxTriangles) e))
+    leb-true 1 (rowNumber h 0)
+    (and-fst (leb 1 (rowNumber h 0)) _ (and-snd (rowOk 3 h && (eqb (rowNumber h 1) 3 && eqb (rowNumber h 2) 0)) (leb 1 (rowNumber h 0) && leb (rowNumber h 0) maxTriangles) e))
 
 accepted-all : {m : Read} {n : ℕ} {vs : List ℕ} → Accepted m n vs → accepted m ≡ true
 unfolding accepted
@@ -337,23 +337,23 @@ and-true true = refl
 and-true false = refl
 
 read-rows : (rs : List (List (List ℕ))) (p : List ℕ) → Result (readEnd (addRows nothingRead rs) p) (isEmpty p && rowsOk rs) rs
-unfolding addRows rowsOk numberAt inOrder start
+unfolding addRows rowsOk rowNumber inOrder start
 read-rows [] p = rw (end-no nothingRead p (accepted-at 0 0 0 []), and-false (isEmpty p)) (no-result [])
 read-rows (h ∷ ts) p =
     either (headOk h)
     (λ q. rw (head-added h, q)
-    (either (inOrder (numberAt h 0) ts)
-    (λ i. rw (ordered i, and-true (isEmpty p)) (rows-good (addRows (start (numberAt h 0) (head-some h q)) ts) h ts p (many q i)))
-    (λ i. rw (ordered i, and-false (isEmpty p), end-no (addRows (start (numberAt h 0) (head-some h q)) ts) p (first-no (numberAt h 0) (head-some h q) ts i)) (no-result (h ∷ ts)))))
+    (either (inOrder (rowNumber h 0) ts)
+    (λ i. rw (ordered i, and-true (isEmpty p)) (rows-good (addRows (start (rowNumber h 0) (head-some h q)) ts) h ts p (many q i)))
+    (λ i. rw (ordered i, and-false (isEmpty p), end-no (addRows (start (rowNumber h 0) (head-some h q)) ts) p (first-no (rowNumber h 0) (head-some h q) ts i)) (no-result (h ∷ ts)))))
     (λ q. rw (head-added h, q, broken-rows ts, end-no noRead p accepted-none, and-false (isEmpty p)) (no-result (h ∷ ts)))
   where
-    ordered : {b : Bool} → inOrder (numberAt h 0) ts ≡ b → (eqb (length ts) (numberAt h 0) && (numbered 0 ts || numbered 1 ts)) ≡ b
+    ordered : {b : Bool} → inOrder (rowNumber h 0) ts ≡ b → (eqb (length ts) (rowNumber h 0) && (numbered 0 ts || numbered 1 ts)) ≡ b
     ordered i = i
 
-    many : (q : headOk h ≡ true) → inOrder (numberAt h 0) ts ≡ true → Accepted (addRows (start (numberAt h 0) (head-some h q)) ts) (length ts) (verticesOf ts)
+    many : (q : headOk h ≡ true) → inOrder (rowNumber h 0) ts ≡ true → Accepted (addRows (start (rowNumber h 0) (head-some h q)) ts) (length ts) (verticesOf ts)
     many q i =
-        let n : numberAt h 0 ≡ length ts = sym (eqb-true (length ts) (numberAt h 0) (and-fst (eqb (length ts) (numberAt h 0)) _ i)) in
-        subst (λ (k : ℕ). Accepted (addRows (start (numberAt h 0) (head-some h q)) ts) k (verticesOf ts)) n (first-yes (numberAt h 0) (head-some h q) ts i)
+        let n : rowNumber h 0 ≡ length ts = sym (eqb-true (length ts) (rowNumber h 0) (and-fst (eqb (length ts) (rowNumber h 0)) _ i)) in
+        subst (λ (k : ℕ). Accepted (addRows (start (rowNumber h 0) (head-some h q)) ts) k (verticesOf ts)) n (first-yes (rowNumber h 0) (head-some h q) ts i)
 
 read-text : (text : List ℕ) → Result (withLines nothingRead (pieces 10 10 text)) (textOk text) (rowsIn (lines text))
 unfolding textOk ended lines

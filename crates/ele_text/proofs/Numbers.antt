@@ -12,7 +12,7 @@ use borrow.Author.Tests.{leb-true, not-true, not-false}
 use Rattle.encoding.specs.Below.{allBelow}
 use Rattle.encoding.proofs.Below.{and-fst, and-snd, all-at, all-more, all-fails, all-to}
 use Rattle.ele_text.specs.declared.field.Numeral.{Numeral}
-use Rattle.ele_text.specs.Text.{isDigit, digitsValue, isNumber, numberOf}
+use Rattle.ele_text.specs.Text.{isDigit, digitsValue, isNumber, fieldNumber}
 use Rattle.ele_text.specs.Means.{numeralOf}
 
 pub digit-range : (b : ℕ) → isDigit b ≡ true → (48 ≤ b) × (b ≤ 57)
@@ -70,7 +70,7 @@ module _ (s : List ℕ) where
       and-false false = refl
 
   pub number-done : (i v : ℕ) → Sized → Reading i v → length s ≤ i → record { ok = true; value = v } ≡ numeralOf s
-  unfolding numeralOf isNumber numberOf
+  unfolding numeralOf isNumber fieldNumber
   number-done i v z h l =
       let q : i ≡ length s = omega arith in
       let d : allBelow (length s) (λ i. isDigit (getD s i 0)) ≡ true = all-to (length s) (λ i. isDigit (getD s i 0)) i (h .0) l (h .1 .0) in

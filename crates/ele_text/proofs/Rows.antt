@@ -10,7 +10,7 @@ use borrow.Author.Tests.{ltb-true}
 use Rattle.encoding.proofs.Below.{either, and-fst, and-snd}
 use Rattle.ele_text.specs.declared.field.Numeral.{Numeral}
 use Rattle.ele_text.specs.declared.line.Row.{Row}
-use Rattle.ele_text.specs.Text.{pieces, isEmpty, firstPiece, filled, isNumber, numberOf, fields}
+use Rattle.ele_text.specs.Text.{pieces, isEmpty, firstPiece, filled, isNumber, fieldNumber, fields}
 use Rattle.ele_text.specs.Means.{untilEither, numeralOf, noRow, emptyRow, addField, withField, withFields, rowOf}
 use Rattle.ele_text.proofs.Splits.{split-most, split-last, split-more, first-piece}
 
@@ -29,7 +29,7 @@ numeral-ok : (s : List ℕ) → numeralOf s .ok ≡ isNumber s
 unfolding numeralOf
 numeral-ok s = either (isNumber s) (λ p. rw p) (λ p. rw p)
 
-numeral-value : (s : List ℕ) → isNumber s ≡ true → numeralOf s .value ≡ numberOf s
+numeral-value : (s : List ℕ) → isNumber s ≡ true → numeralOf s .value ≡ fieldNumber s
 unfolding numeralOf
 numeral-value s p = rw p
 
@@ -51,7 +51,7 @@ module _ (r : Row) (s : List ℕ) where
     field-taken t =
         let g : ((r .ok && ltb (r .count) 4) && isNumber s) ≡ true = rw (← number-there) t in
         let p : isNumber s ≡ true = and-snd (r .ok && ltb (r .count) 4) (isNumber s) g in
-        let v : n .value ≡ numberOf s = ap (λ (m : Numeral). m .value) e ∙ numeral-value s p in
+        let v : n .value ≡ fieldNumber s = ap (λ (m : Numeral). m .value) e ∙ numeral-value s p in
         rw (some-filled s some, g, v)
 
     pub field-refused : ((r .ok && ltb (r .count) 4) && n .ok) ≡ false → noRow ≡ withField r s

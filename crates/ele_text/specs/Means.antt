@@ -8,7 +8,7 @@ use lib.ListN.{length, take}
 use Rattle.ele_text.specs.declared.field.Numeral.{Numeral}
 use Rattle.ele_text.specs.declared.line.Row.{Row}
 use Rattle.ele_text.specs.declared.file.File.{File}
-use Rattle.ele_text.specs.Text.{isEither, pieces, isEmpty, firstPiece, isNumber, numberOf, maxTriangles, textOk, vertices, triangles}
+use Rattle.ele_text.specs.Text.{isEither, pieces, isEmpty, firstPiece, isNumber, fieldNumber, maxTriangles, textOk, vertices, triangles}
 
 -- how many bytes stand before the first that is x or y
 unfoldable pub untilEither : ℕ → ℕ → List ℕ → ℕ
@@ -16,7 +16,7 @@ untilEither x y [] = 0
 untilEither x y (b ∷ s) = cond (isEither x y b) 0 (suc (untilEither x y s))
 
 unfoldable pub numeralOf : List ℕ → Numeral
-numeralOf s = cond (isNumber s) (record { ok = true; value = numberOf s }) (record { ok = false; value = 0 })
+numeralOf s = cond (isNumber s) (record { ok = true; value = fieldNumber s }) (record { ok = false; value = 0 })
 
 -- ---- a row: how many fields it has, at most four, and the last four of their numbers
 
@@ -30,7 +30,7 @@ emptyRow = record { ok = true; count = 0; a = 0; b = 0; c = 0; d = 0 }
 unfoldable pub addField : Row → List ℕ → Row
 addField r s =
     cond ((r .ok && ltb (r .count) 4) && isNumber s)
-    (record { ok = true; count = r .count + 1; a = r .b; b = r .c; c = r .d; d = numberOf s })
+    (record { ok = true; count = r .count + 1; a = r .b; b = r .c; c = r .d; d = fieldNumber s })
     noRow
 
 -- the same of a piece, which is no field if it is empty

@@ -77,12 +77,12 @@ digitsValue (suc n) s = 10 * digitsValue n s + (getD s n 0 - 48)
 unfoldable pub isNumber : List ℕ → Bool
 isNumber field = (leb 1 (length field) && leb (length field) 8) && allBelow (length field) (λ i. isDigit (getD field i 0))
 
-unfoldable pub numberOf : List ℕ → ℕ
-numberOf field = digitsValue (length field) field
+unfoldable pub fieldNumber : List ℕ → ℕ
+fieldNumber field = digitsValue (length field) field
 
 -- number j of a row
-unfoldable pub numberAt : List (List ℕ) → ℕ → ℕ
-numberAt row j = numberOf (getD row j [])
+unfoldable pub rowNumber : List (List ℕ) → ℕ → ℕ
+rowNumber row j = fieldNumber (getD row j [])
 
 unfoldable pub allNumbers : List (List ℕ) → Bool
 allNumbers [] = true
@@ -99,17 +99,17 @@ maxTriangles = 65536
 
 -- the first line: the number of triangles, 3 and 0
 unfoldable pub headOk : List (List ℕ) → Bool
-headOk row = rowOk 3 row && (eqb (numberAt row 1) 3 && eqb (numberAt row 2) 0) && (leb 1 (numberAt row 0) && leb (numberAt row 0) maxTriangles)
+headOk row = rowOk 3 row && (eqb (rowNumber row 1) 3 && eqb (rowNumber row 2) 0) && (leb 1 (rowNumber row 0) && leb (rowNumber row 0) maxTriangles)
 
 -- a line per triangle: its number, from k on rising by one, and three vertex numbers
 unfoldable pub numbered : ℕ → List (List (List ℕ)) → Bool
 numbered k [] = true
-numbered k (t ∷ ts) = (rowOk 4 t && eqb (numberAt t 0) k) && numbered (suc k) ts
+numbered k (t ∷ ts) = (rowOk 4 t && eqb (rowNumber t 0) k) && numbered (suc k) ts
 
 -- the first line, and as many lines as it says, numbered from 0 or from 1
 unfoldable pub rowsOk : List (List (List ℕ)) → Bool
 rowsOk [] = false
-rowsOk (h ∷ ts) = headOk h && (eqb (length ts) (numberAt h 0) && (numbered 0 ts || numbered 1 ts))
+rowsOk (h ∷ ts) = headOk h && (eqb (length ts) (rowNumber h 0) && (numbered 0 ts || numbered 1 ts))
 
 -- the text has the form of an element file
 unfoldable pub textOk : List ℕ → Bool
@@ -123,7 +123,7 @@ behindFirst (h ∷ ts) = ts
 -- three vertex numbers for each triangle
 unfoldable pub verticesOf : List (List (List ℕ)) → List ℕ
 verticesOf [] = []
-verticesOf (t ∷ ts) = numberAt t 1 ∷ numberAt t 2 ∷ numberAt t 3 ∷ verticesOf ts
+verticesOf (t ∷ ts) = rowNumber t 1 ∷ rowNumber t 2 ∷ rowNumber t 3 ∷ verticesOf ts
 
 -- the vertices that a text gives, by triangle and corner: vertex 3 t + i is corner i of triangle t
 unfoldable pub vertices : List ℕ → List ℕ

@@ -23,7 +23,7 @@ use Rattle.records.proofs.Shapes.{count-six, count-faces, faces-six, faces-posi
 use Rattle.records.proofs.Forms.{piece-piece, form-intro}
 use Rattle.mesh.specs.Link.{orientationOk, sameCorners, answered, linkOk}
 use Rattle.mesh.specs.Mesh.{meshHeader, meshDimension, meshTrees, dimensionOk, meshCore, faceSound, treeSound, headerSound, meshSound}
-use Rattle.mesh_build.specs.Build.{Link, treeRows, newCore, newTree, newHeader, builtTrees, builtMesh, LinksFit, BuiltSound}
+use Rattle.mesh_build.specs.Build.{NewLink, treeRows, newCore, newTree, newHeader, builtTrees, builtMesh, LinksFit, BuiltSound}
 use Rattle.mesh_build.proofs.Records.{core-length, core-number, core-shape, core-zeros, core-region, core-neighbour, core-code, core-face, core-orientation, tree-length, rows-six, row-used, row-unused}
 
 -- ---- the bytes
@@ -51,7 +51,7 @@ pub header-length : (shape K : ℕ) → length (newHeader shape K) ≡ meshHeade
 unfolding newHeader
 header-length shape K = rw (length-append, bytes-length 4 (dimensionOf shape), bytes-length 4 K)
 
-module _ (shape : ℕ) (link : ℕ → ℕ → Link) where
+module _ (shape : ℕ) (link : ℕ → ℕ → NewLink) where
   pub trees-length : (n : ℕ) → length (builtTrees shape link n) ≡ treeSize * n
   unfolding builtTrees
   trees-length zero = refl
@@ -122,7 +122,7 @@ trees-most : (K : ℕ) → treeCountOk K ≡ true → K ≤ 1048576
 unfolding treeCountOk
 trees-most K e = leb-true K 1048576 (and-snd (leb 1 K) (leb K 1048576) e)
 
-module _ (shape : ℕ) (link : ℕ → ℕ → Link) (K : ℕ) (fit : LinksFit shape link K) where
+module _ (shape : ℕ) (link : ℕ → ℕ → NewLink) (K : ℕ) (fit : LinksFit shape link K) where
   few : K ≤ 1048576
   few = trees-most K (fit .trees)
 

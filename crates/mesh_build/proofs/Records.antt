@@ -15,7 +15,7 @@ use Rattle.records.specs.Shape.{dimensionOf, faceCount, facesIn}
 use Rattle.records.specs.Record.{unused, numberOf, shapeOf, neighbourOf, codeOf, facesOf, faceOf, orientationOf, regionOf, regionOk, zerosOk}
 use Rattle.records.specs.Links.{cell, Rows}
 use Rattle.records.proofs.Rows.{with-length, with-number, with-shape, with-zeros, with-region, with-neighbour, with-code, with-face, with-orientation}
-use Rattle.mesh_build.specs.Build.{Link, faceRow, treeRows, newCore, newTree}
+use Rattle.mesh_build.specs.Build.{NewLink, faceRow, treeRows, newCore, newTree}
 
 -- ---- words
 
@@ -119,11 +119,11 @@ tree-length number shape rows = rw (length-append, core-length number shape rows
 
 -- ---- the rows of a tree
 
-pub rows-six : (shape : ℕ) (link : ℕ → Link) → length (treeRows shape link) ≡ 6
+pub rows-six : (shape : ℕ) (link : ℕ → NewLink) → length (treeRows shape link) ≡ 6
 unfolding treeRows
 rows-six shape link = refl
 
-rows-at : (shape : ℕ) (link : ℕ → Link) (f : ℕ) → f < 6 → getD (treeRows shape link) f [] ≡ faceRow shape link f
+rows-at : (shape : ℕ) (link : ℕ → NewLink) (f : ℕ) → f < 6 → getD (treeRows shape link) f [] ≡ faceRow shape link f
 unfolding treeRows
 rows-at shape link zero h = refl
 rows-at shape link (suc zero) h = refl
@@ -133,7 +133,7 @@ rows-at shape link (suc (suc (suc (suc zero)))) h = refl
 rows-at shape link (suc (suc (suc (suc (suc zero))))) h = refl
 rows-at shape link (suc (suc (suc (suc (suc (suc f)))))) h = absurd (omega arith)
 
-module _ (shape : ℕ) (link : ℕ → Link) (f : ℕ) (six : f < 6) where
+module _ (shape : ℕ) (link : ℕ → NewLink) (f : ℕ) (six : f < 6) where
   -- a face that the shape has
   pub row-used : f < faceCount shape → getD (treeRows shape link) f [] ≡ (link f .neighbour ∷ link f .face ∷ link f .orientation ∷ [])
   unfolding faceRow

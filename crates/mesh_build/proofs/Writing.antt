@@ -16,7 +16,7 @@ use Rattle.records.specs.Shape.{dimensionOf, facesIn}
 use Rattle.records.specs.Record.{treeSize}
 use Rattle.records.specs.Links.{cell, neighbourBytes, codeBytes, withRows, Rows}
 use Rattle.mesh.specs.Mesh.{meshHeader}
-use Rattle.mesh_build.specs.Build.{Link, treeRows, newCore, newTree, newHeader, builtTrees, builtMesh}
+use Rattle.mesh_build.specs.Build.{NewLink, treeRows, newCore, newTree, newHeader, builtTrees, builtMesh}
 use Rattle.mesh_build.proofs.Records.{byte-next}
 use Rattle.mesh_build.proofs.Building.{header-length, trees-length}
 
@@ -78,12 +78,12 @@ tree-stored bs k shape rows r h place by e e0 e1 e2 e3 e4 = rw (place, e0, e1, e
 
 -- ---- tree by tree
 
-trees-more : (shape : ℕ) (link : ℕ → ℕ → Link) (k : ℕ) → builtTrees shape link k ++ newTree k shape (treeRows shape (link k)) ≡ builtTrees shape link (k + 1)
+trees-more : (shape : ℕ) (link : ℕ → ℕ → NewLink) (k : ℕ) → builtTrees shape link k ++ newTree k shape (treeRows shape (link k)) ≡ builtTrees shape link (k + 1)
 unfolding builtTrees
 trees-more shape link k = rw add-one refl
 
 -- bs is the buffer with the header in it
-module _ (shape : ℕ) (link : ℕ → ℕ → Link) (K : ℕ) (bs : List ℕ) where
+module _ (shape : ℕ) (link : ℕ → ℕ → NewLink) (K : ℕ) (bs : List ℕ) where
   pub built-start : bs ≡ splice bs meshHeader (builtTrees shape link 0)
   unfolding builtTrees
   built-start = sym (splice-none bs meshHeader)

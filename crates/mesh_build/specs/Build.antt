@@ -13,17 +13,17 @@ use Rattle.records.specs.Links.{withRows}
 use Rattle.mesh.specs.Mesh.{meshSound}
 
 -- the link of a face: the neighbour across it, the neighbour's face, and the orientation
-pub record Link : Type 0 where
+pub record NewLink : Type 0 where
   pub neighbour : ℕ
   pub face : ℕ
   pub orientation : ℕ
 
 -- the row of face f in a record of the shape: its link, or the mark of a face that the shape doesn't have
-unfoldable pub faceRow : ℕ → (ℕ → Link) → ℕ → List ℕ
+unfoldable pub faceRow : ℕ → (ℕ → NewLink) → ℕ → List ℕ
 faceRow shape link f = cond (ltb f (faceCount shape)) (link f .neighbour ∷ link f .face ∷ link f .orientation ∷ []) (unused ∷ 0 ∷ 0 ∷ [])
 
 -- the six rows
-unfoldable pub treeRows : ℕ → (ℕ → Link) → List (List ℕ)
+unfoldable pub treeRows : ℕ → (ℕ → NewLink) → List (List ℕ)
 treeRows shape link = faceRow shape link 0 ∷ faceRow shape link 1 ∷ faceRow shape link 2 ∷ faceRow shape link 3 ∷ faceRow shape link 4 ∷ faceRow shape link 5 ∷ []
 
 -- a core record of that number, shape and rows; every other byte is 0, so its region is 0
@@ -39,7 +39,7 @@ unfoldable pub newHeader : ℕ → ℕ → List ℕ
 newHeader shape K = leBytes 4 (dimensionOf shape) ++ leBytes 4 K
 
 -- every tree has the shape; link k f is the link of face f of tree k
-module _ (shape : ℕ) (link : ℕ → ℕ → Link) where
+module _ (shape : ℕ) (link : ℕ → ℕ → NewLink) where
   -- the records of the trees below n
   unfoldable pub builtTrees : ℕ → List ℕ
   builtTrees zero = []
@@ -67,4 +67,4 @@ module _ (shape : ℕ) (link : ℕ → ℕ → Link) where
 
 -- such a mesh is sound
 abbrev pub BuiltSound : Type 0
-BuiltSound = (shape : ℕ) (link : ℕ → ℕ → Link) (K : ℕ) → LinksFit shape link K → meshSound (builtMesh shape link K) ≡ true
+BuiltSound = (shape : ℕ) (link : ℕ → ℕ → NewLink) (K : ℕ) → LinksFit shape link K → meshSound (builtMesh shape link K) ≡ true

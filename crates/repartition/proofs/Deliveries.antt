@@ -25,16 +25,17 @@ use Rattle.area.specs.Deliver.{deliverOf}
 use Rattle.area.specs.Open.{freshArea}
 use Rattle.area.proofs.Soundness.{filled-few}
 use Rattle.area_open.specs.Calls.{openChecks, openAreaOf}
+use Rattle.deliver_all.specs.Messages.{areaAfterEach}
 use Rattle.area_theorems.proofs.Sound.{fresh-sound}
 use Rattle.area_theorems.proofs.Again.{area-parts}
 use Rattle.area_theorems.proofs.Deliveries.{fresh-bytes, deliver-bytes, deliver-sound}
 use Rattle.repartition.specs.Lists.{AllIn}
-use Rattle.repartition.specs.Deliveries.{afterDeliveries, GhostsFit, EnoughSlots}
+use Rattle.repartition.specs.Deliveries.{GhostsFit, EnoughSlots}
 use Rattle.repartition.proofs.Refusals.{refusal-is}
 
 -- a list of deliveries keeps a sound area of bytes sound
-after-sound : (ms : List (List ℕ)) (a : List ℕ) → Bytes a → areaSound a ≡ true → AllIn Bytes ms → areaSound (afterDeliveries a ms) ≡ true
-unfolding afterDeliveries AllIn
+after-sound : (ms : List (List ℕ)) (a : List ℕ) → Bytes a → areaSound a ≡ true → AllIn Bytes ms → areaSound (areaAfterEach a ms) ≡ true
+unfolding areaAfterEach AllIn
 after-sound [] a b s all = s
 after-sound (m ∷ ms) a b s all = after-sound ms (deliverOf a m .1) (deliver-bytes a m b (all .0)) (deliver-sound a m b s) (all .1)
 
@@ -98,8 +99,8 @@ module _ (old new : List ℕ) (rank dimension epoch : ℕ) (out : List ℕ) (bO 
   opened-bytes i =
       rw opened-is (fresh-bytes old new rank dimension epoch tail bO bN (λ j. rw getD-drop (bT (length (freshArea old new rank dimension epoch) + j))) i)
 
-  enough : (ms : List (List ℕ)) → AllIn Bytes ms → GhostsFit (afterDeliveries (openAreaOf old new rank dimension epoch out .1) ms)
-  enough ms all = sound-fits (afterDeliveries (openAreaOf old new rank dimension epoch out .1) ms) (after-sound ms (openAreaOf old new rank dimension epoch out .1) opened-bytes opened-sound all)
+  enough : (ms : List (List ℕ)) → AllIn Bytes ms → GhostsFit (areaAfterEach (openAreaOf old new rank dimension epoch out .1) ms)
+  enough ms all = sound-fits (areaAfterEach (openAreaOf old new rank dimension epoch out .1) ms) (after-sound ms (openAreaOf old new rank dimension epoch out .1) opened-bytes opened-sound all)
 
 pub enough-slots : EnoughSlots
 enough-slots old new rank dimension epoch out bO bN bT small accepted ms all = enough old new rank dimension epoch out bO bN bT small accepted ms all

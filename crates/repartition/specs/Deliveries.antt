@@ -2,18 +2,13 @@
 use Prim.Native.Nat.{ℕ, _*_, _^_, _≤_, _<_}
 use mathlib.Core.Bool.{true}
 use mathlib.Core.Path.{_≡_}
-use mathlib.Core.List.{List, [], _∷_}
+use mathlib.Core.List.{List}
 use Rattle.encoding.specs.Pieces.{Bytes}
 use Rattle.records.specs.Shape.{facesIn}
 use Rattle.area_open.specs.Calls.{openAreaOf}
 use Rattle.area.specs.Area.{areaDimension, areaCount, areaGhosts, filledSlots, areaSound}
-use Rattle.area.specs.Deliver.{deliverOf}
+use Rattle.deliver_all.specs.Messages.{areaAfterEach}
 use Rattle.repartition.specs.Lists.{AllIn}
-
--- the area after a list of deliveries, each on the area as the last one left it; a refused one leaves it
-unfoldable pub afterDeliveries : List ℕ → List (List ℕ) → List ℕ
-afterDeliveries a [] = a
-afterDeliveries a (m ∷ ms) = afterDeliveries (deliverOf a m .1) ms
 
 -- a sound area with at most F ghosts for each filled tree slot, and so at most F × n
 pub record GhostsFit (a : List ℕ) : Type 0 where
@@ -26,4 +21,4 @@ abbrev pub EnoughSlots : Type 0
 EnoughSlots =
     (old new : List ℕ) (rank dimension epoch : ℕ) (out : List ℕ) → Bytes old → Bytes new → Bytes out → epoch < 2 ^ 32
     → openAreaOf old new rank dimension epoch out .0 .refusal ≡ 0
-    → (ms : List (List ℕ)) → AllIn Bytes ms → GhostsFit (afterDeliveries (openAreaOf old new rank dimension epoch out .1) ms)
+    → (ms : List (List ℕ)) → AllIn Bytes ms → GhostsFit (areaAfterEach (openAreaOf old new rank dimension epoch out .1) ms)

@@ -8,7 +8,7 @@ use mathlib.Core.List.{List, [], _∷_}
 use lib.Dec.{leb, ltb, eqb}
 use lib.ListN.{length, take, drop, set, length-set}
 use borrow.Author.Tests.{ltb-true, ltb-false, eqb-true, le-leb, lt-leb}
-use Rattle.encoding.specs.Answer.{written}
+use Rattle.encoding.specs.Answer.{written, countAnswer}
 use Rattle.encoding.specs.Pieces.{splice, Bytes}
 use Rattle.encoding.specs.Refusal.{firstFailed}
 use Rattle.encoding.proofs.Below.{either, clash}
@@ -114,7 +114,7 @@ or-true false = refl
 
 module _ (a bs answers : List ℕ) {s : Bool} (is-s : s ≡ areaSound a) where
   pub all-unsound : s ≡ false → (record { refusal = 10; count = 0 }, (a, answers)) ≡ deliverAllOf a bs answers
-  unfolding deliverAllOf deliverAllCount deliverAllArea deliverAllRefusal written firstFailed
+  unfolding deliverAllOf deliverAllCount countAnswer deliverAllArea deliverAllRefusal written firstFailed
   all-unsound f = rw (← is-s, f)
 
   module _ (ok : s ≡ true) {n : ℕ} (is-n : n ≡ length (messagesIn bs)) where
@@ -125,7 +125,7 @@ module _ (a bs answers : List ℕ) {s : Bool} (is-s : s ≡ areaSound a) where
     fits = rw (← is-n) (room-is n (length answers) maxMessages)
 
     pub all-short : short ≡ true → (record { refusal = 22; count = 0 }, (a, answers)) ≡ deliverAllOf a bs answers
-    unfolding deliverAllOf deliverAllCount deliverAllArea deliverAllRefusal written firstFailed
+    unfolding deliverAllOf deliverAllCount countAnswer deliverAllArea deliverAllRefusal written firstFailed
     all-short t = rw (← is-s, ok, fits, t)
 
     pub all-receivable : short ≡ false → Receivable a bs answers
@@ -135,5 +135,5 @@ module _ (a bs answers : List ℕ) {s : Bool} (is-s : s ≡ areaSound a) where
     all-small t = either (ltb maxMessages n) (λ u. clash {b = short} (rw u (or-true (ltb (length answers) n))) t) (λ u. ltb-false maxMessages n u)
 
     pub all-done : {a' answers' : List ℕ} → short ≡ false → Received a bs answers a' answers' → (record { refusal = 0; count = n }, (a', answers')) ≡ deliverAllOf a bs answers
-    unfolding deliverAllOf deliverAllCount deliverAllArea deliverAllRefusal written firstFailed
+    unfolding deliverAllOf deliverAllCount countAnswer deliverAllArea deliverAllRefusal written firstFailed
     all-done t R = rw (← is-s, ok, fits, t, R .area, R .told, is-n)

@@ -7,21 +7,21 @@ use mathlib.Core.List.{List, [], _∷_}
 use lib.Dec.{ltb, leb}
 use lib.ListN.{length}
 use borrow.Author.Tests.{le-leb, lt-leb, ne-eqb}
-use Rattle.encoding.specs.Answer.{written}
+use Rattle.encoding.specs.Answer.{written, countRefused, countAnswer}
 use Rattle.encoding.specs.Below.{countBelow}
 use Rattle.encoding.specs.Pieces.{splice}
 use Rattle.encoding.specs.Refusal.{Check, check, firstFailed}
+use Rattle.encoding.specs.declared.answer.Count.{Count}
 use Rattle.encoding.proofs.Below.{clash, kept-length}
 use Rattle.offsets.specs.Table.{ranks, ranksOk, valid}
 use Rattle.part.specs.Part.{partCount, partSound}
 use Rattle.part.specs.Checks.{rankChecks}
 use Rattle.part_check.specs.Calls.{partRefusal}
 use Rattle.part_theorems.proofs.SoundParts.{part-length}
-use Rattle.probes.specs.declared.Listed.{Listed}
 use Rattle.probes.specs.declared.Probe.{Probe}
 use Rattle.probes.specs.declared.list.Seen.{Seen}
 use Rattle.probes.specs.Probes.{boxesOk, probeOk, meets, treesMet}
-use Rattle.probes.specs.Calls.{nearRefusal, listedRefused, listedAnswer, treesNear}
+use Rattle.probes.specs.Calls.{nearRefusal, treesNear}
 use Rattle.probes.specs.Means.{Surveyable, surveyOf, Listable}
 
 -- ---- the checks of a part, with more behind them
@@ -78,12 +78,12 @@ met-length part probe = kept-length (partCount part) (meets probe part)
 
 module _ (part table : List ℕ) (rank : ℕ) (probe : Probe) (out : List ℕ) where
   -- refused by the number n
-  refused-is : {n : ℕ} {a : Listed} → n ≡ nearRefusal part table rank probe out → (n ≡ 0 → ⊥) → a ≡ listedRefused n → (a, out) ≡ treesNear part table rank probe out
-  unfolding treesNear listedAnswer written
+  refused-is : {n : ℕ} {a : Count} → n ≡ nearRefusal part table rank probe out → (n ≡ 0 → ⊥) → a ≡ countRefused n → (a, out) ≡ treesNear part table rank probe out
+  unfolding treesNear countAnswer written
   refused-is {n} {a} e h q = rw (q, ← e, ne-eqb n 0 h)
 
   module _ {r : ℕ} (checked : r ≡ partRefusal part table rank) where
-    pub near-part : {a : Listed} → (r ≡ 0 → ⊥) → a ≡ listedRefused r → (a, out) ≡ treesNear part table rank probe out
+    pub near-part : {a : Count} → (r ≡ 0 → ⊥) → a ≡ countRefused r → (a, out) ≡ treesNear part table rank probe out
     near-part h q = refused-is (part-first part table rank probe out checked h) h q
 
     module _ (ok : r ≡ 0) {p : Bool} (is : p ≡ probeOk probe) where
@@ -93,7 +93,7 @@ module _ (part table : List ℕ) (rank : ℕ) (probe : Probe) (out : List ℕ) w
       refusal-is : nearRefusal part table rank probe out ≡ cond (probeOk probe) (cond (boxesOk part) (cond (leb (length (treesMet part probe)) (length out)) 0 22) 32) 31
       refusal-is = part-then part table rank probe out (sym checked ∙ ok) .1
 
-      pub near-probe : {a : Listed} → p ≡ false → a ≡ listedRefused 31 → (a, out) ≡ treesNear part table rank probe out
+      pub near-probe : {a : Count} → p ≡ false → a ≡ countRefused 31 → (a, out) ≡ treesNear part table rank probe out
       near-probe h q = refused-is (sym (refusal-is ∙ rw (← is, h))) (λ e. omega arith) q
 
       module _ (good : p ≡ true) where
@@ -101,14 +101,14 @@ module _ (part table : List ℕ) (rank : ℕ) (probe : Probe) (out : List ℕ) w
         surveyable = record { fits = omega (arith, part-length part table rank part-sound); probe-sound = sym is ∙ good }
 
         module _ {s : Seen} (seen : s ≡ surveyOf part probe) where
-          pub near-box : {a : Listed} → s .sound ≡ false → a ≡ listedRefused 32 → (a, out) ≡ treesNear part table rank probe out
+          pub near-box : {a : Count} → s .sound ≡ false → a ≡ countRefused 32 → (a, out) ≡ treesNear part table rank probe out
           near-box h q = refused-is (sym (refusal-is ∙ rw (← is, good, ← boxes-seen part probe seen, h))) (λ e. omega arith) q
 
           module _ (sound : s .sound ≡ true) where
             count-is : length (treesMet part probe) ≡ s .met
             count-is = met-length part probe ∙ sym (trees-seen part probe seen sound)
 
-            pub near-short : {a : Listed} → length out < s .met → a ≡ listedRefused 22 → (a, out) ≡ treesNear part table rank probe out
+            pub near-short : {a : Count} → length out < s .met → a ≡ countRefused 22 → (a, out) ≡ treesNear part table rank probe out
             near-short h q =
                 refused-is
                 (sym (refusal-is ∙ rw (← is, good, ← boxes-seen part probe seen, sound, count-is, lt-leb (s .met) (length out) h)))
@@ -128,5 +128,5 @@ module _ (part table : List ℕ) (rank : ℕ) (probe : Probe) (out : List ℕ) w
               accepted = refusal-is ∙ rw (← is, good, ← boxes-seen part probe seen, sound, count-is, le-leb (s .met) (length out) room)
 
               pub near-listed : {last : List ℕ} → last ≡ splice out 0 (treesMet part probe) → (record { refusal = 0; count = s .met }, last) ≡ treesNear part table rank probe out
-              unfolding treesNear listedAnswer written
+              unfolding treesNear countAnswer written
               near-listed e = rw (accepted, count-is, e)

@@ -10,7 +10,7 @@ use lib.Ieee.{Float, nan, inf, fin, up, down, below, level, binary32, le, lt, eq
 use lib.ListN.{length, getD, take}
 use lib.Seq.{getD-take}
 use borrow.Author.Tests.{eqb-true, leb-true, le-leb, le-ltb}
-use Rattle.encoding.specs.Answer.{written}
+use Rattle.encoding.specs.Answer.{written, countAnswer}
 use Rattle.encoding.specs.Below.{member}
 use Rattle.encoding.specs.Pieces.{splice}
 use Rattle.encoding.specs.Refusal.{firstFailed}
@@ -22,7 +22,7 @@ use Rattle.part.specs.Checks.{rankChecks}
 use Rattle.part_theorems.proofs.SoundParts.{part-header}
 use Rattle.probes.specs.declared.Probe.{Probe}
 use Rattle.probes.specs.Probes.{boxesOk, probeOk, meets, treesMet}
-use Rattle.probes.specs.Calls.{nearRefusal, listedAnswer, treesNear}
+use Rattle.probes.specs.Calls.{nearRefusal, treesNear}
 use Rattle.probes.specs.Theorems.{Lists, ListsTreesMet, EnoughEntries, ZerosAlike}
 
 -- ---- the checks of an accepted call, and of one whose list is too short
@@ -51,8 +51,8 @@ seven-short true false d s p x l e = absurd (omega arith)
 seven-short false b d s p x l e = absurd (omega arith)
 
 -- the answer's refusal is the first check that fails
-answer-refusal : (r n : ℕ) → listedAnswer r n .refusal ≡ r
-unfolding listedAnswer
+answer-refusal : (r n : ℕ) → countAnswer r n .refusal ≡ r
+unfolding countAnswer
 answer-refusal r n = either (eqb r 0) (λ p. rw p (sym (eqb-true r 0 p))) (λ p. rw p)
 
 module _ (part table : List ℕ) (rank : ℕ) (probe : Probe) (out : List ℕ) where
@@ -87,7 +87,7 @@ module _ (part table : List ℕ) (rank : ℕ) (probe : Probe) (out : List ℕ) w
     room = leb-true _ _ (accepted e .1)
 
     count-written : treesNear part table rank probe out .0 .count ≡ length met
-    unfolding treesNear listedAnswer
+    unfolding treesNear countAnswer
     count-written = rw e
 
     list-written : treesNear part table rank probe out .1 ≡ splice out 0 met

@@ -1,14 +1,13 @@
 -- What the call answers, refusals included, and what it leaves in the lent list.
 use Prim.Native.Nat.{ℕ}
-use mathlib.Core.Bool.{cond}
 use mathlib.Core.List.{List, [], _∷_, _++_}
-use lib.Dec.{leb, eqb}
+use lib.Dec.{leb}
 use lib.ListN.{length}
-use Rattle.encoding.specs.Answer.{written}
+use Rattle.encoding.specs.Answer.{written, countAnswer}
 use Rattle.encoding.specs.Refusal.{check, firstFailed}
+use Rattle.encoding.specs.declared.answer.Count.{Count}
 use Rattle.part.specs.Part.{partSound}
 use Rattle.part.specs.Checks.{rankChecks}
-use Rattle.probes.specs.declared.Listed.{Listed}
 use Rattle.probes.specs.declared.Probe.{Probe}
 use Rattle.probes.specs.Probes.{boxesOk, probeOk, treesMet}
 
@@ -23,15 +22,7 @@ nearRefusal part table rank probe out =
     ∷ check (leb (length (treesMet part probe)) (length out)) 22
     ∷ []))
 
--- the refusal alone
-abbrev pub listedRefused : ℕ → Listed
-listedRefused refusal = record { refusal = refusal; count = 0 }
-
--- how many are listed, or the refusal alone
-unfoldable pub listedAnswer : ℕ → ℕ → Listed
-listedAnswer refusal n = cond (eqb refusal 0) (record { refusal = 0; count = n }) (listedRefused refusal)
-
 -- the answer, and the list: the trees met and the entries behind them, or as it was
-unfoldable pub treesNear : List ℕ → List ℕ → ℕ → Probe → List ℕ → Listed × List ℕ
+unfoldable pub treesNear : List ℕ → List ℕ → ℕ → Probe → List ℕ → Count × List ℕ
 treesNear part table rank probe out =
-    (listedAnswer (nearRefusal part table rank probe out) (length (treesMet part probe)), written (nearRefusal part table rank probe out) (treesMet part probe) out)
+    (countAnswer (nearRefusal part table rank probe out) (length (treesMet part probe)), written (nearRefusal part table rank probe out) (treesMet part probe) out)

@@ -8,19 +8,19 @@ use mathlib.Core.List.{List, [], _∷_}
 use lib.Dec.{leb, eqb}
 use lib.ListN.{length, getD, take, drop, set, length-append, length-set}
 use borrow.Author.Tests.{lt-leb, le-leb, eq-eqb, ne-eqb, leb-true, eqb-true}
-use Rattle.encoding.specs.Answer.{written}
+use Rattle.encoding.specs.Answer.{written, countRefused, countAnswer}
 use Rattle.encoding.specs.Refusal.{firstFailed}
+use Rattle.encoding.specs.declared.answer.Count.{Count}
 use Rattle.encoding.specs.Below.{allBelow, sumBelow}
 use Rattle.encoding.specs.Pieces.{piece, splice}
 use Rattle.encoding.proofs.Below.{either, and-fst, and-snd, all-at, all-more, all-fails, sum-more, sum-mono}
 use Rattle.encoding.proofs.Pieces.{splice-none, splice-cons, splice-next, length-splice}
 use Rattle.leaves.specs.Leaves.{maxLeaves}
 use Rattle.offsets.specs.Limits.{treeCountOk}
-use Rattle.refinement.specs.declared.Count.{Count}
 use Rattle.refinement.specs.declared.trees.Seen.{Seen}
 use Rattle.refinement.specs.declared.walk.TreeLeaves.{TreeLeaves}
 use Rattle.refinement.specs.Reading.{stringOk}
-use Rattle.refinement.specs.Calls.{treeLeaves, listBelow, stringStart, stringOf, treesOk, shapesOk, stringsOk, countOf, countsFit, countList, countsRefusal, countRefused, countAnswer, leafCounts}
+use Rattle.refinement.specs.Calls.{treeLeaves, listBelow, stringStart, stringOf, treesOk, shapesOk, stringsOk, countOf, countsFit, countList, countsRefusal, leafCounts}
 use Rattle.refinement.specs.Means.Trees.{treeOf, seenOf, Walkable}
 use Rattle.refinement.proofs.Counts.{tree-ok, tree-count}
 

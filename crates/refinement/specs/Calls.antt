@@ -4,13 +4,13 @@ use mathlib.Core.Bool.{Bool, cond, _&&_}
 use mathlib.Core.List.{List, [], _∷_, _++_}
 use lib.Dec.{leb, eqb}
 use lib.ListN.{length, getD}
-use Rattle.encoding.specs.Answer.{written}
+use Rattle.encoding.specs.Answer.{written, countAnswer}
 use Rattle.encoding.specs.Below.{allBelow, sumBelow}
 use Rattle.encoding.specs.Pieces.{piece}
 use Rattle.encoding.specs.Refusal.{check, firstFailed}
+use Rattle.encoding.specs.declared.answer.Count.{Count}
 use Rattle.leaves.specs.Leaves.{maxLeaves}
 use Rattle.offsets.specs.Limits.{treeCountOk}
-use Rattle.refinement.specs.declared.Count.{Count}
 use Rattle.refinement.specs.declared.Leaves.{Leaves}
 use Rattle.refinement.specs.Refinement.{upright, inverted, refinable, leaves}
 use Rattle.refinement.specs.Reading.{stringOk, refinementOf}
@@ -86,13 +86,6 @@ countsRefusal shapes lengths bits out =
     ∷ check (countsFit shapes lengths bits) 25
     ∷ check (leb (length shapes) (length out)) 22
     ∷ [])
-
--- the refusal alone
-abbrev pub countRefused : ℕ → Count
-countRefused refusal = record { refusal = refusal; count = 0 }
-
-unfoldable pub countAnswer : ℕ → ℕ → Count
-countAnswer refusal n = cond (eqb refusal 0) (record { refusal = 0; count = n }) (countRefused refusal)
 
 unfoldable pub leafCounts : List ℕ → List ℕ → List ℕ → List ℕ → Count × List ℕ
 leafCounts shapes lengths bits out =

@@ -1,6 +1,8 @@
 // Leaf counts from refinement strings.
 ghost use mathlib.Core.Path.{_≡_};
-ghost use Rattle.refinement.specs.Calls.{countLeaves, leavesRefused, leafCounts, countRefused};
+ghost use Rattle.refinement.specs.Calls.{countLeaves, leavesRefused, leafCounts};
+use encoding::answer::Count;
+use encoding::answer::count_refused;
 
 mod trees;
 mod walk;
@@ -14,13 +16,6 @@ pub struct Leaves {
     pub leaves: u32,
 }
 
-// How many numbers a call wrote. When refused, `refusal` is the number of the first check that failed and the rest is 0.
-#[repr(C)]
-pub struct Count {
-    pub refusal: u32,
-    pub count: u32,
-}
-
 fn leaves_refused(refusal: u32) -> Leaves
     ensures { λ r. ⌜ r ≡ leavesRefused refusal ⌝ }
 {
@@ -30,12 +25,6 @@ fn leaves_refused(refusal: u32) -> Leaves
         inverted: 0,
         leaves: 0,
     }
-}
-
-fn count_refused(refusal: u32) -> Count
-    ensures { λ r. ⌜ r ≡ countRefused refusal ⌝ }
-{
-    Count { refusal, count: 0 }
 }
 
 // Count the leaves of a tree's refinement, given by its string (24, 23, 25).

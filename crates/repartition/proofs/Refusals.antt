@@ -10,7 +10,7 @@ use lib.Seq.{take-at}
 use borrow.Author.Tests.{eqb-true, eq-eqb, not-false}
 use Rattle.build_all.specs.Calls.{messagesAnswer, buildAllRefusal, buildAllOf}
 use Rattle.deliver_all.specs.Calls.{deliverAllRefusal, deliverAllCount, deliverAllArea, deliverAllOf}
-use Rattle.encoding.specs.Answer.{lengthAnswer, written, writeAnswer}
+use Rattle.encoding.specs.Answer.{lengthAnswer, countAnswer, written, writeAnswer}
 use Rattle.encoding.specs.Below.{allBelow}
 use Rattle.encoding.specs.Pieces.{splice}
 use Rattle.encoding.specs.Refusal.{firstFailed}
@@ -19,10 +19,10 @@ use Rattle.offsets.specs.Table.{ranks, ranksOk, trees, valid}
 use Rattle.offsets_write.specs.Calls.{writeTable}
 use Rattle.leaves.specs.Calls.{tableFromLeaves, tableFromWeights, tableFromBlocks}
 use Rattle.plan_text.specs.Plan.{planAnswer, planOutputAnswer}
-use Rattle.refinement.specs.Calls.{countAnswer, leafCounts}
+use Rattle.refinement.specs.Calls.{leafCounts}
 use Rattle.ele_mesh.specs.Calls.{importTriangle}
 use Rattle.regions.specs.Calls.{regionCountsOf}
-use Rattle.probes.specs.Calls.{listedRefused, listedAnswer, treesNear}
+use Rattle.probes.specs.Calls.{treesNear}
 use Rattle.columns.specs.Calls.{partToColumns, columnsToPart}
 use Rattle.brick.specs.Calls.{writeBrickOf}
 use Rattle.pattern.specs.Sets.{sendsTo}
@@ -62,13 +62,6 @@ refused-counts refusal n counts out declined =
     (λ e. absurd (declined (rw e)))
     (λ e. rw e (refl, refl))
 
-refused-listed : (refusal n : ℕ) (list out : List ℕ) → (listedAnswer refusal n .refusal ≡ 0 → ⊥) → (listedAnswer refusal n .count ≡ 0) × (written refusal list out ≡ out)
-unfolding listedAnswer written
-refused-listed refusal n list out declined =
-    either (eqb refusal 0)
-    (λ e. absurd (declined (rw e)))
-    (λ e. rw e (refl, refl))
-
 refused-list : (refusal : ℕ) (counts out : List ℕ) → (refusal ≡ 0 → ⊥) → written refusal counts out ≡ out
 unfolding written
 refused-list refusal counts out declined = either (eqb refusal 0) (λ e. absurd (declined (eqb-true refusal 0 e))) (λ e. rw e)
@@ -83,7 +76,7 @@ refused-build-all part old new p epoch out declined =
 
 refused-deliver-all : (area bs answers : List ℕ) → (deliverAllOf area bs answers .0 .refusal ≡ 0 → ⊥)
     → (deliverAllOf area bs answers .0 .count ≡ 0) × (deliverAllOf area bs answers .1 .0 ≡ area) × (deliverAllOf area bs answers .1 .1 ≡ answers)
-unfolding deliverAllOf deliverAllCount deliverAllArea written
+unfolding deliverAllOf deliverAllCount countAnswer deliverAllArea written
 refused-deliver-all area bs answers declined =
     either (eqb (deliverAllRefusal area bs answers) 0)
     (λ e. absurd (declined (rw e)))
@@ -119,7 +112,7 @@ refused-unchanged =
       leaf-counts = λ shapes lengths bits out. refused-counts _ _ _ out;
       import-triangle = λ text out. refused-writes _ _ out;
       region-counts = λ part table rank out. refused-list _ _ out;
-      trees-near = λ part table rank probe out. refused-listed _ _ _ out;
+      trees-near = λ part table rank probe out. refused-counts _ _ _ out;
       part-to-columns = λ part table rank out. refused-writes _ _ out;
       columns-to-part = λ file table rank out. refused-writes _ _ out;
     }

@@ -8,7 +8,7 @@ use mathlib.Core.List.{List, [], _∷_, _++_, append-assoc}
 use lib.Dec.{leb, eqb}
 use lib.ListN.{length, take, drop, length-append}
 use lib.Seq.{take-at, drop-at}
-use Rattle.encoding.specs.Answer.{written}
+use Rattle.encoding.specs.Answer.{written, countAnswer}
 use Rattle.encoding.specs.Numbers.{leValue, leAt}
 use Rattle.encoding.specs.Pieces.{splice}
 use Rattle.encoding.specs.Refusal.{firstFailed}
@@ -87,7 +87,7 @@ module _ (a bs answers : List ℕ) (ms : List (List ℕ)) (sound : areaSound a �
     all-area = rw (refusal-is, t, parted)
 
     pub all-told : take (deliverAllOf a bs answers .0 .count) (deliverAllOf a bs answers .1 .1) ≡ answersOfEach a ms
-    unfolding deliverAllOf deliverAllCount written
+    unfolding deliverAllOf deliverAllCount countAnswer written
     all-told =
         rw (refusal-is, t, parted)
         (ap (λ (n : ℕ). take n (splice answers 0 (answersOfEach a ms))) (sym (answers-count a ms) ∙ sym (zero-add (length (answersOfEach a ms))))
@@ -99,7 +99,7 @@ module _ (a bs answers : List ℕ) (ms : List (List ℕ)) (sound : areaSound a �
     none-area = rw (refusal-is, t)
 
     pub none-told : take (deliverAllOf a bs answers .0 .count) (deliverAllOf a bs answers .1 .1) ≡ []
-    unfolding deliverAllOf deliverAllCount written
+    unfolding deliverAllOf deliverAllCount countAnswer written
     none-told = rw (refusal-is, t)
 
 -- ---- lists of single calls

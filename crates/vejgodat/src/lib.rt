@@ -27,7 +27,7 @@ ghost use Rattle.part_fault.specs.Calls.{partFaultOf};
 ghost use Rattle.columns.specs.Calls.{partToColumns, columnsToPart};
 use area_open::Progress;
 use build_all::Messages;
-use deliver_all::MessageCount;
+use encoding::answer::Count;
 use encoding::answer::Length;
 use faults::answer::Fault;
 use lookup::Found;
@@ -35,11 +35,9 @@ use offsets::Range;
 use part_neighbour::link::NeighbourAnswer;
 use pattern::Ranks;
 use pattern::SenderAnswer;
-use probes::Listed;
 use probes::Probe;
 use records::index::GlobalIndex;
 use records::index::LocalIndex;
-use refinement::Count;
 use refinement::Leaves;
 
 // 10000 major + 100 minor + patch
@@ -300,7 +298,7 @@ pub extern "C" fn vejgodat_deliver_all(
     area: &mut [u8],
     messages: &[u8],
     answers: &mut [u32],
-) -> MessageCount
+) -> Count
     ensures { λ r. ⌜ (r, (now (area .exit), now (answers .exit))) ≡ deliverAllOf (now (area .entry)) (now (messages .entry)) (now (answers .entry)) ⌝ }
 {
     deliver_all::deliver_all(area, messages, answers)
@@ -414,7 +412,7 @@ pub extern "C" fn vejgodat_trees_at_point(
     y: f32,
     z: f32,
     out: &mut [u32],
-) -> Listed
+) -> Count
     ensures { λ r. ⌜ (r, now (out .exit)) ≡ treesNear (now (part .entry)) (now (table .entry)) rank (Probe.Point x y z) (now (out .entry)) ⌝ }
 {
     probes::trees_near(part, table, rank, Probe::Point(x, y, z), out)
@@ -428,7 +426,7 @@ pub extern "C" fn vejgodat_trees_below(
     axis: u32,
     limit: f32,
     out: &mut [u32],
-) -> Listed
+) -> Count
     ensures { λ r. ⌜ (r, now (out .exit)) ≡ treesNear (now (part .entry)) (now (table .entry)) rank (Probe.HalfSpace axis limit) (now (out .entry)) ⌝ }
 {
     probes::trees_near(part, table, rank, Probe::HalfSpace(axis, limit), out)
@@ -443,7 +441,7 @@ pub extern "C" fn vejgodat_trees_between(
     lower: f32,
     upper: f32,
     out: &mut [u32],
-) -> Listed
+) -> Count
     ensures { λ r. ⌜ (r, now (out .exit)) ≡ treesNear (now (part .entry)) (now (table .entry)) rank (Probe.Slab axis lower upper) (now (out .entry)) ⌝ }
 {
     probes::trees_near(part, table, rank, Probe::Slab(axis, lower, upper), out)

@@ -7,17 +7,17 @@ use Rattle.probes.proofs.trees_near.Tie as tie
 check-part-requires : tie.Need-check-part-requires
 check-part-requires c κs = search needs
 
-refused-requires : tie.Need-refused-requires
-refused-requires c κs = search needs
+count-refused-requires : tie.Need-count-refused-requires
+count-refused-requires c κs = search needs
 
 returns : tie.Need-returns
-returns c = near-part _ _ _ _ _ (c .before .before .check-part .ensures) (c .before .if1 .taken) (c .refused .ensures)
+returns c = near-part _ _ _ _ _ (c .before .before .check-part .ensures) (c .before .if1 .taken) (c .count-refused .ensures)
 
 probe-ok-requires : tie.Need-probe-ok-requires
 probe-ok-requires c κs = search needs
 
-refused-requires-2 : tie.Need-refused-requires-2
-refused-requires-2 c κs = search needs
+count-refused-requires-2 : tie.Need-count-refused-requires-2
+count-refused-requires-2 c κs = search needs
 
 returns-2 : tie.Need-returns-2
 returns-2 c =
@@ -25,7 +25,7 @@ returns-2 c =
     let if1 = c .before .before .before .if1 in
     let probe-ok = c .before .before .probe-ok in
     let if2 = c .before .if2 in
-    near-probe _ _ _ _ _ (check-part .ensures) (if1 .left) (probe-ok .ensures) (not-true _ (if2 .taken)) (c .refused2 .ensures)
+    near-probe _ _ _ _ _ (check-part .ensures) (if1 .left) (probe-ok .ensures) (not-true _ (if2 .taken)) (c .count-refused2 .ensures)
 
 survey-requires : tie.Need-survey-requires
 survey-requires c κs =
@@ -35,8 +35,8 @@ survey-requires c κs =
     let probe-ok = c .before .probe-ok in
     surveyable _ _ _ _ (args .out .now) (check-part .ensures) (if1 .left) (probe-ok .ensures) (not-false _ (c .if2 .left))
 
-refused-requires-3 : tie.Need-refused-requires-3
-refused-requires-3 c κs = search needs
+count-refused-requires-3 : tie.Need-count-refused-requires-3
+count-refused-requires-3 c κs = search needs
 
 returns-3 : tie.Need-returns-3
 returns-3 c =
@@ -46,13 +46,13 @@ returns-3 c =
     let if2 = c .before .before .before .before .if2 in
     let survey = c .before .before .before .survey in
     let if3 = c .before .if3 in
-    near-box _ _ _ _ _ (check-part .ensures) (if1 .left) (probe-ok .ensures) (not-false _ (if2 .left)) (survey .ensures) (not-true _ (if3 .taken)) (c .refused3 .ensures)
+    near-box _ _ _ _ _ (check-part .ensures) (if1 .left) (probe-ok .ensures) (not-false _ (if2 .left)) (survey .ensures) (not-true _ (if3 .taken)) (c .count-refused3 .ensures)
 
 cast-if4 : tie.Need-cast-if4
 cast-if4 c = search needs
 
-refused-requires-4 : tie.Need-refused-requires-4
-refused-requires-4 c κs = search needs
+count-refused-requires-4 : tie.Need-count-refused-requires-4
+count-refused-requires-4 c κs = search needs
 
 returns-4 : tie.Need-returns-4
 returns-4 c =
@@ -63,7 +63,7 @@ returns-4 c =
     let survey = c .before .before .before .before .survey in
     let if3 = c .before .before .if3 in
     let if4 = c .before .if4 in
-    near-short _ _ _ _ _ (check-part .ensures) (if1 .left) (probe-ok .ensures) (not-false _ (if2 .left)) (survey .ensures) (not-false _ (if3 .left)) (if4 .taken) (c .refused4 .ensures)
+    near-short _ _ _ _ _ (check-part .ensures) (if1 .left) (probe-ok .ensures) (not-false _ (if2 .left)) (survey .ensures) (not-false _ (if3 .left)) (if4 .taken) (c .count-refused4 .ensures)
 
 write-requires : tie.Need-write-requires
 write-requires c κs =
@@ -96,16 +96,16 @@ trees-near-spec =
     tie.close
     (tie.spec
     check-part-requires
-    refused-requires
+    count-refused-requires
     returns
     probe-ok-requires
-    refused-requires-2
+    count-refused-requires-2
     returns-2
     survey-requires
-    refused-requires-3
+    count-refused-requires-3
     returns-3
     cast-if4
-    refused-requires-4
+    count-refused-requires-4
     returns-4
     write-requires
     same-length

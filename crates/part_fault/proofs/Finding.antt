@@ -10,7 +10,7 @@ use borrow.Author.Tests.{ltb-true, ltb-false, lt-ltb, le-ltb, eq-eqb, ne-eqb}
 use Rattle.encoding.specs.Below.{anyBelow, leastBelow}
 use Rattle.encoding.specs.Pieces.{piece}
 use Rattle.encoding.specs.Refusal.{firstFailed}
-use Rattle.encoding.proofs.Below.{either, all-intro, least-none, least-lt}
+use Rattle.encoding.proofs.Below.{either, all-intro}
 use Rattle.records.specs.Shape.{faceCount}
 use Rattle.records.specs.Record.{coreSize, numberOf, shapeOf, neighbourOf}
 use Rattle.mesh.specs.Link.{orientationOk}
@@ -28,7 +28,7 @@ use Rattle.faults.proofs.Records.{face-form, face-absent, face-linked}
 use Rattle.part_fault.specs.declared.search.Extent.{Extent}
 use Rattle.part_fault.specs.Wrong.{treeOrderIn, treeToIn, treeFaceIn, treeWrongIn, ghostOrderIn, ghostToIn, ghostFaceIn, ghostBesideIn, ghostWrongIn, faceIn, wrongIn}
 use Rattle.part_fault.specs.Means.{Known}
-use Rattle.part_fault.proofs.Found.{known-order, known-out, least-within, least-quiet, least-wrong}
+use Rattle.part_fault.proofs.Found.{known-order, known-out, least-within, least-quiet, least-wrong, looked-some, looked-none}
 
 module _ (part : List ℕ) (e : Extent) (known : Known part e) where
   -- ---- the link of a tree
@@ -103,14 +103,11 @@ module _ (part : List ℕ) (e : Extent) (known : Known part e) where
         pub to-other : {v to r : ℕ} → p < e .found → v ≡ numberOf (piece part at coreSize) → to ≡ ghostPlace (e .count) p → r ≡ linkKind v (piece part at coreSize) f (piece part to coreSize)
             → r ≡ ghostToIn (viewOf part) j f (neighbourOf (storedGhost part j) f)
         to-other h q there s =
-            let some : anyBelow (e .found) (ghostHas (ghostCore part (e .count)) k) ≡ true =
-            either (anyBelow (e .found) (ghostHas (ghostCore part (e .count)) k)) (λ t. t) (λ t. absurd (omega (arith, least-none (e .found) (ghostHas (ghostCore part (e .count)) k) t))) in
-            rw (link-is, out, some, ← position, ← there, s, q)
+            rw (link-is, out, looked-some (e .found) (ghostHas (ghostCore part (e .count)) k) position h, ← position, ← there, s, q)
 
         module _ (free : e .found ≤ p) where
           none : anyBelow (e .found) (ghostHas (ghostCore part (e .count)) k) ≡ false
-          none =
-              either (anyBelow (e .found) (ghostHas (ghostCore part (e .count)) k)) (λ t. absurd (omega (arith, least-lt (e .found) (ghostHas (ghostCore part (e .count)) k) t))) (λ t. t)
+          none = looked-none (e .found) (ghostHas (ghostCore part (e .count)) k) position free
 
           pub to-outside : e .trees ≤ k → 13 ≡ ghostToIn (viewOf part) j f (neighbourOf (storedGhost part j) f)
           to-outside h = rw (link-is, out, none, le-ltb k (e .trees) h)

@@ -7,7 +7,7 @@ use mathlib.Core.List.{List}
 use lib.Dec.{ltb, eqb}
 use borrow.Author.Tests.{ltb-true, eqb-true, eq-eqb, not-true, not-false}
 use Rattle.encoding.specs.Below.{allBelow, anyBelow, leastBelow}
-use Rattle.encoding.proofs.Below.{either, clash, and-fst, all-at, any-none, least-none, least-at, least-le, least-below, least-is, least-same}
+use Rattle.encoding.proofs.Below.{either, clash, and-fst, all-at, any-none, least-none, least-lt, least-at, least-le, least-below, least-is, least-same}
 use Rattle.records.specs.Record.{numberOf}
 use Rattle.part.specs.Layout.{ghostPlace}
 use Rattle.part.specs.View.{ghostAscends}
@@ -147,3 +147,11 @@ module _ (n : ℕ) (kind : ℕ → ℕ) {t : ℕ} (least : t ≡ leastBelow n (�
       either (anyBelow n bad)
       (λ p. let yes : not (eqb (kind t) 0) ≡ true = rw least (least-at n bad p) in clash yes (rw (eq-eqb (kind t) 0 z)))
       (λ p. omega (arith, least-none n bad p))
+
+-- the position of what is looked up
+module _ (n : ℕ) (f : ℕ → Bool) {p : ℕ} (position : p ≡ leastBelow n f) where
+  pub looked-some : p < n → anyBelow n f ≡ true
+  looked-some h = either (anyBelow n f) (λ t. t) (λ t. absurd (omega (arith, least-none n f t)))
+
+  pub looked-none : n ≤ p → anyBelow n f ≡ false
+  looked-none h = either (anyBelow n f) (λ t. absurd (omega (arith, least-lt n f t))) (λ t. t)

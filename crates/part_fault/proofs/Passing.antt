@@ -1,28 +1,32 @@
 -- The fast check of one record passes it exactly where nothing is wrong with it, whatever the records are that it leads to.
-use Prim.Native.Nat.{ℕ, _+_, _-_, _<_}
+use Prim.Native.Nat.{ℕ, _+_, _-_, _≤_, _<_}
+use native.Mathlib.Omega.{arith}
 use mathlib.Core.Path.{_≡_, refl, sym, ap, ap₂, _∙_}
 use mathlib.Core.Bool.{Bool, true, false, _&&_}
 use mathlib.Core.List.{List}
 use lib.Dec.{eqb, ltb}
 use Rattle.encoding.specs.Below.{allBelow, anyBelow, leastBelow}
 use Rattle.encoding.specs.Pieces.{piece}
-use Rattle.encoding.proofs.Below.{either, and-fst, all-same}
+use Rattle.encoding.proofs.Below.{either, clash, and-fst, all-same}
 use Rattle.records.specs.Shape.{dimensionOf, faceCount}
 use Rattle.records.specs.Record.{coreSize, numberOf, shapeOf, neighbourOf, inForm}
+use Rattle.mesh.specs.Link.{orientationOk}
 use Rattle.mesh.specs.Means.{linkBetween, linkByDimension}
 use Rattle.mesh.proofs.ByDimension.{Fits, fits-form}
 use Rattle.part.specs.Layout.{treePlace, ghostPlace}
 use Rattle.part.specs.View.{View}
 use Rattle.part.specs.Means.{inRange, neighbourIn, ghostCore, ghostHas}
 use Rattle.part.specs.Part.{storedTree, storedGhost, viewOf}
+use Rattle.part.proofs.Ranges.{range-last}
 use Rattle.part_check.specs.Means.{treeTo, treeFace, treeStored, treeNumbered, ghostNumbered, ghostTo, ghostFace, ghostStored}
 use Rattle.part_check.proofs.Checking.{tree-read, ghost-read}
 use Rattle.faults.specs.declared.answer.Wrong.{Wrong}
 use Rattle.faults.proofs.OneRecord.{link-any}
 use Rattle.part_fault.specs.declared.search.Extent.{Extent}
+use Rattle.part_fault.specs.declared.search.Way.{Way}
 use Rattle.part_fault.specs.Wrong.{treeWrongIn, foundIn, ghostWrongIn}
-use Rattle.part_fault.specs.Means.{Known}
-use Rattle.part_fault.proofs.Found.{known-numbered}
+use Rattle.part_fault.specs.Means.{Known, GhostWay}
+use Rattle.part_fault.proofs.Found.{known-numbered, looked-some, looked-none}
 use Rattle.part_fault.proofs.Right.{tree-right, ghost-right}
 
 -- links read by the dimension
@@ -104,3 +108,43 @@ module _ (part : List ℕ) (e : Extent) (known : Known part e) where
       → d ≡ allBelow faces (ghostFace (linkByDimension (e .dimension)) (e .first) (e .count) (e .found) (storedTree part) (ghostCore part (e .count)) (e .trees) j)
       → (a && eqb dimension (e .dimension) && b && d) ≡ eqb (ghostWrongIn (viewOf part) j .kind) 0
   ghost-passed j h here pv ps pf pa pd pb pl = ghost-read part (e .count) j here pv (e .first) (e .found) (e .dimension) (e .trees) ps pf pa pd pb pl ∙ ghost-known j h
+
+-- where the link of a ghost leads, and its rule
+module _ (part : List ℕ) (e : Extent) (known : Known part e) (j k : ℕ) where
+  module _ {b : Bool} (test : b ≡ inRange (e .first) (e .first + e .count) k) where
+    pub way-tree : (t : ℕ) {own to : ℕ} → b ≡ true → t + e .first ≡ k → own ≡ e .count + j → to ≡ treePlace t → GhostWay part e j k (record { held = true; to = to; back = own })
+    unfolding ghostTo storedTree
+    way-tree t h l q there =
+        let s : k - e .first ≡ t = omega arith in
+        record {
+          fits = λ y. omega (arith, known .laid .long, range-last (e .first) (e .first + e .count) k test h);
+          is = λ f. rw (← test, h, s, ← there, q);
+        }
+
+    module _ (out : b ≡ false) {p : ℕ} (position : p ≡ leastBelow (e .found) (ghostHas (ghostCore part (e .count)) k)) where
+      pub way-ghost : {at v to : ℕ} → p < e .found → at ≡ ghostPlace (e .count) j → v ≡ numberOf (piece part at coreSize) → to ≡ ghostPlace (e .count) p → GhostWay part e j k (record { held = true; to = to; back = v })
+      unfolding ghostTo ghostCore
+      way-ghost h here q there =
+          record {
+            fits = λ y. omega (arith, known .laid .long, known .within);
+            is = λ f. rw (← here, ← test, out, looked-some (e .found) (ghostHas (ghostCore part (e .count)) k) position h, ← position, ← there, q);
+          }
+
+      pub way-none : e .found ≤ p → GhostWay part e j k (record { held = false; to = 0; back = 0 })
+      unfolding ghostTo
+      way-none h =
+          record {
+            fits = λ y. clash y refl;
+            is = λ f. rw (← test, out, looked-none (e .found) (ghostHas (ghostCore part (e .count)) k) position h);
+          }
+
+  module _ (f : ℕ) {at : ℕ} (here : at ≡ ghostPlace (e .count) j) (read : k ≡ neighbourOf (piece part at coreSize) f) {w : Way} (way : GhostWay part e j k w) where
+    pub way-held : {r : Bool} → w .held ≡ true → r ≡ linkByDimension (e .dimension) (w .back) (piece part at coreSize) f (piece part (w .to) coreSize)
+        → r ≡ ghostFace (linkByDimension (e .dimension)) (e .first) (e .count) (e .found) (storedTree part) (ghostCore part (e .count)) (e .trees) j f
+    unfolding ghostFace ghostCore
+    way-held h p = rw (← here, ← read, ← way .is f, h, ← here, p)
+
+    pub way-free : {q : Bool} → w .held ≡ false → q ≡ orientationOk (piece part at coreSize) f
+        → (ltb k (e .trees) && q) ≡ ghostFace (linkByDimension (e .dimension)) (e .first) (e .count) (e .found) (storedTree part) (ghostCore part (e .count)) (e .trees) j f
+    unfolding ghostFace ghostCore
+    way-free h p = rw (← here, ← read, ← way .is f, h, ← here, p)

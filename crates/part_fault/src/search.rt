@@ -40,7 +40,7 @@ ghost use Rattle.part_check.specs.Means.{treeFace, ghostNumbered, ghostFace, Pa
 ghost use Rattle.faults.specs.Answer.{firstFault};
 ghost use Rattle.faults.specs.Record.{firstFace};
 ghost use Rattle.part_fault.specs.Wrong.{treeToIn, treeFaceIn, treeWrongIn, ghostToIn, ghostFaceIn, ghostWrongIn, faceIn, wrongIn};
-ghost use Rattle.part_fault.specs.Means.{Known};
+ghost use Rattle.part_fault.specs.Means.{Known, GhostWay};
 
 // What the header says, and how many ghosts come before the first that is out of order.
 pub struct Extent {
@@ -82,6 +82,13 @@ pub fn extent_of(part: &[u8]) -> Extent
         dimension: part::layout::dimension(part),
         trees,
     }
+}
+
+// Where a link leads: whether to a record of the part, where that begins, and the number that its link leads back to.
+pub struct Way {
+    pub held: bool,
+    pub to: usize,
+    pub back: u32,
 }
 
 // ---- trees
@@ -298,6 +305,38 @@ fn wrong_tree(part: &[u8], e: Extent) -> u32
     e.count
 }
 
+// The record that the link of ghost j to tree `neighbour` leads to: one of the range, another ghost, or none that is held.
+fn ghost_way(part: &[u8], e: Extent, marks: &[u64], behind: &[u32], j: u32, neighbour: u32) -> Way
+    requires { ⌜ Known (now part) e × (j < e .found) × Indexed (now part) (ghostPlace (e .count) 0) (e .found) (now marks) (now behind) ⌝ }
+    ensures { λ r. ⌜ GhostWay (now (part .entry)) e j neighbour r ⌝ }
+{
+    let first = e.first;
+    let count = e.count;
+    if in_range(first, first + count, GlobalIndex(neighbour)) {
+        let tree = to_local(GlobalIndex(neighbour), GlobalIndex(first));
+        let own = ghost_index(count, j);
+        return Way {
+            held: true,
+            to: tree_at(tree),
+            back: own.0,
+        };
+    }
+    let position = positions::index::find(marks, behind, e.found, GlobalIndex(neighbour));
+    if position < e.found {
+        return Way {
+            held: true,
+            to: ghost_at(count, position),
+            back: number_of(part, ghost_at(count, j)),
+        };
+    }
+    Way {
+        held: false,
+        to: 0,
+        back: 0,
+    }
+}
+
+// The rule of a link is called once: called at two places it isn't inlined.
 fn ghost_face_right(
     part: &[u8],
     e: Extent,
@@ -309,26 +348,11 @@ fn ghost_face_right(
     requires { ⌜ Known (now part) e × (j < e .found) × (face < 6) × Indexed (now part) (ghostPlace (e .count) 0) (e .found) (now marks) (now behind) ⌝ }
     ensures { λ r. ⌜ r ≡ ghostFace (linkByDimension (e .dimension)) (e .first) (e .count) (e .found) (storedTree (now (part .entry))) (ghostCore (now (part .entry)) (e .count)) (e .trees) j face ⌝ }
 {
-    let first = e.first;
-    let count = e.count;
-    let at = ghost_at(count, j);
+    let at = ghost_at(e.count, j);
     let k = neighbour_of(part, at, face);
-    if in_range(first, first + count, GlobalIndex(k)) {
-        let tree = to_local(GlobalIndex(k), GlobalIndex(first));
-        let own = ghost_index(count, j);
-        return link_ok(part, e.dimension, own.0, at, face, tree_at(tree));
-    }
-    let number = number_of(part, at);
-    let position = positions::index::find(marks, behind, e.found, GlobalIndex(k));
-    if position < e.found {
-        return link_ok(
-            part,
-            e.dimension,
-            number,
-            at,
-            face,
-            ghost_at(count, position),
-        );
+    let way = ghost_way(part, e, marks, behind, j, k);
+    if way.held {
+        return link_ok(part, e.dimension, way.back, at, face, way.to);
     }
     (k < e.trees) & mesh::link::orientation_ok(part, at, face)
 }

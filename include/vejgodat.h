@@ -1808,8 +1808,8 @@ vejgodat_fault      vejgodat_mesh_fault (const uint8_t * mesh,
  *
  * Checks, in this order: those of \ref vejgodat_check_table (2, 3);
  * \ref VEJGODAT_INDEX (5) if \a rank is not below P.
- * Cost: that of \ref vejgodat_check_part for a sound part; for any other a
- * second pass as far as the fault, with a few times the work for each record.
+ * Cost: that of \ref vejgodat_check_part as far as the fault, after one pass
+ * over the ghosts' numbers.
  *
  * \param [in] part       Any bytes. Not changed.
  * \param [in] part_len   The number of its bytes.

@@ -2,15 +2,15 @@
 use Prim.Native.Nat.{ℕ, _+_, _-_, _≤_, _<_}
 use native.Mathlib.Omega.{arith}
 use native.Mathlib.Nat.{add-sub-cancel-left}
-use mathlib.Core.Path.{_≡_, sym, _∙_}
-use mathlib.Core.Bool.{Bool, true, false, cond}
+use mathlib.Core.Path.{_≡_, refl, sym, ap, _∙_}
+use mathlib.Core.Bool.{Bool, true, false, cond, not}
 use mathlib.Core.List.{List}
-use lib.Dec.{ltb}
-use borrow.Author.Tests.{lt-ltb, le-ltb, eq-eqb, ne-eqb}
+use lib.Dec.{ltb, eqb}
+use borrow.Author.Tests.{ltb-true, ltb-false, lt-ltb, le-ltb, eq-eqb, ne-eqb}
 use Rattle.encoding.specs.Below.{anyBelow, leastBelow}
 use Rattle.encoding.specs.Pieces.{piece}
 use Rattle.encoding.specs.Refusal.{firstFailed}
-use Rattle.encoding.proofs.Below.{either, least-none, least-lt}
+use Rattle.encoding.proofs.Below.{either, all-intro}
 use Rattle.records.specs.Shape.{faceCount}
 use Rattle.records.specs.Record.{coreSize, numberOf, shapeOf, neighbourOf}
 use Rattle.mesh.specs.Link.{orientationOk}
@@ -28,7 +28,7 @@ use Rattle.faults.proofs.Records.{face-form, face-absent, face-linked}
 use Rattle.part_fault.specs.declared.search.Extent.{Extent}
 use Rattle.part_fault.specs.Wrong.{treeOrderIn, treeToIn, treeFaceIn, treeWrongIn, ghostOrderIn, ghostToIn, ghostFaceIn, ghostBesideIn, ghostWrongIn, faceIn, wrongIn}
 use Rattle.part_fault.specs.Means.{Known}
-use Rattle.part_fault.proofs.Found.{known-order, known-out}
+use Rattle.part_fault.proofs.Found.{known-order, known-out, least-within, least-quiet, least-wrong, looked-some, looked-none}
 
 module _ (part : List ℕ) (e : Extent) (known : Known part e) where
   -- ---- the link of a tree
@@ -103,14 +103,11 @@ module _ (part : List ℕ) (e : Extent) (known : Known part e) where
         pub to-other : {v to r : ℕ} → p < e .found → v ≡ numberOf (piece part at coreSize) → to ≡ ghostPlace (e .count) p → r ≡ linkKind v (piece part at coreSize) f (piece part to coreSize)
             → r ≡ ghostToIn (viewOf part) j f (neighbourOf (storedGhost part j) f)
         to-other h q there s =
-            let some : anyBelow (e .found) (ghostHas (ghostCore part (e .count)) k) ≡ true =
-            either (anyBelow (e .found) (ghostHas (ghostCore part (e .count)) k)) (λ t. t) (λ t. absurd (omega (arith, least-none (e .found) (ghostHas (ghostCore part (e .count)) k) t))) in
-            rw (link-is, out, some, ← position, ← there, s, q)
+            rw (link-is, out, looked-some (e .found) (ghostHas (ghostCore part (e .count)) k) position h, ← position, ← there, s, q)
 
         module _ (free : e .found ≤ p) where
           none : anyBelow (e .found) (ghostHas (ghostCore part (e .count)) k) ≡ false
-          none =
-              either (anyBelow (e .found) (ghostHas (ghostCore part (e .count)) k)) (λ t. absurd (omega (arith, least-lt (e .found) (ghostHas (ghostCore part (e .count)) k) t))) (λ t. t)
+          none = looked-none (e .found) (ghostHas (ghostCore part (e .count)) k) position free
 
           pub to-outside : e .trees ≤ k → 13 ≡ ghostToIn (viewOf part) j f (neighbourOf (storedGhost part j) f)
           to-outside h = rw (link-is, out, none, le-ltb k (e .trees) h)
@@ -230,14 +227,42 @@ module _ (part : List ℕ) (e : Extent) (known : Known part e) where
   abbrev all : ℕ
   all = partCount part + partGhostCount part
 
-  module _ (i : ℕ) (before : quiet kinds i ≡ true) {a : Fault} where
-    pub part-found : {w : Wrong} → i < e .count + e .found → w ≡ wrongIn (viewOf part) i → (w .kind ≡ 0 → ⊥) → a ≡ faultAt 8 i w → a ≡ firstFault 8 all (wrongIn (viewOf part))
-    part-found h p z f = first-read 8 all (wrongIn (viewOf part)) i (omega (arith, known .is-count, known .is-ghosts, known .within)) before p z f
+  quiet-intro : (n : ℕ) → ((i : ℕ) → i < n → kinds i ≡ 0) → quiet kinds n ≡ true
+  unfolding quiet
+  quiet-intro n z = all-intro n (λ i. eqb (kinds i) 0) (λ i h. eq-eqb (kinds i) 0 (z i h))
 
-    pub part-out : i ≤ e .count + e .found → e .count + e .found ≤ i → e .found < e .ghosts → a ≡ faultAt 8 (e .count + e .found) (wrong 7 0) → a ≡ firstFault 8 all (wrongIn (viewOf part))
-    part-out h l o f =
-        first-read 8 all (wrongIn (viewOf part)) (e .count + e .found) (omega (arith, known .is-count, known .is-ghosts)) (quiet-to (e .count + e .found) kinds i h l before) (out-wrong o) (λ z. omega arith) f
+  module _ {t : ℕ} (pt : t ≡ leastBelow (e .count) (λ i. not (eqb (treeWrongIn (viewOf part) i .kind) 0))) where
+    quiet-tree : (i : ℕ) → i < t → i < e .count → kinds i ≡ 0
+    quiet-tree i h l = sym (ap (λ (w : Wrong). w .kind) (wrong-tree i l refl)) ∙ least-quiet (e .count) (λ i. treeWrongIn (viewOf part) i .kind) pt i h
 
-    pub part-none : i ≤ e .count + e .found → e .count + e .found ≤ i → e .ghosts ≤ e .found → a ≡ noFault → a ≡ firstFault 8 all (wrongIn (viewOf part))
-    part-none h l o f =
-        f ∙ sym (first-none 8 all (wrongIn (viewOf part)) (quiet-to all kinds i (omega (arith, known .is-count, known .is-ghosts, known .within)) (omega (arith, known .is-count, known .is-ghosts, known .within)) before))
+    pub part-tree : {w : Wrong} {a : Fault} → t < e .count → w ≡ treeWrongIn (viewOf part) t → a ≡ faultAt 8 t w → a ≡ firstFault 8 all (wrongIn (viewOf part))
+    part-tree h p f =
+        first-read 8 all (wrongIn (viewOf part)) t (omega (arith, known .is-count)) (quiet-intro t (λ i l. quiet-tree i l (omega arith))) (wrong-tree t h p)
+        (λ z. least-wrong (e .count) (λ i. treeWrongIn (viewOf part) i .kind) pt h (sym (ap (λ (w : Wrong). w .kind) p) ∙ z)) f
+
+    module _ (trees : e .count ≤ t) {j : ℕ} (pj : j ≡ leastBelow (e .found) (λ j. not (eqb (ghostWrongIn (viewOf part) j .kind) 0))) where
+      within : j ≤ e .found
+      within = least-within (e .found) (λ j. ghostWrongIn (viewOf part) j .kind) pj
+
+      before : quiet kinds (e .count + j) ≡ true
+      before =
+          quiet-intro (e .count + j)
+          (λ i h. either (ltb i (e .count))
+          (λ p. quiet-tree i (omega (arith, ltb-true i (e .count) p)) (ltb-true i (e .count) p))
+          (λ p.
+          let l : e .count ≤ i = ltb-false i (e .count) p in
+          sym (ap (λ (w : Wrong). w .kind) (wrong-ghost i l refl)) ∙ least-quiet (e .found) (λ j. ghostWrongIn (viewOf part) j .kind) pj (i - e .count) (omega arith)))
+
+      pub part-ghost : {w : Wrong} {a : Fault} → j < e .found → w ≡ ghostWrongIn (viewOf part) j → a ≡ faultAt 8 (e .count + j) w → a ≡ firstFault 8 all (wrongIn (viewOf part))
+      part-ghost h p f =
+          first-read 8 all (wrongIn (viewOf part)) (e .count + j) (omega (arith, known .is-count, known .is-ghosts, known .within)) before (wrong-ghost (e .count + j) (omega arith) (rw (add-sub-cancel-left (e .count) j) p))
+          (λ z. least-wrong (e .found) (λ j. ghostWrongIn (viewOf part) j .kind) pj h (sym (ap (λ (w : Wrong). w .kind) p) ∙ z)) f
+
+      module _ (ghosts : e .found ≤ j) where
+        pub part-out : {a : Fault} → e .found < e .ghosts → a ≡ faultAt 8 (e .count + e .found) (wrong 7 0) → a ≡ firstFault 8 all (wrongIn (viewOf part))
+        part-out o f =
+            first-read 8 all (wrongIn (viewOf part)) (e .count + e .found) (omega (arith, known .is-count, known .is-ghosts)) (quiet-to (e .count + e .found) kinds (e .count + j) (omega (arith, within)) (omega arith) before) (out-wrong o) (λ z. omega arith) f
+
+        pub part-none : {a : Fault} → e .ghosts ≤ e .found → a ≡ noFault → a ≡ firstFault 8 all (wrongIn (viewOf part))
+        part-none o f =
+            f ∙ sym (first-none 8 all (wrongIn (viewOf part)) (quiet-to all kinds (e .count + j) (omega (arith, known .is-count, known .is-ghosts, known .within, within)) (omega (arith, known .is-count, known .is-ghosts, known .within)) before))

@@ -2,4 +2,5 @@
 pub mod Found
 pub mod Finding
 pub mod Right
+pub mod Passing
 pub mod Theorems

@@ -75,7 +75,7 @@ module _ (v : View) where
       (λ p. rw p (link-right i (v .stored i) f (v .stored m)))
       (λ p. either (ltb (m - v .n) (v .g)) (λ q. rw (p, q) (link-right (numberOf (v .stored i)) (v .stored i) f (v .ghost (m - v .n)))) (λ q. rw (p, q)))
 
-  tree-right : (i : ℕ) → eqb (treeWrongIn v i .kind) 0 ≡ (number i && sound-tree i)
+  pub tree-right : (i : ℕ) → eqb (treeWrongIn v i .kind) 0 ≡ (treeNumbered (v .first) (v .stored) i && treeStored linkBetween (v .n) (v .g) (v .stored) (v .ghost) (v .dimension) i)
   unfolding treeWrongIn treeFaceIn treeOrderIn treeNumbered treeStored treeFace
   tree-right i =
       let r : List ℕ = v .stored i in
@@ -112,37 +112,41 @@ module _ (v : View) where
       let h : (f && o && d && l && ghostBesideIn v j) ≡ true = sym (ghost-half j) ∙ eq-eqb (ghostWrongIn v j .kind) 0 e in
       sym (order-same j) ∙ and-snd f o (and-fst (f && o) d (and-fst (f && o && d) l (and-fst (f && o && d && l) (ghostBesideIn v j) h)))
 
+  -- the links of a ghost are followed among the ghosts that are found
+  ghost-to-right : (j f k : ℕ) → eqb (ghostToIn v j f k) 0 ≡ ghostTo linkBetween (v .first) (v .n) (foundIn v) (v .stored) (v .ghost) (v .K) j f k
+  unfolding ghostToIn ghostTo inRange ghostHas
+  ghost-to-right j f k =
+      let here : Bool = leb (v .first) k && ltb k (v .first + v .n) in
+      let has : ℕ → Bool = λ m. eqb (numberOf (v .ghost m)) k in
+      either here
+      (λ p. rw p (link-right (v .n + j) (v .ghost j) f (v .stored (k - v .first))))
+      (λ p. either (anyBelow (foundIn v) has)
+      (λ q. rw (p, q) (link-right (numberOf (v .ghost j)) (v .ghost j) f (v .ghost (leastBelow (foundIn v) has))))
+      (λ q. rw (p, q) (far-zero (ltb k (v .K)) (orientationOk (v .ghost j) f))))
+
+  pub ghost-right : (j : ℕ)
+      → eqb (ghostWrongIn v j .kind) 0
+      ≡ (ghostNumbered (v .first) (v .n) (v .ghost) (v .K) j && ghostStored linkBetween (v .first) (v .n) (foundIn v) (v .stored) (v .ghost) (v .dimension) (v .K) j)
+  unfolding ghostStored ghostFace neighbourIn inRange ghostBesideIn
+  ghost-right j =
+      let r : List ℕ = v .ghost j in
+      let d : Bool = eqb (dimensionOf (shapeOf r)) (v .dimension) in
+      let b : Bool = ghostBesideIn v j in
+      let l : Bool = allBelow (faceCount (shapeOf r)) (λ f. ghostTo linkBetween (v .first) (v .n) (foundIn v) (v .stored) (v .ghost) (v .K) j f (neighbourOf r f)) in
+      ghost-half j
+      ∙ ap (λ (x : Bool). inForm (numberOf r) r && ghostOrderIn v j && d && x && b)
+      (all-same (faceCount (shapeOf r)) (λ f. eqb (ghostToIn v j f (neighbourOf r f)) 0) (λ f. ghostTo linkBetween (v .first) (v .n) (foundIn v) (v .stored) (v .ghost) (v .K) j f (neighbourOf r f)) (λ f h. ghost-to-right j f (neighbourOf r f)))
+      ∙ swap-ghost (inForm (numberOf r) r) (ghostOrderIn v j) d l b
+      ∙ ap (λ (x : Bool). x && (inForm (numberOf r) r && d && b && l)) (order-same j)
+
   -- all ghosts are found where all are in order
   found-all : allBelow (v .g) order ≡ true → foundIn v ≡ v .g
   unfolding foundIn
   found-all e =
       least-none (v .g) (λ j. not (ghostOrderIn v j)) (any-none (v .g) (λ j. not (ghostOrderIn v j)) (λ j h. rw (order-same j, all-at (v .g) order e j h)))
 
-  module _ (found : foundIn v ≡ v .g) where
-    ghost-to-right : (j f k : ℕ) → eqb (ghostToIn v j f k) 0 ≡ ghostTo linkBetween (v .first) (v .n) (v .g) (v .stored) (v .ghost) (v .K) j f k
-    unfolding ghostToIn ghostTo inRange ghostHas
-    ghost-to-right j f k =
-        let here : Bool = leb (v .first) k && ltb k (v .first + v .n) in
-        let has : ℕ → Bool = λ m. eqb (numberOf (v .ghost m)) k in
-        rw found
-        (either here
-        (λ p. rw p (link-right (v .n + j) (v .ghost j) f (v .stored (k - v .first))))
-        (λ p. either (anyBelow (v .g) has)
-        (λ q. rw (p, q) (link-right (numberOf (v .ghost j)) (v .ghost j) f (v .ghost (leastBelow (v .g) has))))
-        (λ q. rw (p, q) (far-zero (ltb k (v .K)) (orientationOk (v .ghost j) f)))))
-
-    ghost-right : (j : ℕ) → eqb (ghostWrongIn v j .kind) 0 ≡ (order j && sound-ghost j)
-    unfolding ghostStored ghostFace neighbourIn inRange ghostBesideIn
-    ghost-right j =
-        let r : List ℕ = v .ghost j in
-        let d : Bool = eqb (dimensionOf (shapeOf r)) (v .dimension) in
-        let b : Bool = ghostBesideIn v j in
-        let l : Bool = allBelow (faceCount (shapeOf r)) (λ f. ghostTo linkBetween (v .first) (v .n) (v .g) (v .stored) (v .ghost) (v .K) j f (neighbourOf r f)) in
-        ghost-half j
-        ∙ ap (λ (x : Bool). inForm (numberOf r) r && ghostOrderIn v j && d && x && b)
-        (all-same (faceCount (shapeOf r)) (λ f. eqb (ghostToIn v j f (neighbourOf r f)) 0) (λ f. ghostTo linkBetween (v .first) (v .n) (v .g) (v .stored) (v .ghost) (v .K) j f (neighbourOf r f)) (λ f h. ghost-to-right j f (neighbourOf r f)))
-        ∙ swap-ghost (inForm (numberOf r) r) (ghostOrderIn v j) d l b
-        ∙ ap (λ (x : Bool). x && (inForm (numberOf r) r && d && b && l)) (order-same j)
+  all-right : allBelow (v .g) order ≡ true → (j : ℕ) → eqb (ghostWrongIn v j .kind) 0 ≡ (order j && sound-ghost j)
+  all-right e j = ghost-right j ∙ ap (λ (g : ℕ). order j && ghostStored linkBetween (v .first) (v .n) g (v .stored) (v .ghost) (v .dimension) (v .K) j) (found-all e)
 
   -- ---- all records
 
@@ -167,7 +171,7 @@ module _ (v : View) where
       λ i h. sym (tree-right i) ∙ eq-eqb (treeWrongIn v i .kind) 0 (sym (ap (λ (w : Wrong). w .kind) (at-tree i h)) ∙ quiet-at kinds (v .n + v .g) q i (omega arith)) in
       let zero : (j : ℕ) → j < v .g → ghostWrongIn v j .kind ≡ 0 = λ j h. sym (ap (λ (w : Wrong). w .kind) (at-ghost j)) ∙ quiet-at kinds (v .n + v .g) q (v .n + j) (omega arith) in
       let orders : allBelow (v .g) order ≡ true = all-intro (v .g) order (λ j h. ghost-order j (zero j h)) in
-      let ghost : (j : ℕ) → j < v .g → (order j && sound-ghost j) ≡ true = λ j h. sym (ghost-right (found-all orders) j) ∙ eq-eqb (ghostWrongIn v j .kind) 0 (zero j h) in
+      let ghost : (j : ℕ) → j < v .g → (order j && sound-ghost j) ≡ true = λ j h. sym (all-right orders j) ∙ eq-eqb (ghostWrongIn v j .kind) 0 (zero j h) in
       and-intro (allBelow (v .n) number && allBelow (v .g) order) (allBelow (v .n) sound-tree && allBelow (v .g) sound-ghost)
       (and-intro (allBelow (v .n) number) (allBelow (v .g) order) (all-intro (v .n) number (λ i h. and-fst (number i) (sound-tree i) (tree i h))) orders)
       (and-intro (allBelow (v .n) sound-tree) (allBelow (v .g) sound-ghost)
@@ -184,7 +188,7 @@ module _ (v : View) where
       λ i h. ap (λ (w : Wrong). eqb (w .kind) 0) (at-tree i h) ∙ tree-right i
       ∙ and-intro (number i) (sound-tree i) (all-at (v .n) number (and-fst (allBelow (v .n) number) (allBelow (v .g) order) numbers) i h) (all-at (v .n) sound-tree (and-fst (allBelow (v .n) sound-tree) (allBelow (v .g) sound-ghost) records) i h) in
       let ghost : (j : ℕ) → j < v .g → eqb (kinds (v .n + j)) 0 ≡ true =
-      λ j h. ap (λ (w : Wrong). eqb (w .kind) 0) (at-ghost j) ∙ ghost-right (found-all orders) j
+      λ j h. ap (λ (w : Wrong). eqb (w .kind) 0) (at-ghost j) ∙ all-right orders j
       ∙ and-intro (order j) (sound-ghost j) (all-at (v .g) order orders j h) (all-at (v .g) sound-ghost (and-snd (allBelow (v .n) sound-tree) (allBelow (v .g) sound-ghost) records) j h) in
       all-add (v .n) (v .g) (λ i. eqb (kinds i) 0)
       ∙ and-intro (allBelow (v .n) (λ i. eqb (kinds i) 0)) (allBelow (v .g) (λ j. eqb (kinds (v .n + j)) 0)) (all-intro (v .n) (λ i. eqb (kinds i) 0) tree) (all-intro (v .g) (λ j. eqb (kinds (v .n + j)) 0) ghost)

@@ -8,21 +8,20 @@ use lib.Dec.{eqb, ltb}
 use borrow.Author.Tests.{eq-eqb, ne-eqb}
 use Rattle.encoding.specs.Pieces.{Bytes}
 use Rattle.encoding.specs.Refusal.{firstFailed}
-use Rattle.encoding.proofs.Below.{either, clash}
+use Rattle.encoding.proofs.Below.{either}
 use Rattle.part.specs.Means.{RankKnown}
 use Rattle.part.specs.View.{View}
-use Rattle.part.specs.Part.{partCount, partGhostCount, viewOf, partSound}
+use Rattle.part.specs.Part.{partCount, partGhostCount, viewOf}
 use Rattle.part.specs.Checks.{rankChecks}
 use Rattle.part.proofs.Checks.{rank-known, rank-passes}
 use Rattle.part_check.specs.Calls.{partRefusal}
 use Rattle.part_check.proofs.Checking.{sound-none}
 use Rattle.faults.specs.declared.answer.Fault.{Fault}
 use Rattle.faults.specs.declared.answer.Wrong.{Wrong}
-use Rattle.faults.specs.Answer.{wrong, faultRefused, noFault, faultAt, firstFault}
+use Rattle.faults.specs.Answer.{wrong, faultRefused, faultAt, firstFault}
 use Rattle.faults.specs.Calls.{faultAnswer}
 use Rattle.faults.specs.Record.{recordKind, firstFace, recordWrong}
 use Rattle.faults.specs.Theorems.{AsChecked}
-use Rattle.faults.proofs.Firsts.{first-none}
 use Rattle.faults.proofs.Theorems.{first-checked, first-first, Found, faces-before}
 use Rattle.part_fault.specs.Wrong.{treeOrderIn, treeFaceIn, treeWrongIn, ghostOrderIn, ghostFaceIn, ghostBesideIn, ghostWrongIn, faceIn, wrongIn}
 use Rattle.part_fault.specs.Calls.{partHeaded, partFaultOf}
@@ -44,12 +43,6 @@ module _ (part table : List ℕ) (rank : ℕ) {r : ℕ} (checked : r ≡ firstFa
     pub part-searched : {b : Bool} → b ≡ partHeaded part table rank → b ≡ true → a ≡ firstFault 8 (partCount part + partGhostCount part) (wrongIn (viewOf part)) → a ≡ partFaultOf part table rank
     unfolding partFaultOf faultAnswer
     part-searched p h e = e ∙ rw (← checked, eq-eqb r 0 ok, ← p, h)
-
-    pub part-sound-none : {s : Bool} → Bytes part → Bytes table → s ≡ partSound part table rank → s ≡ true → a ≡ noFault → a ≡ partFaultOf part table rank
-    part-sound-none b t p h e =
-        either (partHeaded part table rank)
-        (λ q. part-searched refl q (e ∙ sym (first-none 8 (partCount part + partGhostCount part) (wrongIn (viewOf part)) (part-right part table rank b t (rank-known table rank checked ok) q ∙ (sym p ∙ h)))))
-        (λ q. clash (sym p ∙ h) (sym (sound-none part table rank refl q)))
 
 -- ---- the theorems
 

@@ -6,16 +6,13 @@ use faults::answer::Wrong;
 
 pub mod search;
 
-// The first fault of a part for a table and a rank (2, 3, 5). The check, which is faster than the search, comes first.
+// The first fault of a part for a table and a rank (2, 3, 5).
 pub fn part_fault(part: &[u8], table: &[u8], rank: u32) -> Fault
     ensures { λ r. ⌜ r ≡ partFaultOf (now (part .entry)) (now (table .entry)) rank ⌝ }
 {
     let refusal = part::range::rank_refusal(table, rank);
     if refusal != 0 {
         return faults::answer::refused(refusal);
-    }
-    if part_check::sound::part_sound(part, table, rank) {
-        return faults::answer::refused(0);
     }
     if !part_check::sound::header_sound(part, table, rank) {
         return faults::answer::found(8, 0, Wrong { kind: 6, face: 0 });

@@ -1,90 +1,91 @@
-use Rattle.part_fault.proofs.Finding.{part-found, part-out, part-none}
-use Rattle.part_fault.specs.Wrong.{wrongIn}
-use Rattle.faults.proofs.Firsts.{quiet, quiet-start, quiet-more}
-use Rattle.faults.specs.declared.answer.Wrong.{Wrong}
-use Rattle.part.specs.Part.{viewOf}
-use native.Mathlib.Omega.{arith}
-use mathlib.Core.Bool.{true}
-use mathlib.Core.Path.{_≡_, ap}
-use Prim.Native.Nat.{_≤_, _-_}
+use Rattle.part_fault.proofs.Finding.{part-tree, part-ghost, part-out, part-none}
 use borrow.Author.Needs.{needs}
 use Rattle.part_fault.proofs.search.first_wrong.Statement.{statement}
 use Rattle.part_fault.proofs.search.first_wrong.Tie as tie
 
-abbrev Inv-loop : tie.InvT-loop
-Inv-loop part e end i₀ i = (i ≤ end) × (quiet (λ j. wrongIn (viewOf part) j .kind) i ≡ true)
+wrong-tree-requires : tie.Need-wrong-tree-requires
+wrong-tree-requires c κs = search needs
 
-abbrev μ-loop : tie.MeasureT-loop
-μ-loop part e end i₀ i = end - i
+tree-wrong-requires : tie.Need-tree-wrong-requires
+tree-wrong-requires c κs = search needs
 
-add-end : tie.Need-add-end Inv-loop μ-loop
-add-end c = search needs
-
-loop-holds : tie.Need-loop-holds Inv-loop μ-loop
-loop-holds c = (omega arith, quiet-start _)
-
-record-wrong-requires : tie.Need-record-wrong-requires Inv-loop μ-loop
-record-wrong-requires c κs = search needs
-
-found-requires : tie.Need-found-requires Inv-loop μ-loop
+found-requires : tie.Need-found-requires
 found-requires c κs = search needs
 
-returns : tie.Need-returns Inv-loop μ-loop
+returns : tie.Need-returns
 returns c =
-    let pre = c .before .before .before .before .before .before .before .before .pre in
-    let loop = c .before .before .before .before .before .loop in
-    let loop-test = c .before .before .before .before .loop-test in
-    let record-wrong = c .before .before .before .record-wrong in
-    let if1 = c .before .if1 in
-    part-found _ _ pre _ (loop .inv .1) (loop-test .taken) (record-wrong .ensures) (if1 .taken) (c .found .ensures)
+    let pre = c .before .before .before .before .before .before .pre in
+    let wrong-tree = c .before .before .before .before .wrong-tree in
+    let if1 = c .before .before .if1 in
+    let tree-wrong = c .before .tree-wrong in
+    part-tree _ _ pre (wrong-tree .ensures) (if1 .taken) (tree-wrong .ensures) (c .found .ensures)
 
-add-i : tie.Need-add-i Inv-loop μ-loop
-add-i c = search needs
+wrong-ghost-requires : tie.Need-wrong-ghost-requires
+wrong-ghost-requires c κs = search needs
 
-loop-less : tie.Need-loop-less Inv-loop μ-loop
-loop-less c = search needs
+add-found : tie.Need-add-found
+add-found c = search needs
 
-loop-again : tie.Need-loop-again Inv-loop μ-loop
-loop-again c =
-    let loop = c .before .before .before .before .loop in
-    let record-wrong = c .before .before .record-wrong in
-    (omega arith, quiet-more _ _ (loop .inv .1) (ap (λ (w : Wrong). w .kind) (record-wrong .ensures)) (c .if1 .left))
+ghost-wrong-requires : tie.Need-ghost-wrong-requires
+ghost-wrong-requires c κs = search needs
 
-found-requires-2 : tie.Need-found-requires-2 Inv-loop μ-loop
+found-requires-2 : tie.Need-found-requires-2
 found-requires-2 c κs = search needs
 
-returns-2 : tie.Need-returns-2 Inv-loop μ-loop
+returns-2 : tie.Need-returns-2
 returns-2 c =
-    let pre = c .before .before .before .before .before .before .before .pre in
-    let loop = c .before .before .before .before .loop in
-    let if2 = c .before .if2 in
-    part-out _ _ pre _ (loop .inv .1) (loop .inv .0) (omega arith) (if2 .taken) (c .found2 .ensures)
+    let pre = c .before .before .before .before .before .before .before .before .before .before .pre in
+    let wrong-tree = c .before .before .before .before .before .before .before .before .wrong-tree in
+    let if1 = c .before .before .before .before .before .before .if1 in
+    let wrong-ghost = c .before .before .before .before .before .wrong-ghost in
+    let if2 = c .before .before .before .if2 in
+    let ghost-wrong = c .before .ghost-wrong in
+    part-ghost _ _ pre (wrong-tree .ensures) (if1 .left) (wrong-ghost .ensures) (if2 .taken) (ghost-wrong .ensures) (c .found2 .ensures)
 
-refused-requires : tie.Need-refused-requires Inv-loop μ-loop
+add-found-2 : tie.Need-add-found-2
+add-found-2 c = search needs
+
+found-requires-3 : tie.Need-found-requires-3
+found-requires-3 c κs = search needs
+
+returns-3 : tie.Need-returns-3
+returns-3 c =
+    let pre = c .before .before .before .before .before .before .before .before .before .before .before .pre in
+    let wrong-tree = c .before .before .before .before .before .before .before .before .before .wrong-tree in
+    let if1 = c .before .before .before .before .before .before .before .if1 in
+    let wrong-ghost = c .before .before .before .before .before .before .wrong-ghost in
+    let if2 = c .before .before .before .before .if2 in
+    let if3 = c .before .before .if3 in
+    part-out _ _ pre (wrong-tree .ensures) (if1 .left) (wrong-ghost .ensures) (if2 .left) (if3 .taken) (c .found3 .ensures)
+
+refused-requires : tie.Need-refused-requires
 refused-requires c κs = search needs
 
-returns-3 : tie.Need-returns-3 Inv-loop μ-loop
-returns-3 c =
-    let pre = c .before .before .before .before .before .before .before .pre in
-    let loop = c .before .before .before .before .loop in
-    let if2 = c .before .if2 in
-    part-none _ _ pre _ (loop .inv .1) (loop .inv .0) (omega arith) (if2 .left) (c .refused .ensures)
+returns-4 : tie.Need-returns-4
+returns-4 c =
+    let pre = c .before .before .before .before .before .before .before .before .before .before .pre in
+    let wrong-tree = c .before .before .before .before .before .before .before .before .wrong-tree in
+    let if1 = c .before .before .before .before .before .before .if1 in
+    let wrong-ghost = c .before .before .before .before .before .wrong-ghost in
+    let if2 = c .before .before .before .if2 in
+    let if3 = c .before .if3 in
+    part-none _ _ pre (wrong-tree .ensures) (if1 .left) (wrong-ghost .ensures) (if2 .left) (if3 .left) (c .refused .ensures)
 
 pub first-wrong-spec : {M : Type 1} → statement M
 first-wrong-spec =
     tie.close
     (tie.spec
-    Inv-loop
-    μ-loop
-    add-end
-    loop-holds
-    record-wrong-requires
+    wrong-tree-requires
+    tree-wrong-requires
     found-requires
     returns
-    add-i
-    loop-less
-    loop-again
+    wrong-ghost-requires
+    add-found
+    ghost-wrong-requires
     found-requires-2
     returns-2
+    add-found-2
+    found-requires-3
+    returns-3
     refused-requires
-    returns-3)
+    returns-4)

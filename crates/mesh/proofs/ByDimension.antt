@@ -1,22 +1,20 @@
 -- Links may be read by the dimension where all records have it: a check by that rule says what the definitions say.
-use Prim.Native.Nat.{ℕ, zero, suc, _+_, _*_, _/_, _%_, _≤_, _<_}
+use Prim.Native.Nat.{ℕ, _+_, _*_, _/_, _%_, _<_}
 use native.Mathlib.Nat.{div-add-mod'}
 use native.Mathlib.Omega.{arith}
 use mathlib.Core.Path.{_≡_, refl, sym, ap, ap₂, _∙_}
 use mathlib.Core.Bool.{Bool, true, false, cond, _&&_, and-true}
 use mathlib.Core.List.{List}
 use lib.Arith.{digits-div, digits-mod}
-use lib.Dec.{ltb, eqb, leb}
-use borrow.Author.Tests.{ltb-true, eqb-true, eq-eqb, ne-eqb, lt-ltb, le-ltb, lt-leb}
+use lib.Dec.{ltb, eqb}
+use borrow.Author.Tests.{eqb-true, eq-eqb, lt-ltb, le-ltb}
 use Rattle.encoding.specs.Below.{allBelow}
-use Rattle.encoding.proofs.Below.{tests, either, and-fst, and-snd, and-intro, iff-eq, all-at, all-same}
+use Rattle.encoding.proofs.Below.{and-fst, and-snd, and-intro, iff-eq, all-at, all-same}
 use Rattle.records.specs.Shape.{shapeOk, dimensionOf, faceCount, facesIn, cornersOf, corners}
-use Rattle.records.specs.Record.{numberOf, shapeOf, neighbourOf, codeOf, facesOf, faceOf, orientationOf, inForm}
-use Rattle.records.proofs.Shapes.{shapes, count-six, corners-none}
-use Rattle.records.proofs.Forms.{form-shape, face-six, count-faces-of}
-use Rattle.mesh.specs.Link.{orientationOk, sameCorners, answered, linkOk}
-use Rattle.mesh.specs.Mesh.{faceSound, treeSound}
-use Rattle.mesh.specs.Means.{cornersFit, cornersByDimension, answeredThere, answeredByDimension, linkBetween, linkByDimension, faceByDimension, treeByDimension}
+use Rattle.records.specs.Record.{shapeOf, neighbourOf, codeOf, facesOf, faceOf, orientationOf, inForm}
+use Rattle.records.proofs.Forms.{form-shape, count-faces-of}
+use Rattle.mesh.specs.Link.{orientationOk, sameCorners, answered}
+use Rattle.mesh.specs.Means.{cornersFit, cornersByDimension, answeredThere, answeredByDimension, linkBetween, linkByDimension}
 
 -- ---- corners
 
@@ -165,32 +163,3 @@ module _ (D : ℕ) where
             iff-eq (allBelow n (treeBy (linkByDimension D)) && allBelow g (ghostBy (linkByDimension D))) (allBelow n (treeBy linkBetween) && allBelow g (ghostBy linkBetween))
             (λ e. sym (same (all-fit (linkByDimension D) e)) ∙ e)
             (λ e. same (all-fit linkBetween e) ∙ e)
-
--- ---- whole meshes
-
-module _ (core : ℕ → List ℕ) (d K : ℕ) where
-  abbrev alone : ℕ → Bool
-  alone k = inForm k (core k) && eqb (numberOf (core k)) k && eqb (dimensionOf (shapeOf (core k))) d
-
-  alone-fits : (k : ℕ) → alone k ≡ true → Fits d (core k)
-  alone-fits k e =
-      let a : Bool = inForm k (core k) in
-      let b : Bool = eqb (numberOf (core k)) k in
-      let s : Bool = eqb (dimensionOf (shapeOf (core k))) d in
-      (form-shape k (core k) (and-fst a b (and-fst (a && b) s e)), eqb-true _ _ (and-snd (a && b) s e))
-
-  abbrev face : Rule → ℕ → ℕ → Bool
-  face link k f = ltb (neighbourOf (core k) f) K && link k (core k) f (core (neighbourOf (core k) f))
-
-  face-same : ((k : ℕ) → k < K → Fits d (core k)) → (k : ℕ) → k < K → (f : ℕ) → f < faceCount (shapeOf (core k)) → face (linkByDimension d) k f ≡ face linkBetween k f
-  face-same fits k h f l =
-      let n : ℕ = neighbourOf (core k) f in
-      either (ltb n K) (λ p. rw p (link-same d (core k) (core n) (fits k h) (fits n (ltb-true n K p)) k f l)) (λ p. rw p)
-
-  -- over all trees the check by dimension says the same
-  pub trees-by-dimension : allBelow K (treeByDimension core d K) ≡ allBelow K (treeSound core d K)
-  unfolding treeByDimension treeSound faceByDimension faceSound linkOk linkBetween allBelow
-  trees-by-dimension =
-      sym (and-true (allBelow K (treeByDimension core d K)))
-      ∙ checked-by-dimension d K 0 core core alone (λ j. true) face face (λ k h e. alone-fits k e) (λ j h e. absurd (omega arith)) (λ fits k h f l. face-same (fits .0) k h f l) (λ fits j h f l. absurd (omega arith))
-      ∙ and-true (allBelow K (treeSound core d K))

@@ -1,20 +1,71 @@
 -- What the check's functions find is what the definitions say.
-use Prim.Native.Nat.{ℕ, _+_, _*_, _≤_, _<_}
+use Prim.Native.Nat.{ℕ, _+_, _*_, _/_, _%_, _≤_, _<_}
 use native.Mathlib.Omega.{arith}
-use mathlib.Core.Path.{_≡_}
-use mathlib.Core.Bool.{Bool, true, false, _&&_, and-false}
+use mathlib.Core.Path.{_≡_, sym, ap, _∙_}
+use mathlib.Core.Bool.{Bool, true, false, cond, _&&_, and-true, and-false}
 use mathlib.Core.List.{List}
-use lib.Dec.{eqb}
+use lib.Dec.{eqb, ltb}
 use lib.ListN.{length}
 use borrow.Author.Tests.{lt-ltb, le-ltb, ne-eqb}
-use Rattle.encoding.specs.Below.{allBelow}
+use Rattle.encoding.specs.Below.{allBelow, countBelow, sumBelow}
 use Rattle.encoding.specs.Pieces.{piece}
+use Rattle.encoding.proofs.Below.{clash, all-intro, all-fails, all-to, count-more, sum-more}
 use Rattle.offsets.specs.Limits.{treeCountOk}
-use Rattle.records.specs.Shape.{dimensionOf, faceCount}
-use Rattle.records.specs.Record.{coreSize, treeSize, numberOf, shapeOf, neighbourOf, inForm}
+use Rattle.records.specs.Shape.{shapeOk, dimensionOf, faceCount, facesIn}
+use Rattle.records.specs.Record.{coreSize, treeSize, numberOf, shapeOf, neighbourOf, codeOf, zerosOk, regionOk, unusedOk, boundaryOk, inForm}
 use Rattle.mesh.specs.Mesh.{meshHeader, meshDimension, meshTrees, dimensionOk, meshCore, headerSound, meshSound}
-use Rattle.mesh.specs.Means.{linkByDimension, faceByDimension, treeByDimension}
-use Rattle.mesh.proofs.ByDimension.{trees-by-dimension}
+use Rattle.mesh.specs.Means.{cornersFit, cornersByDimension, answeredThere, answeredByDimension, linkByDimension, faceByDimension, treeByDimension, leadsUp, leadsDown, linksUp, linksDown, aloneByDimension, faceFromAbove, unusedFrom, treeFromAbove, treesFromAbove, SeenAs}
+use Rattle.mesh.proofs.FromAbove.{trees-from-above}
+
+-- ---- one link: its code, and what it says
+
+module _ (d back : ℕ) (r s : List ℕ) (f c g o : ℕ) (code : c ≡ codeOf r f) (face : g ≡ c % facesIn d) (turned : o ≡ c / facesIn d) where
+  pub not-answered : answeredThere back c f s g ≡ false → false ≡ linkByDimension d back r f s
+  unfolding linkByDimension answeredByDimension
+  not-answered e =
+      let a : answeredThere back (codeOf r f) f s (codeOf r f % facesIn d) ≡ false = rw (face, code) at e in
+      sym (ap (λ (b : Bool). cornersByDimension d r f s && b) a ∙ and-false (cornersByDimension d r f s))
+
+  pub is-answered : answeredThere back c f s g ≡ true → cornersFit o (shapeOf r) f (shapeOf s) g ≡ linkByDimension d back r f s
+  unfolding linkByDimension answeredByDimension cornersByDimension
+  is-answered e =
+      let a : answeredThere back (codeOf r f) f s (codeOf r f % facesIn d) ≡ true = rw (face, code) at e in
+      rw (a, turned, face, code) (sym (and-true _))
+
+-- ---- what is seen of a tree
+
+-- a test that fails counts nothing
+pub seen-refused : {test : Bool} {up down : ℕ} {ok : Bool} {ups downs : ℕ} → test ≡ false → (ok ≡ false) × ((ups ≡ 0) × (downs ≡ 0)) → SeenAs test up down ok ups downs
+seen-refused e r = record { tested = r .0 ∙ sym e; upward = λ t. clash t (r .0); downward = λ t. clash t (r .0); few = (omega (arith, r .1 .0), omega (arith, r .1 .1)) }
+
+-- a loop over the faces that has come to its end
+pub seen-all : {ups downs : ℕ} (n face : ℕ) (f p q : ℕ → Bool) → face ≤ n → n ≤ face → n ≤ 6 → allBelow face f ≡ true → (ups ≡ countBelow face p) × (ups ≤ face) → (downs ≡ countBelow face q) × (downs ≤ face)
+    → SeenAs (allBelow n f) (countBelow n p) (countBelow n q) true ups downs
+seen-all n face f p q h k six a u v =
+    let e : face ≡ n = omega arith in
+    record { tested = sym (all-to n f face h k a); upward = λ t. rw (sym e) (u .0); downward = λ t. rw (sym e) (v .0); few = (omega (arith, u .1), omega (arith, v .1)) }
+
+-- one more number that may count
+pub count-next : {n r : ℕ} {b : Bool} (i : ℕ) (f : ℕ → Bool) → r ≡ cond b 1 0 → b ≡ f i → n ≡ countBelow i f → n + r ≡ countBelow (i + 1) f
+count-next i f e p h = rw (count-more i f, h, e, p)
+
+-- one more summand
+pub sum-next : {n r : ℕ} (i : ℕ) (g : ℕ → ℕ) → r ≡ g i → n ≡ sumBelow i g → n + r ≡ sumBelow (i + 1) g
+sum-next i g e h = rw (sum-more i g, h, e)
+
+-- faces before those without use
+pub unused-first : (c : ℕ) (r : List ℕ) → allBelow c (unusedFrom c r) ≡ true
+unfolding unusedFrom
+unused-first c r = all-intro c (unusedFrom c r) (λ f h. rw (lt-ltb f c h))
+
+pub unused-is : {b : Bool} (c : ℕ) (r : List ℕ) (f : ℕ) → c ≤ f → b ≡ unusedOk r f → unusedFrom c r f ≡ b
+unfolding unusedFrom
+unused-is c r f h e = rw (le-ltb f c h) (sym e)
+
+pub alone-read : {a z g : Bool} {number shape dimension : ℕ} (d k : ℕ) (r : List ℕ) → shape ≡ shapeOf r → a ≡ shapeOk shape → z ≡ zerosOk r → g ≡ regionOk r → number ≡ numberOf r → dimension ≡ dimensionOf shape
+    → (a && z && g && eqb number k && eqb dimension d) ≡ aloneByDimension d k r
+unfolding aloneByDimension
+alone-read d k r e a z g n s = rw (a, z, g, n, s, e)
 
 module _ (m : List ℕ) where
   -- no header fits
@@ -26,9 +77,29 @@ module _ (m : List ℕ) where
   unfolding headerSound
   header-read e t p q r = rw (p, q, r, e, t)
 
-  pub sound-read : {d K : ℕ} {r : Bool} → headerSound m ≡ true → d ≡ meshDimension m → K ≡ meshTrees m → r ≡ allBelow K (treeByDimension (meshCore m) d K) → r ≡ meshSound m
+  pub sound-read : {d K : ℕ} {r : Bool} → headerSound m ≡ true → d ≡ meshDimension m → K ≡ meshTrees m → r ≡ treesFromAbove (meshCore m) d K → r ≡ meshSound m
   unfolding meshSound
-  sound-read {d} {K} h e t p = rw (p, trees-by-dimension (meshCore m) d K, h, e, t)
+  sound-read {d} {K} h e t p = rw (p, trees-from-above (meshCore m) d K, h, e, t)
+
+  -- one tree fails; or all pass, and the counts decide
+  pub trees-fail : (d K k : ℕ) → k < K → treeFromAbove (meshCore m) d K k ≡ false → false ≡ treesFromAbove (meshCore m) d K
+  unfolding treesFromAbove
+  trees-fail d K k h e = rw (all-fails K (treeFromAbove (meshCore m) d K) k h e)
+
+  pub trees-read : (d K k : ℕ) {ups downs : ℕ} → k ≤ K → K ≤ k → allBelow k (treeFromAbove (meshCore m) d K) ≡ true → ups ≡ sumBelow k (linksUp (meshCore m)) → downs ≡ sumBelow k (linksDown (meshCore m)) → eqb ups downs ≡ treesFromAbove (meshCore m) d K
+  unfolding treesFromAbove
+  trees-read d K k h l a u v =
+      let e : k ≡ K = omega arith in
+      rw (all-to K (treeFromAbove (meshCore m) d K) k h l a, u, v, e)
+
+  module _ (k : ℕ) {at : ℕ} (here : at ≡ meshHeader + treeSize * k) where
+    pub leads-up : (n f : ℕ) → n ≡ neighbourOf (piece m at coreSize) f → ltb k n ≡ leadsUp (meshCore m) k f
+    unfolding leadsUp meshCore
+    leads-up n f e = rw (← here, e)
+
+    pub leads-down : (n f : ℕ) → n ≡ neighbourOf (piece m at coreSize) f → ltb n k ≡ leadsDown (meshCore m) k f
+    unfolding leadsDown meshCore
+    leads-down n f e = rw (← here, e)
 
   module _ (d K k : ℕ) {at : ℕ} (here : at ≡ meshHeader + treeSize * k) where
     -- the neighbour isn't below K
@@ -45,3 +116,45 @@ module _ (m : List ℕ) where
         → q ≡ allBelow faces (faceByDimension (meshCore m) d K k) → (a && eqb number k && eqb dimension d && q) ≡ treeByDimension (meshCore m) d K k
     unfolding treeByDimension meshCore
     tree-read e p n r s t = rw (← here, p, n, r, t, s, e)
+
+    -- ---- each link from the end with the higher number
+
+    here-is : meshCore m k ≡ piece m at coreSize
+    unfolding meshCore
+    here-is = rw here
+
+    -- a link up
+    pub face-up : (n f : ℕ) → n ≡ neighbourOf (piece m at coreSize) f → k < n → ltb n K ≡ faceFromAbove (meshCore m) d K k f
+    unfolding faceFromAbove leadsUp meshCore
+    face-up n f e h = rw (← here, ← e, lt-ltb k n h)
+
+    -- a link down, or of the tree to itself
+    pub face-off : {b : Bool} (n f : ℕ) → n ≡ neighbourOf (piece m at coreSize) f → n ≤ k → b ≡ boundaryOk k (piece m at coreSize) f → b ≡ false → false ≡ faceFromAbove (meshCore m) d K k f
+    unfolding faceFromAbove leadsUp meshCore
+    face-off n f e h b q = rw (← here, ← e, le-ltb k n h, ← b, q)
+
+    pub face-down : {b r : Bool} (n to f : ℕ) → n ≡ neighbourOf (piece m at coreSize) f → n ≤ k → to ≡ meshHeader + treeSize * n → b ≡ boundaryOk k (piece m at coreSize) f → b ≡ true
+        → r ≡ linkByDimension d k (piece m at coreSize) f (piece m to coreSize) → r ≡ faceFromAbove (meshCore m) d K k f
+    unfolding faceFromAbove leadsUp meshCore
+    face-down n to f e h there b q p = rw (← here, ← e, le-ltb k n h, ← b, q, ← there, p)
+
+    pub tree-not-alone : aloneByDimension d k (piece m at coreSize) ≡ false → treeFromAbove (meshCore m) d K k ≡ false
+    unfolding treeFromAbove
+    tree-not-alone e = let a : aloneByDimension d k (meshCore m k) ≡ false = rw here-is e in rw a
+
+    module _ {shape faces : ℕ} (shaped : shape ≡ shapeOf (piece m at coreSize)) (counted : faces ≡ faceCount shape) where
+      faces-here : faces ≡ faceCount (shapeOf (meshCore m k))
+      faces-here = counted ∙ ap faceCount (shaped ∙ ap shapeOf (sym here-is))
+
+      pub tree-unused : allBelow 6 (unusedFrom faces (piece m at coreSize)) ≡ false → treeFromAbove (meshCore m) d K k ≡ false
+      unfolding treeFromAbove
+      tree-unused e = let u : allBelow 6 (unusedFrom faces (meshCore m k)) ≡ false = rw here-is e in rw (← faces-here, u, and-false)
+
+      pub tree-seen : {ok : Bool} {ups downs : ℕ} → aloneByDimension d k (piece m at coreSize) ≡ true → allBelow 6 (unusedFrom faces (piece m at coreSize)) ≡ true
+          → SeenAs (allBelow faces (faceFromAbove (meshCore m) d K k)) (countBelow faces (leadsUp (meshCore m) k)) (countBelow faces (leadsDown (meshCore m) k)) ok ups downs
+          → SeenAs (treeFromAbove (meshCore m) d K k) (linksUp (meshCore m) k) (linksDown (meshCore m) k) ok ups downs
+      unfolding treeFromAbove linksUp linksDown
+      tree-seen a u s =
+          let alone : aloneByDimension d k (meshCore m k) ≡ true = rw here-is a in
+          let unused : allBelow 6 (unusedFrom faces (meshCore m k)) ≡ true = rw here-is u in
+          rw (← faces-here, alone, unused) s

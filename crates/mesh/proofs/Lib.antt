@@ -1,5 +1,7 @@
 -- Laws, for this crate's proofs and for the crates above.
+pub mod Counting
 pub mod Soundness
 pub mod ByDimension
+pub mod FromAbove
 pub mod Checking
 pub mod Examples

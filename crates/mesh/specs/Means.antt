@@ -1,11 +1,12 @@
--- Means, no part of what is promised: the rule of a link between two records, and the same read by the dimension. In proofs/ByDimension.antt: over all trees it is what treeSound says.
-use Prim.Native.Nat.{ℕ, _+_, _/_, _%_}
-use mathlib.Core.Bool.{Bool, _&&_}
+-- Means, no part of what is promised: the rule of a link between two records, and the same read by the dimension. In proofs/ByDimension.antt: where all records have the dimension, the two say the same.
+use Prim.Native.Nat.{ℕ, _+_, _/_, _%_, _≤_}
+use mathlib.Core.Path.{_≡_}
+use mathlib.Core.Bool.{Bool, true, cond, _&&_}
 use mathlib.Core.List.{List}
 use lib.Dec.{ltb, eqb}
-use Rattle.encoding.specs.Below.{allBelow}
-use Rattle.records.specs.Shape.{dimensionOf, faceCount, facesIn, corners}
-use Rattle.records.specs.Record.{numberOf, shapeOf, neighbourOf, codeOf, inForm}
+use Rattle.encoding.specs.Below.{allBelow, countBelow, sumBelow}
+use Rattle.records.specs.Shape.{shapeOk, dimensionOf, faceCount, facesIn, corners}
+use Rattle.records.specs.Record.{numberOf, shapeOf, neighbourOf, codeOf, regionOk, zerosOk, unusedOk, boundaryOk, inForm}
 use Rattle.mesh.specs.Link.{orientationOk, sameCorners, answered}
 
 -- both faces have as many corners, and the orientation is below these
@@ -37,3 +38,47 @@ faceByDimension core d K k f = ltb (neighbourOf (core k) f) K && linkByDimension
 unfoldable pub treeByDimension : (ℕ → List ℕ) → ℕ → ℕ → ℕ → Bool
 treeByDimension core d K k =
     inForm k (core k) && eqb (numberOf (core k)) k && eqb (dimensionOf (shapeOf (core k))) d && allBelow (faceCount (shapeOf (core k))) (faceByDimension core d K k)
+
+-- ---- each link looked at from the end with the higher number, and a count. In proofs/FromAbove.antt: over all trees it is what treeSound says
+
+-- the link of face f leads to a tree with a higher number, or a lower one
+unfoldable pub leadsUp : (ℕ → List ℕ) → ℕ → ℕ → Bool
+leadsUp core k f = ltb k (neighbourOf (core k) f)
+
+unfoldable pub leadsDown : (ℕ → List ℕ) → ℕ → ℕ → Bool
+leadsDown core k f = ltb (neighbourOf (core k) f) k
+
+-- how many links of tree k do
+unfoldable pub linksUp : (ℕ → List ℕ) → ℕ → ℕ
+linksUp core k = countBelow (faceCount (shapeOf (core k))) (leadsUp core k)
+
+unfoldable pub linksDown : (ℕ → List ℕ) → ℕ → ℕ
+linksDown core k = countBelow (faceCount (shapeOf (core k))) (leadsDown core k)
+
+-- what no link shows
+unfoldable pub aloneByDimension : ℕ → ℕ → List ℕ → Bool
+aloneByDimension d k r = shapeOk (shapeOf r) && zerosOk r && regionOk r && eqb (numberOf r) k && eqb (dimensionOf (shapeOf r)) d
+
+-- a face that the shape has: a link up leads to a tree, any other obeys the rules
+unfoldable pub faceFromAbove : (ℕ → List ℕ) → ℕ → ℕ → ℕ → ℕ → Bool
+faceFromAbove core d K k f =
+    cond (leadsUp core k f) (ltb (neighbourOf (core k) f) K) (boundaryOk k (core k) f && linkByDimension d k (core k) f (core (neighbourOf (core k) f)))
+
+-- a face that a shape with c faces doesn't have
+unfoldable pub unusedFrom : ℕ → List ℕ → ℕ → Bool
+unusedFrom c r f = cond (ltb f c) true (unusedOk r f)
+
+unfoldable pub treeFromAbove : (ℕ → List ℕ) → ℕ → ℕ → ℕ → Bool
+treeFromAbove core d K k =
+    aloneByDimension d k (core k) && allBelow 6 (unusedFrom (faceCount (shapeOf (core k))) (core k)) && allBelow (faceCount (shapeOf (core k))) (faceFromAbove core d K k)
+
+-- all trees, and as many links up as down
+unfoldable pub treesFromAbove : (ℕ → List ℕ) → ℕ → ℕ → Bool
+treesFromAbove core d K = allBelow K (treeFromAbove core d K) && eqb (sumBelow K (linksUp core)) (sumBelow K (linksDown core))
+
+-- what a loop over the faces of a tree answers: the test, and where it passes the links up and down
+pub record SeenAs (test : Bool) (up down : ℕ) (ok : Bool) (ups downs : ℕ) : Type 0 where
+  pub tested : ok ≡ test
+  pub upward : ok ≡ true → ups ≡ up
+  pub downward : ok ≡ true → downs ≡ down
+  pub few : (ups ≤ 6) × (downs ≤ 6)

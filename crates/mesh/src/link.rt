@@ -55,7 +55,7 @@ pub fn corners_fit(orientation: u32, shape: u32, face: u32, other: u32, there: u
 }
 
 // The neighbour's link on its face `there` leads back, and its code is this one with the face in place of the neighbour's.
-fn answered_there(bs: &[u8], back: u32, code: u32, face: u32, to: usize, there: u32) -> bool
+pub fn answered_there(bs: &[u8], back: u32, code: u32, face: u32, to: usize, there: u32) -> bool
     requires { ⌜ (to + coreSize ≤ length (now bs)) × (there < 6) ⌝ }
     ensures { λ r. ⌜ r ≡ answeredThere back code face (piece (now (bs .entry)) to coreSize) there ⌝ }
 {

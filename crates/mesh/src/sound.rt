@@ -1,37 +1,114 @@
-// Whether a whole mesh is sound: its header, and each tree's record and links.
+// Whether a whole mesh is sound: its header, each tree's record, and each link looked at from the end with the higher number. Where as many links lead up as down, each link up is then the answer to one down (proofs/FromAbove.antt).
 use crate::layout::dimension;
 use crate::layout::header_sound;
 use crate::layout::tree_at;
 use crate::layout::trees;
-use crate::link::link_ok;
+use crate::link::answered_there;
+use crate::link::corners_fit;
+use crate::link::parted;
 ghost use mathlib.Core.Path.{_≡_};
+ghost use mathlib.Core.Bool.{false, cond};
 ghost use Prim.Native.Nat.{_+_, _*_, _≤_, _<_};
 ghost use lib.ListN.{length};
-ghost use Rattle.encoding.specs.Below.{allBelow};
-ghost use Rattle.records.specs.Record.{treeSize};
+ghost use Rattle.encoding.specs.Below.{allBelow, countBelow};
+ghost use Rattle.encoding.specs.Pieces.{piece};
+ghost use Rattle.records.specs.Record.{coreSize, treeSize};
 ghost use Rattle.mesh.specs.Mesh.{meshHeader, meshCore, meshSound};
-ghost use Rattle.mesh.specs.Means.{faceByDimension, treeByDimension};
+ghost use Rattle.mesh.specs.Means.{linkByDimension, leadsUp, leadsDown, linksUp, linksDown, aloneByDimension, faceFromAbove, unusedFrom, treeFromAbove, treesFromAbove, SeenAs};
 
-// The neighbour's record is read only once its number is known to be below K.
+// What the faces of a tree show: whether each passes, and how many links lead up and down.
+pub struct Seen {
+    pub ok: bool,
+    pub ups: u64,
+    pub downs: u64,
+}
+
+fn one(counts: bool) -> u64
+    ensures { λ r. ⌜ (r ≡ cond counts 1 0) × (r ≤ 1) ⌝ }
+{
+    if counts {
+        return 1;
+    }
+    0
+}
+
+fn refused() -> Seen
+    ensures { λ r. ⌜ (r .ok ≡ false) × ((r .ups ≡ 0) × (r .downs ≡ 0)) ⌝ }
+{
+    Seen {
+        ok: false,
+        ups: 0,
+        downs: 0,
+    }
+}
+
+// The rule of a link, as `link::link_ok` has it: a function with one caller costs no call.
+fn link_down(mesh: &[u8], dimension: u32, k: u32, at: usize, face: u32, to: usize) -> bool
+    requires { ⌜ (at + coreSize ≤ length (now mesh)) × (face < 6) × (to + coreSize ≤ length (now mesh)) ⌝ }
+    ensures { λ r. ⌜ r ≡ linkByDimension dimension k (piece (now (mesh .entry)) at coreSize) face (piece (now (mesh .entry)) to coreSize) ⌝ }
+{
+    let code = records::read::code_of(mesh, at, face);
+    let across = parted(dimension, code);
+    let there = across.face;
+    if !answered_there(mesh, k, code, face, to, there) {
+        return false;
+    }
+    corners_fit(
+        across.orientation,
+        records::read::shape_of(mesh, at),
+        face,
+        records::read::shape_of(mesh, to),
+        there,
+    )
+}
+
+// The record of a neighbour with a higher number is not read.
 fn face_sound(mesh: &[u8], dimension: u32, trees: u32, k: u32, face: u32) -> bool
     requires { ⌜ (length (now mesh) ≡ meshHeader + treeSize * trees) × (k < trees) × (face < 6) ⌝ }
-    ensures { λ r. ⌜ r ≡ faceByDimension (meshCore (now (mesh .entry))) dimension trees k face ⌝ }
+    ensures { λ r. ⌜ r ≡ faceFromAbove (meshCore (now (mesh .entry))) dimension trees k face ⌝ }
 {
     let at = tree_at(k);
     let n = records::read::neighbour_of(mesh, at, face);
-    if trees <= n {
+    if k < n {
+        return n < trees;
+    }
+    if !records::form::boundary_ok(mesh, at, k, face) {
         return false;
     }
-    link_ok(mesh, dimension, k, at, face, tree_at(n))
+    link_down(mesh, dimension, k, at, face, tree_at(n))
 }
 
-fn faces_sound(mesh: &[u8], dimension: u32, trees: u32, k: u32, faces: u32) -> bool
+fn faces_sound(mesh: &[u8], dimension: u32, trees: u32, k: u32, faces: u32) -> Seen
     requires { ⌜ (length (now mesh) ≡ meshHeader + treeSize * trees) × (k < trees) × (faces ≤ 6) ⌝ }
-    ensures { λ r. ⌜ r ≡ allBelow faces (faceByDimension (meshCore (now (mesh .entry))) dimension trees k) ⌝ }
+    ensures { λ r. ⌜ SeenAs (allBelow faces (faceFromAbove (meshCore (now (mesh .entry))) dimension trees k)) (countBelow faces (leadsUp (meshCore (now (mesh .entry))) k)) (countBelow faces (leadsDown (meshCore (now (mesh .entry))) k)) (r .ok) (r .ups) (r .downs) ⌝ }
 {
     let mut face = 0;
+    let mut ups = 0;
+    let mut downs = 0;
     while face < faces {
         if !face_sound(mesh, dimension, trees, k, face) {
+            return refused();
+        }
+        let n = records::read::neighbour_of(mesh, tree_at(k), face);
+        ups += one(k < n);
+        downs += one(n < k);
+        face += 1;
+    }
+    Seen {
+        ok: true,
+        ups,
+        downs,
+    }
+}
+
+// The faces that the shape doesn't have.
+fn unused_sound(mesh: &[u8], at: usize, faces: u32) -> bool
+    requires { ⌜ (at + coreSize ≤ length (now mesh)) × (faces ≤ 6) ⌝ }
+    ensures { λ r. ⌜ r ≡ allBelow 6 (unusedFrom faces (piece (now (mesh .entry)) at coreSize)) ⌝ }
+{
+    let mut face = faces;
+    while face < 6 {
+        if !records::form::unused_ok(mesh, at, face) {
             return false;
         }
         face += 1;
@@ -39,30 +116,50 @@ fn faces_sound(mesh: &[u8], dimension: u32, trees: u32, k: u32, faces: u32) -> b
     true
 }
 
-fn tree_sound(mesh: &[u8], dimension: u32, trees: u32, k: u32) -> bool
-    requires { ⌜ (length (now mesh) ≡ meshHeader + treeSize * trees) × (k < trees) ⌝ }
-    ensures { λ r. ⌜ r ≡ treeByDimension (meshCore (now (mesh .entry))) dimension trees k ⌝ }
+fn alone(mesh: &[u8], dimension: u32, k: u32, at: usize) -> bool
+    requires { ⌜ at + coreSize ≤ length (now mesh) ⌝ }
+    ensures { λ r. ⌜ r ≡ aloneByDimension dimension k (piece (now (mesh .entry)) at coreSize) ⌝ }
 {
-    let at = tree_at(k);
     let shape = records::read::shape_of(mesh, at);
-    records::form::in_form(mesh, at, k)
+    records::shape::shape_ok(shape)
+        & records::form::zeros_ok(mesh, at)
+        & records::form::region_ok(mesh, at)
         & (records::read::number_of(mesh, at) == k)
         & (records::shape::dimension_of(shape) == dimension)
-        & faces_sound(mesh, dimension, trees, k, records::shape::face_count(shape))
+}
+
+fn tree_sound(mesh: &[u8], dimension: u32, trees: u32, k: u32) -> Seen
+    requires { ⌜ (length (now mesh) ≡ meshHeader + treeSize * trees) × (k < trees) ⌝ }
+    ensures { λ r. ⌜ SeenAs (treeFromAbove (meshCore (now (mesh .entry))) dimension trees k) (linksUp (meshCore (now (mesh .entry))) k) (linksDown (meshCore (now (mesh .entry))) k) (r .ok) (r .ups) (r .downs) ⌝ }
+{
+    let at = tree_at(k);
+    if !alone(mesh, dimension, k, at) {
+        return refused();
+    }
+    let faces = records::shape::face_count(records::read::shape_of(mesh, at));
+    if !unused_sound(mesh, at, faces) {
+        return refused();
+    }
+    faces_sound(mesh, dimension, trees, k, faces)
 }
 
 fn trees_sound(mesh: &[u8], dimension: u32, trees: u32) -> bool
     requires { ⌜ length (now mesh) ≡ meshHeader + treeSize * trees ⌝ }
-    ensures { λ r. ⌜ r ≡ allBelow trees (treeByDimension (meshCore (now (mesh .entry))) dimension trees) ⌝ }
+    ensures { λ r. ⌜ r ≡ treesFromAbove (meshCore (now (mesh .entry))) dimension trees ⌝ }
 {
     let mut k = 0;
+    let mut ups = 0;
+    let mut downs = 0;
     while k < trees {
-        if !tree_sound(mesh, dimension, trees, k) {
+        let seen = tree_sound(mesh, dimension, trees, k);
+        if !seen.ok {
             return false;
         }
+        ups += seen.ups;
+        downs += seen.downs;
         k += 1;
     }
-    true
+    ups == downs
 }
 
 pub fn sound(mesh: &[u8]) -> bool

@@ -21,7 +21,7 @@ pub const UNUSED: u32 = 4294967295;
 pub const REGIONS: u32 = 4096;
 
 // Whether the zero bytes are zero.
-fn zeros_ok(bs: &[u8], at: usize) -> bool
+pub fn zeros_ok(bs: &[u8], at: usize) -> bool
     requires { ⌜ at + coreSize ≤ length (now bs) ⌝ }
     ensures { λ r. ⌜ r ≡ zerosOk (piece (now (bs .entry)) at coreSize) ⌝ }
 {
@@ -29,7 +29,7 @@ fn zeros_ok(bs: &[u8], at: usize) -> bool
 }
 
 // Whether the region is within its limit.
-fn region_ok(bs: &[u8], at: usize) -> bool
+pub fn region_ok(bs: &[u8], at: usize) -> bool
     requires { ⌜ at + coreSize ≤ length (now bs) ⌝ }
     ensures { λ r. ⌜ r ≡ regionOk (piece (now (bs .entry)) at coreSize) ⌝ }
 {
@@ -37,7 +37,7 @@ fn region_ok(bs: &[u8], at: usize) -> bool
 }
 
 // Whether a face that the shape has is no boundary, or one with orientation 0.
-fn boundary_ok(bs: &[u8], at: usize, own: u32, face: u32) -> bool
+pub fn boundary_ok(bs: &[u8], at: usize, own: u32, face: u32) -> bool
     requires { ⌜ (at + coreSize ≤ length (now bs)) × (face < 6) ⌝ }
     ensures { λ r. ⌜ r ≡ boundaryOk own (piece (now (bs .entry)) at coreSize) face ⌝ }
 {
@@ -51,7 +51,7 @@ fn boundary_ok(bs: &[u8], at: usize, own: u32, face: u32) -> bool
 }
 
 // Whether a face that the shape doesn't have is marked so.
-fn unused_ok(bs: &[u8], at: usize, face: u32) -> bool
+pub fn unused_ok(bs: &[u8], at: usize, face: u32) -> bool
     requires { ⌜ (at + coreSize ≤ length (now bs)) × (face < 6) ⌝ }
     ensures { λ r. ⌜ r ≡ unusedOk (piece (now (bs .entry)) at coreSize) face ⌝ }
 {

@@ -1,29 +1,9 @@
-use Prim.Native.Nat.{ℕ, _/_, _%_}
-use mathlib.Core.Path.{_≡_, refl, sym, ap, _∙_}
-use mathlib.Core.Bool.{Bool, true, false, _&&_, and-true}
-use mathlib.Core.List.{List}
+use mathlib.Core.Path.{sym, _∙_}
 use borrow.Author.Tests.{not-true, not-false}
-use Rattle.records.specs.Shape.{facesIn}
-use Rattle.records.specs.Record.{shapeOf, codeOf}
-use Rattle.mesh.specs.Means.{cornersFit, cornersByDimension, answeredThere, answeredByDimension, linkByDimension}
-use Rattle.mesh.proofs.ByDimension.{and-false}
+use Rattle.mesh.proofs.Checking.{not-answered, is-answered}
 use borrow.Author.Needs.{needs}
 use Rattle.mesh.proofs.link.link_ok.Statement.{statement}
 use Rattle.mesh.proofs.link.link_ok.Tie as tie
-
--- the code, and what it says
-module _ (d back : ℕ) (r s : List ℕ) (f c g o : ℕ) (code : c ≡ codeOf r f) (face : g ≡ c % facesIn d) (turned : o ≡ c / facesIn d) where
-  not-answered : answeredThere back c f s g ≡ false → false ≡ linkByDimension d back r f s
-  unfolding linkByDimension answeredByDimension
-  not-answered e =
-      let a : answeredThere back (codeOf r f) f s (codeOf r f % facesIn d) ≡ false = rw (face, code) at e in
-      sym (ap (λ (b : Bool). cornersByDimension d r f s && b) a ∙ and-false (cornersByDimension d r f s))
-
-  is-answered : answeredThere back c f s g ≡ true → cornersFit o (shapeOf r) f (shapeOf s) g ≡ linkByDimension d back r f s
-  unfolding linkByDimension answeredByDimension cornersByDimension
-  is-answered e =
-      let a : answeredThere back (codeOf r f) f s (codeOf r f % facesIn d) ≡ true = rw (face, code) at e in
-      rw (a, turned, face, code) (sym (and-true _))
 
 code-of-requires : tie.Need-code-of-requires
 code-of-requires c κs = search needs

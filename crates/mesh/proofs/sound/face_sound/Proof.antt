@@ -1,5 +1,5 @@
-use mathlib.Core.Path.{sym}
-use Rattle.mesh.proofs.Checking.{face-outside, face-read}
+use borrow.Author.Tests.{not-true, not-false}
+use Rattle.mesh.proofs.Checking.{face-up, face-off, face-down}
 use borrow.Author.Needs.{needs}
 use Rattle.mesh.proofs.sound.face_sound.Statement.{statement}
 use Rattle.mesh.proofs.sound.face_sound.Tie as tie
@@ -11,21 +11,40 @@ neighbour-of-requires : tie.Need-neighbour-of-requires
 neighbour-of-requires c κs = search needs
 
 returns : tie.Need-returns
-returns c = sym (face-outside _ _ _ _ (c .before .before .tree-at .ensures) _ _ (c .before .neighbour-of .ensures) (c .if1 .taken))
+returns c = face-up _ _ _ _ (c .before .before .tree-at .ensures) _ _ (c .before .neighbour-of .ensures) (c .if1 .taken)
+
+boundary-ok-requires : tie.Need-boundary-ok-requires
+boundary-ok-requires c κs = search needs
+
+returns-2 : tie.Need-returns-2
+returns-2 c =
+    let if1 = c .before .before .if1 in
+    let from = c .before .before .before in
+    face-off _ _ _ _ (from .before .tree-at .ensures) _ _ (from .neighbour-of .ensures) (if1 .left) (c .before .boundary-ok .ensures) (not-true _ (c .if2 .taken))
 
 tree-at-requires-2 : tie.Need-tree-at-requires-2
 tree-at-requires-2 c κs = search needs
 
-link-ok-requires : tie.Need-link-ok-requires
-link-ok-requires c κs = search needs
+link-down-requires : tie.Need-link-down-requires
+link-down-requires c κs = search needs
 
-returns-2 : tie.Need-returns-2
-returns-2 c =
-    let tree-at = c .before .before .before .before .tree-at in
-    let neighbour-of = c .before .before .before .neighbour-of in
-    let if1 = c .before .before .if1 in
-    let tree-at2 = c .before .tree-at2 in
-    face-read _ _ _ _ (tree-at .ensures) _ _ _ (neighbour-of .ensures) (if1 .left) (tree-at2 .ensures) (c .link-ok .ensures)
+returns-3 : tie.Need-returns-3
+returns-3 c =
+    let if2 = c .before .before .if2 in
+    let boundary-ok = c .before .before .before .boundary-ok in
+    let if1 = c .before .before .before .before .if1 in
+    let from = c .before .before .before .before .before in
+    face-down _ _ _ _ (from .before .tree-at .ensures) _ _ _ (from .neighbour-of .ensures) (if1 .left) (c .before .tree-at2 .ensures) (boundary-ok .ensures) (not-false _ (if2 .left)) (c .link-down .ensures)
 
 pub face-sound-spec : {M : Type 1} → statement M
-face-sound-spec = tie.close (tie.spec tree-at-requires neighbour-of-requires returns tree-at-requires-2 link-ok-requires returns-2)
+face-sound-spec =
+    tie.close
+    (tie.spec
+    tree-at-requires
+    neighbour-of-requires
+    returns
+    boundary-ok-requires
+    returns-2
+    tree-at-requires-2
+    link-down-requires
+    returns-3)

@@ -1,4 +1,6 @@
-use Rattle.mesh.proofs.Checking.{tree-read}
+use mathlib.Core.Path.{sym, _∙_}
+use borrow.Author.Tests.{not-true, not-false}
+use Rattle.mesh.proofs.Checking.{seen-refused, tree-not-alone, tree-unused, tree-seen}
 use borrow.Author.Needs.{needs}
 use Rattle.mesh.proofs.sound.tree_sound.Statement.{statement}
 use Rattle.mesh.proofs.sound.tree_sound.Tie as tie
@@ -6,43 +8,52 @@ use Rattle.mesh.proofs.sound.tree_sound.Tie as tie
 tree-at-requires : tie.Need-tree-at-requires
 tree-at-requires c κs = search needs
 
+alone-requires : tie.Need-alone-requires
+alone-requires c κs = search needs
+
+refused-requires : tie.Need-refused-requires
+refused-requires c κs = search needs
+
+returns : tie.Need-returns
+returns c = seen-refused (tree-not-alone _ _ _ _ (c .before .before .before .tree-at .ensures) (sym (c .before .before .alone .ensures) ∙ not-true _ (c .before .if1 .taken))) (c .refused .ensures)
+
 shape-of-requires : tie.Need-shape-of-requires
 shape-of-requires c κs = search needs
-
-in-form-requires : tie.Need-in-form-requires
-in-form-requires c κs = search needs
-
-number-of-requires : tie.Need-number-of-requires
-number-of-requires c κs = search needs
-
-dimension-of-requires : tie.Need-dimension-of-requires
-dimension-of-requires c κs = search needs
 
 face-count-requires : tie.Need-face-count-requires
 face-count-requires c κs = search needs
 
+unused-sound-requires : tie.Need-unused-sound-requires
+unused-sound-requires c κs = search needs
+
+refused-requires-2 : tie.Need-refused-requires-2
+refused-requires-2 c κs = search needs
+
+returns-2 : tie.Need-returns-2
+returns-2 c =
+    seen-refused
+    (tree-unused _ _ _ _ (c .before .before .before .before .before .before .before .tree-at .ensures) (c .before .before .before .before .shape-of .ensures) (c .before .before .before .face-count .ensures .0) (sym (c .before .before .unused-sound .ensures) ∙ not-true _ (c .before .if2 .taken)))
+    (c .refused2 .ensures)
+
 faces-sound-requires : tie.Need-faces-sound-requires
 faces-sound-requires c κs = search needs
 
-returns : tie.Need-returns
-returns c =
-    let tree-at = c .before .before .before .before .before .before .tree-at in
-    let shape-of = c .before .before .before .before .before .shape-of in
-    let in-form = c .before .before .before .before .in-form in
-    let number-of = c .before .before .before .number-of in
-    let dimension-of = c .before .before .dimension-of in
-    let face-count = c .before .face-count in
-    tree-read _ _ _ _ (tree-at .ensures) (shape-of .ensures) (in-form .ensures) (number-of .ensures) (dimension-of .ensures) (face-count .ensures .0) (c .faces-sound .ensures)
+returns-3 : tie.Need-returns-3
+returns-3 c =
+    tree-seen _ _ _ _ (c .before .before .before .before .before .before .before .tree-at .ensures) (c .before .before .before .before .shape-of .ensures) (c .before .before .before .face-count .ensures .0) (sym (c .before .before .before .before .before .before .alone .ensures) ∙ not-false _ (c .before .before .before .before .before .if1 .left)) (sym (c .before .before .unused-sound .ensures) ∙ not-false _ (c .before .if2 .left)) (c .faces-sound .ensures)
 
 pub tree-sound-spec : {M : Type 1} → statement M
 tree-sound-spec =
     tie.close
     (tie.spec
     tree-at-requires
+    alone-requires
+    refused-requires
+    returns
     shape-of-requires
-    in-form-requires
-    number-of-requires
-    dimension-of-requires
     face-count-requires
+    unused-sound-requires
+    refused-requires-2
+    returns-2
     faces-sound-requires
-    returns)
+    returns-3)

@@ -5,14 +5,16 @@ use mathlib.Core.Path.{_≡_}
 use mathlib.Core.List.{List, [], _++_}
 use lib.Dec.{eqb}
 use lib.ListN.{length}
-use Rattle.encoding.specs.Pieces.{splice}
+use Rattle.encoding.specs.Pieces.{piece, splice}
 use Rattle.encoding.specs.Below.{countBelow}
+use Rattle.bits.specs.Bits.{inSet}
 use Rattle.records.specs.Shape.{facesIn}
 use Rattle.records.specs.Record.{coreSize, treeSize, unused, numberOf}
 use Rattle.mesh.specs.Mesh.{meshHeader, meshDimension, meshCore, meshRecord}
 use Rattle.part.specs.Layout.{partHeader, headerBytes}
 use Rattle.part.specs.Cut.{renamed}
 use Rattle.part.specs.Means.{inRange, ghostIn, Ascending, smaller}
+use Rattle.positions.specs.Means.{Counts}
 
 -- the cores of the ghosts below k, ascending
 unfoldable pub ghostCores : (ℕ → List ℕ) → ℕ → ℕ → ℕ → List ℕ
@@ -28,6 +30,35 @@ pub record Held (bs : List ℕ) (at count first end : ℕ) : Type 0 where
 -- the local index of a neighbour, by the ghosts written
 unfoldable pub localRead : List ℕ → ℕ → ℕ → ℕ → ℕ → ℕ → ℕ
 localRead bs at count first end k = cond (eqb k unused) unused (cond (inRange first end k) (k - first) (end - first + smaller bs at count k))
+
+-- what the renaming by the index of the ghosts reads: their numbers as a set with its counts, and the range
+pub record Known (marks behind : List ℕ) (count first end : ℕ) : Type 0 where
+  pub counted : Counts marks behind count
+  pub range : first ≤ end
+  pub small : end + count < 4294967296
+
+-- the local index of a neighbour, by the set of the ghosts' numbers
+unfoldable pub localIn : List ℕ → ℕ → ℕ → ℕ → ℕ
+localIn marks first end k = cond (eqb k unused) unused (cond (inRange first end k) (k - first) (end - first + countBelow k (inSet marks)))
+
+-- what writing the tree record at byte from of a buffer to byte to needs
+pub record RecordRoom (bs out : List ℕ) (from faces : ℕ) (marks behind : List ℕ) (count first end to : ℕ) : Type 0 where
+  pub source : from + treeSize ≤ length bs
+  pub target : to + treeSize ≤ length out
+  pub faced : 0 < faces
+  pub known : Known marks behind count first end
+
+-- the same for the n records of the trees from first on, behind a part's header
+pub record RecordsRoom (bs out : List ℕ) (from faces first n : ℕ) (marks behind : List ℕ) (count : ℕ) : Type 0 where
+  pub source : from + treeSize * n ≤ length bs
+  pub target : partHeader + treeSize * n ≤ length out
+  pub faced : 0 < faces
+  pub known : Known marks behind count first (first + n)
+
+-- the n tree records from byte from on, renamed
+unfoldable pub recordsWith : (ℕ → ℕ) → ℕ → List ℕ → ℕ → ℕ → List ℕ
+recordsWith rename F bs from zero = []
+recordsWith rename F bs from (suc n) = recordsWith rename F bs from n ++ renamed rename F (piece bs (from + treeSize * n) treeSize)
 
 -- what writing the record at byte from of a mesh to byte to of a part needs
 pub record TreeRoom (mesh out : List ℕ) (from faces first end at count to : ℕ) : Type 0 where

@@ -4,6 +4,7 @@ ghost use Rattle.encoding.specs.Refusal.{firstFailed};
 ghost use Rattle.part_cut.specs.Calls.{cutChecks, partLengthOf, cutPartOf};
 use encoding::answer::Length;
 
+pub mod locals;
 pub mod rename;
 pub mod write;
 

@@ -11,7 +11,7 @@ use lib.Seq.{getD-set-same, getD-set-other}
 use borrow.Author.Tests.{ltb-true, lt-ltb, le-ltb, eqb-true, eqb-false, eq-eqb, ne-eqb}
 use Rattle.encoding.specs.Below.{anyBelow, countBelow, leastBelow}
 use Rattle.encoding.specs.Numbers.{u32At}
-use Rattle.encoding.proofs.Below.{either, tests, clash, below-suc, any-at, any-intro, count-more, count-same, count-none, count-le, count-initial, least-is, least-none}
+use Rattle.encoding.proofs.Below.{either, tests, clash, below-suc, any-at, any-intro, count-more, count-same, count-none, count-le, count-mono, count-initial, least-is, least-none}
 use Rattle.bits.specs.Bits.{bitOf, inSet, withMember}
 use Rattle.bits.proofs.Bits.{bit-zero, bit-shift, bit-past, in-none, in-with, with-length, count-add}
 use Rattle.records.specs.Record.{coreSize}
@@ -100,6 +100,13 @@ module _ (ws : List ℕ) where
       let m : countBelow (64 * i) (inSet ws) ≡ countBelow (64 * (i - 1)) (inSet ws) + countBelow 64 (bitOf (getD ws (i - 1) 0)) = rw d at (word-more (i - 1)) in
       let s : total + n + countBelow (64 * (i - 1)) (inSet ws) ≡ countBelow (64 * words) (inSet ws) = omega arith in
       (s, omega (arith, count-le (64 * words) (inSet ws)))
+
+  -- an empty word adds none
+  pub word-none : (words : ℕ) {i : ℕ} (total : ℕ) → 0 < i → total + countBelow (64 * i) (inSet ws) ≡ countBelow (64 * words) (inSet ws) → getD ws (i - 1) 0 ≡ 0
+      → total + countBelow (64 * (i - 1)) (inSet ws) ≡ countBelow (64 * words) (inSet ws)
+  word-none words {i} total some t e =
+      let z : 0 ≡ countBelow 64 (bitOf (getD ws (i - 1) 0)) = rw e (sym (count-none 64 (bitOf 0) (λ b h. bit-zero b))) in
+      omega (arith, word-total words total 0 some t z .0)
 
   -- the members below k are those below the end of its word but for those of the word from k on
   word-rest : (k : ℕ) → getD ws (k / 64) 0 < 2 ^ 64 → countBelow (64 * (k / 64 + 1)) (inSet ws) ≡ countBelow k (inSet ws) + countBelow 64 (bitOf (getD ws (k / 64) 0 / 2 ^ (k % 64)))
@@ -248,6 +255,7 @@ module _ {bs : List ℕ} {at count below : ℕ} {ws₀ behind₀ : List ℕ} (n 
           counted =
               record {
                 same = c .same-length ∙ z .same ∙ sym (m .same-length);
+                whole = made-all (64 * length ws) (omega (arith, m .same-length));
                 counts = λ i h. either (ltb i words)
                     (λ p. c .counts i (omega arith) (ltb-true i words p) ∙ made-all (64 * words) (omega arith))
                     (λ p. omega (arith, c .others i (omega tests), z .zeros i, made-all (64 * (i + 1)) (omega tests)));
@@ -260,9 +268,22 @@ module _ {ws behind : List ℕ} {count : ℕ} (x : Counts ws behind count) (k : 
   members-split h fits is = omega (arith, x .counts (k / 64) (omega arith), word-rest ws k fits)
 
 -- what isn't in a word is no member
+in-past : (ws : List ℕ) (k : ℕ) → length ws ≤ k / 64 → inSet ws k ≡ false
+unfolding inSet
+in-past ws k h = rw (List·getD-eq-default ws 0 h) (bit-zero (k % 64))
+
 pub member-past : (ws : List ℕ) (count k : ℕ) → length ws ≤ k / 64 → (count ≡ memberPosition ws count k) × (count ≤ count)
-unfolding memberPosition inSet
-member-past ws count k h = (rw (List·getD-eq-default ws 0 h, bit-zero (k % 64)), omega arith)
+unfolding memberPosition
+member-past ws count k h = (rw (in-past ws k h), omega arith)
+
+-- and all members are below it
+pub members-all : {ws behind : List ℕ} {count : ℕ} → Counts ws behind count → (k : ℕ) → length ws ≤ k / 64 → (count ≡ countBelow k (inSet ws)) × (count ≤ count)
+members-all {ws} {behind} {count} x k h =
+    let n : ℕ = 64 * length ws in
+    let e : k ≡ n + (k - n) = omega arith in
+    let past : countBelow (k - n) (λ i. inSet ws (n + i)) ≡ 0 = count-none (k - n) (λ i. inSet ws (n + i)) (λ i l. in-past ws (n + i) (omega arith)) in
+    let split : countBelow k (inSet ws) ≡ countBelow n (inSet ws) + countBelow (k - n) (λ i. inSet ws (n + i)) = ap (λ (m : ℕ). countBelow m (inSet ws)) e ∙ count-add n (k - n) (inSet ws) in
+    (omega (arith, past, split, x .whole), omega arith)
 
 pub member-none : (ws : List ℕ) (count k : ℕ) {b : Bool} → b ≡ inSet ws k → b ≡ false → (count ≡ memberPosition ws count k) × (count ≤ count)
 unfolding memberPosition
@@ -272,6 +293,17 @@ pub member-is : (ws : List ℕ) (count k : ℕ) {b : Bool} {p : ℕ} → b ≡ i
 unfolding memberPosition
 member-is ws count k e t q = rw (← e, t, q)
 
+-- below any number are at most all
+pub members-few : {ws behind : List ℕ} {count : ℕ} → Counts ws behind count → (k : ℕ) → countBelow k (inSet ws) ≤ count
+members-few {ws} {behind} {count} x k =
+    either (ltb k (64 * length ws))
+    (λ p. omega (arith, count-mono k (64 * length ws) (inSet ws) (omega tests), x .whole))
+    (λ p. omega (arith, members-all x k (omega tests) .0))
+
+-- as many members as records are below a number
+pub index-smaller : {bs : List ℕ} {at count : ℕ} {ws behind : List ℕ} → Indexed bs at count ws behind → (k : ℕ) → countBelow k (inSet ws) ≡ smaller bs at count k
+index-smaller {bs} {at} {count} {ws} x k = members-smaller bs at count (x .ascending) ws (x .members) k .0
+
 -- the position among the members is that among the records
 pub index-position : {bs : List ℕ} {at count : ℕ} {ws behind : List ℕ} → Indexed bs at count ws behind → (k : ℕ) → memberPosition ws count k ≡ positionOf bs at count k
 unfolding memberPosition
@@ -280,5 +312,5 @@ index-position {bs} {at} {count} {ws} x k =
     (λ t.
     let found = has-some bs at count (x .ascending) k (sym (x .members k) ∙ t) in
     let number : numberAt bs at (found .0) ≡ k = has-is bs at count (x .ascending) k (found .0) (found .2) in
-    rw t (members-smaller bs at count (x .ascending) ws (x .members) k .0 ∙ smaller-is bs at count (x .ascending) k (found .0) (found .1) number ∙ found-is bs at count (x .ascending) k (found .0) (found .1) number))
+    rw t (index-smaller x k ∙ smaller-is bs at count (x .ascending) k (found .0) (found .1) number ∙ found-is bs at count (x .ascending) k (found .0) (found .1) number))
     (λ f. rw f (none-is bs at count (x .ascending) k (sym (x .members k) ∙ f)))

@@ -59,6 +59,7 @@ pub record Numbered (bs : List ℕ) (at count below : ℕ) : Type 0 where
 -- how many members are in the words behind each word of a set of count numbers
 pub record Counts (ws behind : List ℕ) (count : ℕ) : Type 0 where
   pub same : length behind ≡ length ws
+  pub whole : countBelow (64 * length ws) (inSet ws) ≡ count
   pub counts : (i : ℕ) → i < length ws → getD behind i 0 + countBelow (64 * (i + 1)) (inSet ws) ≡ count
 
 -- the position of k among the members; count where it is none

@@ -19,19 +19,42 @@ use Rattle.part.specs.Means.{numberAt, Ascending, smaller}
 use Rattle.part.proofs.Search.{Between, between-end}
 use Rattle.positions.specs.Means.{hasNumber, someHas, positionOf, memberPosition, Markable, Added, Countable, Counted, Counts, Blank, Numbered, Indexed}
 
+-- ---- a set that grows
+
+-- nothing is added
+pub added-none : (ws : List ℕ) (f : ℕ → Bool) → ((k : ℕ) → f k ≡ false) → Added ws f ws
+added-none ws f h = record { same-length = refl; members = λ k. sym (ap (λ (b : Bool). inSet ws k || b) (h k) ∙ or-false (inSet ws k)) }
+
+-- two additions in turn
+pub added-then : {ws₀ ws last : List ℕ} {f g : ℕ → Bool} (h : ℕ → Bool) → Added ws₀ f ws → Added ws g last → ((k : ℕ) → h k ≡ (f k || g k)) → Added ws₀ h last
+added-then {ws₀} {ws} {last} {f} {g} h p q e =
+    record {
+      same-length = q .same-length ∙ p .same-length;
+      members = λ k.
+          q .members k ∙ ap (λ (b : Bool). b || g k) (p .members k) ∙ or-assoc (inSet ws₀ k) (f k) (g k) ∙ ap (λ (b : Bool). inSet ws₀ k || b) (sym (e k));
+    }
+
+eqb-sym : (a b : ℕ) → eqb a b ≡ eqb b a
+eqb-sym a b = either (eqb a b) (λ p. rw (p, eqb-true a b p) (sym (eq-eqb b b refl))) (λ p. rw p (sym (ne-eqb b a (λ e. eqb-false a b p (sym e)))))
+
+-- one number is added
+pub added-one : {ws last : List ℕ} {v : ℕ} → v < 64 * length ws → last ≡ withMember ws v → Added ws (eqb v) last
+added-one {ws} {last} {v} h e =
+    record {
+      same-length = ap length e ∙ with-length ws v;
+      members = λ k. ap (λ (x : List ℕ). inSet x k) e ∙ in-with ws v k h ∙ or-comm (eqb k v) (inSet ws k) ∙ ap (λ (b : Bool). inSet ws k || b) (eqb-sym k v);
+    }
+
 -- ---- marking
 
 module _ (bs : List ℕ) (at : ℕ) (ws₀ : List ℕ) where
   pub mark-start : Added ws₀ (someHas bs at 0) ws₀
   unfolding someHas anyBelow
-  mark-start = record { same-length = refl; members = λ k. sym (or-false (inSet ws₀ k)) }
+  mark-start = added-none ws₀ (someHas bs at 0) (λ k. refl)
 
   some-more : (i k : ℕ) → someHas bs at (i + 1) k ≡ (someHas bs at i k || eqb (numberAt bs at i) k)
   unfolding someHas anyBelow hasNumber
   some-more i k = rw (add-one i)
-
-  eqb-sym : (a b : ℕ) → eqb a b ≡ eqb b a
-  eqb-sym a b = either (eqb a b) (λ p. rw (p, eqb-true a b p) (sym (eq-eqb b b refl))) (λ p. rw p (sym (ne-eqb b a (λ e. eqb-false a b p (sym e)))))
 
   module _ {count i k : ℕ} (fit : Markable bs at count ws₀) (under : i < count) (read : k ≡ u32At bs (at + coreSize * i)) {ws : List ℕ} (so-far : Added ws₀ (someHas bs at i) ws) where
     number-is : k ≡ numberAt bs at i
@@ -42,16 +65,7 @@ module _ (bs : List ℕ) (at : ℕ) (ws₀ : List ℕ) where
     mark-low = omega (arith, number-is, fit .low i under, so-far .same-length)
 
     pub mark-more : {after : List ℕ} → after ≡ withMember ws k → Added ws₀ (someHas bs at (i + 1)) after
-    mark-more {after} e =
-        record {
-          same-length = rw e (with-length ws k ∙ so-far .same-length);
-          members = λ x.
-              rw e (in-with ws k x mark-low)
-              ∙ or-comm (eqb x k) (inSet ws x)
-              ∙ ap (λ (b : Bool). b || eqb x k) (so-far .members x)
-              ∙ or-assoc (inSet ws₀ x) (someHas bs at i x) (eqb x k)
-              ∙ ap (λ (b : Bool). inSet ws₀ x || b) (ap (λ (b : Bool). someHas bs at i x || b) (eqb-sym x k ∙ ap (λ (n : ℕ). eqb n x) number-is) ∙ sym (some-more i x));
-        }
+    mark-more e = added-then (someHas bs at (i + 1)) so-far (added-one mark-low e) (λ x. some-more i x ∙ ap (λ (n : ℕ). someHas bs at i x || eqb n x) (sym number-is))
 
   pub mark-end : {count i : ℕ} {ws : List ℕ} → Added ws₀ (someHas bs at i) ws → i ≤ count → count ≤ i → Added ws₀ (someHas bs at count) ws
   mark-end {count} {i} a h l = let e : count ≡ i = omega arith in rw e a
@@ -91,6 +105,9 @@ module _ (ws : List ℕ) where
 
   pub counted-end : (words : ℕ) {behind₀ behind : List ℕ} {i : ℕ} → Counted ws words behind₀ i behind → i ≤ 0 → Counted ws words behind₀ 0 behind
   counted-end words {i} c h = let e : i ≡ 0 = omega arith in rw e at c
+
+  pub total-end : (words : ℕ) {i : ℕ} (total : ℕ) → total + countBelow (64 * i) (inSet ws) ≡ countBelow (64 * words) (inSet ws) → i ≤ 0 → total ≡ countBelow (64 * words) (inSet ws)
+  total-end words {i} total t h = omega (arith, count-le (64 * i) (inSet ws))
 
   -- the total grows by the bits of the word
   pub word-total : (words : ℕ) {i : ℕ} (total n : ℕ) → 0 < i → total + countBelow (64 * i) (inSet ws) ≡ countBelow (64 * words) (inSet ws) → n ≡ countBelow 64 (bitOf (getD ws (i - 1) 0))

@@ -23,10 +23,10 @@ fn mark_numbers(bs: &[u8], at: usize, count: u32, marks: &mut [u64])
     }
 }
 
-// For each of the first `words` words, how many members are in the words behind it.
-fn count_behind(marks: &[u64], words: usize, behind: &mut [u32])
+// For each of the first `words` words, how many members are in the words behind it. Answers how many there are in these words.
+pub fn count_behind(marks: &[u64], words: usize, behind: &mut [u32]) -> u32
     requires { ⌜ Countable (now marks) words (now behind) ⌝ }
-    ensures { λ u. ⌜ Counted (now (marks .entry)) words (now (behind .entry)) 0 (now (behind .exit)) ⌝ }
+    ensures { λ r. ⌜ Counted (now (marks .entry)) words (now (behind .entry)) 0 (now (behind .exit)) × (r ≡ countBelow (64 * words) (inSet (now (marks .entry)))) ⌝ }
 {
     let mut total = 0;
     let mut i = words;
@@ -39,6 +39,7 @@ fn count_behind(marks: &[u64], words: usize, behind: &mut [u32])
             total += ones(w);
         }
     }
+    total
 }
 
 // Makes the index of `count` core records from byte `at` on, whose numbers are below `below`.

@@ -4,7 +4,7 @@ use native.Mathlib.Omega.{arith}
 use Rattle.encoding.specs.Below.{countBelow}
 use Rattle.bits.specs.Bits.{inSet}
 use Rattle.positions.specs.Means.{Counted}
-use Rattle.positions.proofs.Positions.{counted-start, counted-more, counted-end, word-total, word-none}
+use Rattle.positions.proofs.Positions.{counted-start, counted-more, counted-end, word-total, word-none, total-end}
 use borrow.Author.Needs.{needs}
 use Rattle.positions.proofs.index.count_behind.Statement.{statement}
 use Rattle.positions.proofs.index.count_behind.Tie as tie
@@ -55,7 +55,7 @@ same-length : tie.Need-same-length Inv-loop μ-loop
 same-length c = c .before .loop .inv .2 .same-length
 
 returns : tie.Need-returns Inv-loop μ-loop
-returns c = counted-end _ _ (c .before .loop .inv .2) (omega arith)
+returns c = (counted-end _ _ (c .before .loop .inv .2) (omega arith), total-end _ _ _ (c .before .loop .inv .1) (omega arith))
 
 pub count-behind-spec : {M : Type 1} → statement M
 count-behind-spec =

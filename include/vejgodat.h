@@ -262,8 +262,9 @@
  *    that it only reads may overlap: the same table may be given as old and as
  *    new.
  *  - Nobody else writes a buffer of a call while the call runs.
- *  - The thread has stack left. A call that checks a part or closes an area
- *    takes sets of trees there, of 208 KiB at most; \ref vejgodat_deliver and
+ *  - The thread has stack left. A call that cuts or checks a part or closes an
+ *    area takes sets of trees there, of 208 KiB at most, and so does
+ *    \ref vejgodat_part_length; \ref vejgodat_deliver and
  *    \ref vejgodat_deliver_all take 129 KiB; those that build messages check a
  *    part too, and take 336 KiB at most; every other call takes less than 1 KiB.
  *    \ref VEJGODAT_STACK_BYTES are enough for any. A thread made with a stack
@@ -936,8 +937,9 @@ vejgodat_length     vejgodat_write_brick (uint32_t a, uint32_t b, uint32_t c,
  * Checks, in this order: those of \ref vejgodat_check_table (2, 3);
  * \ref VEJGODAT_INDEX (5) if \a rank is not below P; \ref VEJGODAT_MESH (7) if
  * the mesh isn't sound or its K isn't the table's.
- * Cost: O(P) for the check of the table; then O(F K), for the check of the mesh
- * and one more pass over its records, which counts the ghosts.
+ * Cost: O(P) for the check of the table; O(F K) for the check of the mesh; then
+ * O(F n) for the rank's trees, whose neighbours are marked, and one pass over
+ * K / 8 bytes of a set on the stack, which counts the ghosts.
  *
  * \param [in] mesh       A whole mesh; any bytes. Not changed.
  * \param [in] mesh_len   The number of its bytes.
@@ -961,9 +963,10 @@ vejgodat_length     vejgodat_part_length (const uint8_t * mesh,
  * Checks, in this order: 2, 3, 5 and 7 as \ref vejgodat_part_length;
  * \ref VEJGODAT_BUFFER (22) if \a out_len is below the length of the part. A
  * buffer of 32 + 64 K bytes is never too short.
- * Cost: O(P) for the check of the table; O(F K) for the check of the mesh and
- * two more passes over its records for the ghosts; then O(n F log g) for the
- * trees, whose ghosts are searched by halves.
+ * Cost: O(P) for the check of the table; O(F K) for the check of the mesh; then
+ * O(F n + g) for the rank's trees, read twice, and its ghosts, and two passes
+ * over K / 8 bytes of a set on the stack, in which a ghost is looked up in
+ * constant time.
  *
  * \param [in] mesh       A whole mesh; any bytes. Not changed.
  * \param [in] mesh_len   The number of its bytes.

@@ -31,9 +31,10 @@ use Rattle.message.specs.Rule.{treesFrom, ghostGoes, ghostsGoing, ruleMessage}
 use Rattle.message.specs.Build.{partRecord, partMessage}
 use Rattle.message.proofs.Messages.{header-length, RecordsLong, message-length}
 use Rattle.message_ghosts.specs.Means.{Sending, Marks}
-use Rattle.message_build.specs.Means.{Searchable, recordsFrom, TreesRoom, coresBelow, GhostsRoom, RecordsRoom, MessageRoom}
+use Rattle.positions.specs.Means.{coresBelow}
+use Rattle.positions.proofs.Members.{cores-gap, count-gap}
+use Rattle.message_build.specs.Means.{Searchable, recordsFrom, TreesRoom, GhostsRoom, RecordsRoom, MessageRoom}
 use Rattle.message_build.proofs.Trees.{records-long}
-use Rattle.message_build.proofs.Ghosts.{cores-gap, count-gap}
 
 -- ---- the records
 

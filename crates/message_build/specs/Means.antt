@@ -1,7 +1,7 @@
 -- Means, no part of what is promised: what inner functions require, and values that mirror their code.
 use Prim.Native.Nat.{ℕ, zero, suc, _+_, _*_, _≤_, _<_}
 use mathlib.Core.Path.{_≡_}
-use mathlib.Core.Bool.{Bool, true, cond}
+use mathlib.Core.Bool.{true}
 use mathlib.Core.List.{List, [], _∷_, _++_}
 use lib.Dec.{leb}
 use lib.ListN.{length}
@@ -65,11 +65,6 @@ pub record TreesRoom (part out : List ℕ) (count ghosts faces first low n : ℕ
   pub room : messageHeader + treeSize * n ≤ length out
 
 -- ---- ghosts
-
--- the cores of those below k that pass f, ascending
-unfoldable pub coresBelow : (ℕ → List ℕ) → (ℕ → Bool) → ℕ → List ℕ
-coresBelow core f zero = []
-coresBelow core f (suc k) = coresBelow core f k ++ cond (f k) (core k) []
 
 -- a record that the part holds, and room for its core
 pub record GhostRoom (part out : List ℕ) (count ghosts faces first k to : ℕ) : Type 0 where

@@ -1,14 +1,13 @@
 // The range of a rank and its ghosts.
 use records::index::GlobalIndex;
 ghost use mathlib.Core.Path.{_≡_};
-ghost use Prim.Native.Nat.{_+_, _*_, _≤_};
+ghost use Prim.Native.Nat.{_+_, _≤_};
 ghost use lib.ListN.{length};
-ghost use Rattle.encoding.specs.Below.{anyBelow, countBelow};
+ghost use Rattle.encoding.specs.Below.{anyBelow};
 ghost use Rattle.encoding.specs.Pieces.{piece};
 ghost use Rattle.encoding.specs.Refusal.{firstFailed};
-ghost use Rattle.records.specs.Record.{coreSize, treeSize};
-ghost use Rattle.mesh.specs.Mesh.{meshHeader, meshCore};
-ghost use Rattle.part.specs.Means.{inRange, neighbourIn, ghostIn, Ascending, smaller};
+ghost use Rattle.records.specs.Record.{coreSize};
+ghost use Rattle.part.specs.Means.{inRange, neighbourIn, Ascending, smaller};
 ghost use Rattle.part.specs.Checks.{rankChecks};
 
 // The checks of a table and a rank (2, 3, 5): 0 or the refusal.
@@ -53,37 +52,6 @@ pub fn beside(bs: &[u8], at: usize, faces: u32, first: u32, end: u32) -> bool
         face += 1;
     }
     false
-}
-
-// Whether a tree of a whole mesh is a ghost of the range.
-pub fn is_ghost(mesh: &[u8], tree: GlobalIndex, first: u32, end: u32) -> bool
-    requires { ⌜ meshHeader + treeSize * (tree .0) + treeSize ≤ length (now mesh) ⌝ }
-    ensures { λ r. ⌜ r ≡ ghostIn (meshCore (now (mesh .entry))) first end (tree .0) ⌝ }
-{
-    let k = tree.0;
-    if in_range(first, end, tree) {
-        return false;
-    }
-    let at = mesh::layout::tree_at(k);
-    let faces = records::shape::face_count(records::read::shape_of(mesh, at));
-    beside(mesh, at, faces, first, end)
-}
-
-// How many ghosts the range has.
-pub fn ghost_count(mesh: &[u8], trees: u32, first: u32, end: u32) -> u32
-    requires { ⌜ length (now mesh) ≡ meshHeader + treeSize * trees ⌝ }
-    ensures { λ r. ⌜ (r ≡ countBelow trees (ghostIn (meshCore (now (mesh .entry))) first end)) × (r ≤ trees) ⌝ }
-{
-    let mut count = 0;
-    let mut k = 0;
-    while k < trees {
-        let ghostly = is_ghost(mesh, GlobalIndex(k), first, end);
-        k += 1;
-        if ghostly {
-            count += 1;
-        }
-    }
-    count
 }
 
 // The position of the number among `count` core records that ascend from byte `at`, by halves.

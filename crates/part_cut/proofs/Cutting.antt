@@ -12,7 +12,7 @@ use Rattle.encoding.specs.Below.{countBelow}
 use Rattle.encoding.specs.Pieces.{piece, Bytes}
 use Rattle.encoding.specs.Refusal.{firstFailed}
 use Rattle.encoding.specs.Answer.{lengthAnswer, lengthRefused}
-use Rattle.encoding.proofs.Below.{and-fst, and-snd, count-same}
+use Rattle.encoding.proofs.Below.{and-fst, and-snd}
 use Rattle.encoding.proofs.Pieces.{piece-length}
 use Rattle.offsets.specs.Limits.{maxTrees}
 use Rattle.offsets.specs.Table.{ranks, ranksOk, trees, valid, firstTree, endTree, treeCount}
@@ -26,9 +26,7 @@ use Rattle.part.specs.Cut.{renamed, partTree, partTrees, partGhosts, ghostCount
 use Rattle.part.proofs.Ghosts.{ghosts-none, ghosts-next}
 use Rattle.part.specs.Checks.{rankChecks}
 use Rattle.part_cut.specs.Calls.{cutChecks, partLengthOf}
-use Rattle.part.specs.Means.{ghostIn}
 use Rattle.part.proofs.Records.{rows-length, header-length}
-use Rattle.part.proofs.Ranges.{ghost-read}
 
 -- ---- the checks
 
@@ -129,10 +127,3 @@ module _ (mesh table : List ℕ) (rank : ℕ) {r : ℕ} (checked : r ≡ firstFa
     -- the length of the part, where no check fails
     pub cut-size : Bytes table → length (cutPart mesh table rank) ≡ partSize (treeCount table rank) (ghostCount mesh table rank)
     cut-size b = cut-length mesh table rank (all-hold .mesh-sound) (cut-fits b .rises) (cut-fits b .within)
-
-    pub length-read : {first end K g : ℕ} → Bytes table → first ≡ firstTree table rank → end ≡ endTree table rank → K ≡ meshTrees mesh → g ≡ countBelow K (ghostIn (meshCore mesh) first end)
-        → record { refusal = 0; length = 32 + (64 * (end - first) + 40 * g) } ≡ partLengthOf mesh table rank
-    unfolding partLengthOf lengthAnswer treeCount ghostCount ghostPosition
-    length-read b f e t q =
-        let c = count-same (meshTrees mesh) (isGhost (meshCore mesh) table rank) (ghostIn (meshCore mesh) (firstTree table rank) (endTree table rank)) (λ k l. ghost-read (meshCore mesh) table rank k) in
-        rw (← checked, ok, cut-size b, q, f, e, t, c)

@@ -1,166 +1,90 @@
 -- The part that the code writes is the part of the definition.
 use Prim.Native.Nat.{ℕ, zero, suc, _+_, _-_, _*_, _≤_, _<_}
-use native.Mathlib.Nat.{le-refl}
 use native.Mathlib.Omega.{arith}
 use mathlib.Core.Path.{_≡_, refl, sym, ap, ap₂, _∙_}
 use mathlib.Core.Bool.{Bool, true, false, cond, _&&_}
-use mathlib.Core.List.{List, [], _∷_, _++_, append-nil}
+use mathlib.Core.List.{List, [], _∷_, _++_, append-assoc}
 use lib.Dec.{leb, ltb, eqb}
-use lib.ListN.{length, getD, drop, length-append, length-drop, List·getD-append}
-use lib.Seq.{take-append-le, drop-append-le, drop-at, take-all, getD-at}
-use borrow.Author.Tests.{ltb-true, lt-ltb, le-ltb, le-leb, lt-leb, eq-eqb, ne-eqb}
-use Rattle.encoding.specs.Below.{countBelow, keptBelow}
+use lib.ListN.{length, length-append}
+use borrow.Author.Tests.{ltb-true, le-leb, lt-leb, eq-eqb, ne-eqb}
+use Rattle.encoding.specs.Below.{countBelow}
 use Rattle.encoding.specs.Pieces.{piece, splice, Bytes}
-use Rattle.encoding.proofs.Below.{either, tests, clash, below-suc, count-le, count-lt, count-mono, count-initial, count-same, kept-length, kept-found, kept-ascends}
-use Rattle.encoding.proofs.Pieces.{piece-length, piece-same, length-splice, splice-next}
-use Rattle.offsets.specs.Table.{ranks, ranksOk, trees, valid, firstTree, endTree, treeCount, holds}
-use Rattle.records.specs.Record.{coreSize, treeSize, unused, numberOf, shapeOf, neighbourOf}
-use Rattle.records.specs.Shape.{faceCount, facesIn}
-use Rattle.records.specs.Links.{rowOf, rowsOf}
-use Rattle.records.proofs.Forms.{piece-piece, at-piece, number-at, form-unused, unused-neighbour}
-use Rattle.records.proofs.Rows.{splice-comm}
-use Rattle.records.proofs.Shapes.{faces-positive}
-use Rattle.mesh.specs.Mesh.{meshHeader, meshDimension, meshTrees, meshCore, meshRecord, meshSound}
-use Rattle.mesh.proofs.Soundness.{sound-number, sound-form, neighbour-below}
-use Rattle.part.specs.Layout.{partHeader, headerBytes}
-use Rattle.part.specs.Ghosts.{isGhost, ghostPosition}
-use Rattle.part.specs.Cut.{renamed, renameRow, localIndex, partTree, partTrees, partGhosts, ghostCount, cutPart}
-use Rattle.part.proofs.Ghosts.{ghosts-none, ghosts-next}
-use Rattle.part.specs.Means.{inRange, ghostIn, numberAt, smaller}
-use Rattle.part_cut.specs.Means.{ghostCores, Held, localRead, treesWith, TreesRoom, PartRoom, partWith}
-use Rattle.part.specs.Checks.{rankChecks}
-use Rattle.part_cut.specs.Calls.{cutChecks, cutPartOf}
 use Rattle.encoding.specs.Refusal.{check, firstFailed}
 use Rattle.encoding.specs.Answer.{lengthRefused, lengthAnswer, writeAnswer, written}
+use Rattle.encoding.proofs.Below.{either, tests, clash, count-le, count-same}
+use Rattle.encoding.proofs.Pieces.{piece-length, splice-then}
+use Rattle.bits.specs.Bits.{inSet}
+use Rattle.offsets.specs.Table.{ranks, ranksOk, trees, valid, firstTree, endTree, treeCount, holds}
+use Rattle.records.specs.Record.{coreSize, treeSize, unused, shapeOf, neighbourOf}
+use Rattle.records.specs.Shape.{faceCount, facesIn}
+use Rattle.records.specs.Links.{rowOf, rowsOf}
+use Rattle.records.proofs.Forms.{at-piece, form-unused, unused-neighbour}
+use Rattle.mesh.specs.Mesh.{meshHeader, meshDimension, meshTrees, meshCore, meshRecord, meshSound}
+use Rattle.mesh.proofs.Soundness.{sound-form, neighbour-below}
+use Rattle.part.specs.Layout.{partHeader, headerBytes, ghostPlace}
+use Rattle.part.specs.Ghosts.{isGhost, ghostPosition}
+use Rattle.part.specs.Cut.{renamed, renameRow, localIndex, partTree, partTrees, partGhosts, ghostCount, cutPart}
+use Rattle.part.specs.Checks.{rankChecks}
+use Rattle.part.specs.Means.{inRange, ghostIn}
+use Rattle.part.proofs.Ghosts.{ghosts-none, ghosts-next}
 use Rattle.part.proofs.Records.{header-length}
 use Rattle.part.proofs.Ranges.{ghost-read}
-use Rattle.part_cut.proofs.Cutting.{all-hold, cut-fits, cut-size}
-use Rattle.part_cut.proofs.Trees.{trees-bytes}
+use Rattle.positions.specs.Means.{coresBelow}
+use Rattle.positions.proofs.Members.{cores-gap}
+use Rattle.part_cut.specs.Calls.{cutChecks, partLengthOf, cutPartOf}
+use Rattle.part_cut.specs.Means.{CutSpace, GhostSet, Measured, localIn, RecordsRoom, recordsWith, GhostsRoom, PartRoom, partWith}
+use Rattle.part_cut.proofs.Cutting.{cut-size}
+use Rattle.part_cut.proofs.Marking.{space-known, space-fits}
+use Rattle.part_cut.proofs.Renaming.{records-long}
 
--- ---- the ghosts written
+-- ---- the ghosts
 
--- what is written before another splice is one splice with it
-splice-before : (bs : List ℕ) (off mid : ℕ) (a b : List ℕ) → off + length a ≡ mid → mid + length b ≤ length bs → splice (splice bs mid b) off a ≡ splice bs off (a ++ b)
-splice-before bs off mid a b e h =
-    splice-comm bs off a mid b (omega arith) h ∙ ap (λ (m : ℕ). splice (splice bs off a) m b) (sym e) ∙ splice-next bs off a b (omega arith)
-
-piece-first : (a b : List ℕ) (off n : ℕ) → off + n ≤ length a → piece (a ++ b) off n ≡ piece a off n
-unfolding piece
-piece-first a b off n h =
-    let l : n ≤ length (drop off a) = simp length-drop (omega arith) in
-    rw (drop-append-le off a b (omega arith), take-append-le n (drop off a) b l)
-
-piece-last : (a b : List ℕ) (off n : ℕ) → length a ≡ off → length b ≡ n → piece (a ++ b) off n ≡ b
-unfolding piece
-piece-last a b off n e l = rw (drop-at a b off e) (take-all n b (omega arith))
-
-module _ (core : ℕ → List ℕ) (first end : ℕ) where
-  abbrev ghost : ℕ → Bool
-  ghost = ghostIn core first end
-
-  cores-length : (K : ℕ) → ((k : ℕ) → k < K → length (core k) ≡ coreSize) → length (ghostCores core first end K) ≡ coreSize * countBelow K ghost
-  unfolding ghostCores countBelow
-  cores-length zero l = refl
-  cores-length (suc k) l =
-      either (ghost k)
-      (λ t. rw (length-append, cores-length k (λ j p. l j (omega arith)), t) (omega (arith, l k (le-refl (suc k)))))
-      (λ t. rw (length-append, cores-length k (λ j p. l j (omega arith)), t) (omega arith))
-
-  -- record i is the core of ghost i
-  cores-at : (K : ℕ) → ((k : ℕ) → k < K → length (core k) ≡ coreSize) → (i : ℕ) → i < countBelow K ghost
-      → piece (ghostCores core first end K) (coreSize * i) coreSize ≡ core (getD (keptBelow K ghost) i 0)
-  unfolding ghostCores countBelow keptBelow
-  cores-at zero l i h = absurd (omega arith)
-  cores-at (suc k) l i h =
-      let l' : (j : ℕ) → j < k → length (core j) ≡ coreSize = λ j p. l j (omega arith) in
-      let G : List ℕ = ghostCores core first end k in
-      let n : ℕ = countBelow k ghost in
-      let lG : length G ≡ coreSize * n = cores-length k l' in
-      let lK : length (keptBelow k ghost) ≡ n = kept-length k ghost in
-      either (ghost k)
-      (λ t. let h' : i < n + 1 = rw t at h in
-      rw t
-      (below-suc i n (omega arith)
-      (λ p. piece-first G (core k) (coreSize * i) coreSize (omega arith) ∙ cores-at k l' i p ∙ ap core (sym (List·getD-append (keptBelow k ghost) (k ∷ []) 0 i (omega arith))))
-      (λ q. piece-last G (core k) (coreSize * i) coreSize (rw q lG) (l k (le-refl (suc k))) ∙ ap core (sym (getD-at (keptBelow k ghost) k [] 0 i (omega arith))))))
-      (λ t. let h' : i < n = omega (arith, rw t at h) in
-      rw (t, append-nil (ghostCores core first end k), append-nil (keptBelow k ghost)) (cores-at k l' i h'))
-
-module _ (mesh : List ℕ) (K first end : ℕ) (out : List ℕ) (at count : ℕ) (part : PartRoom mesh K first end out at count) where
-  abbrev test : ℕ → Bool
-  test = ghostIn (meshCore mesh) first end
-
-  abbrev G : List ℕ
-  G = ghostCores (meshCore mesh) first end K
-
-  core-long : (k : ℕ) → k < K → length (meshCore mesh k) ≡ coreSize
+module _ {mesh ws out : List ℕ} {at : ℕ} (room : GhostsRoom mesh ws out at) where
+  pub member-long : (k : ℕ) → inSet ws k ≡ true → length (meshCore mesh k) ≡ coreSize
   unfolding meshCore
-  core-long k h = piece-length mesh (meshHeader + treeSize * k) coreSize (omega (arith, part .long))
+  member-long k e = piece-length mesh (meshHeader + treeSize * k) coreSize (omega (arith, room .there k e))
 
-  pub ghosts-bytes : length G ≡ coreSize * count
-  ghosts-bytes = cores-length (meshCore mesh) first end K core-long ∙ ap (λ (n : ℕ). coreSize * n) (sym (part .many))
+pub member-copied : (mesh : List ℕ) (k : ℕ) (out : List ℕ) (to : ℕ) {last : List ℕ} {from : ℕ} → from ≡ meshHeader + treeSize * k → last ≡ splice out to (piece mesh from coreSize) → last ≡ splice out to (meshCore mesh k)
+unfolding meshCore
+member-copied mesh k out to e p = p ∙ ap (λ (o : ℕ). splice out to (piece mesh o coreSize)) e
 
-  number-written : (i : ℕ) → i < count → numberAt (splice out at G) at i ≡ getD (keptBelow K test) i 0
-  unfolding numberAt
-  number-written i h =
-      let X : List ℕ = splice out at G in
-      let l : length G ≡ coreSize * count = ghosts-bytes in
-      let c : i < countBelow K test = omega (arith, part .many) in
-      let whole : piece X at (length G) ≡ G = piece-same out at G (omega (arith, part .room)) in
-      let one : piece X (at + coreSize * i) coreSize ≡ piece G (coreSize * i) coreSize =
-      sym (piece-piece X at (length G) (coreSize * i) coreSize (omega arith)) ∙ ap (λ (p : List ℕ). piece p (coreSize * i) coreSize) whole in
-      sym (number-at X (at + coreSize * i)) ∙ ap numberOf (one ∙ cores-at (meshCore mesh) first end K core-long i c) ∙ part .numbers (getD (keptBelow K test) i 0) (kept-found K test i 0 c .0)
+-- ---- the three writes
 
-  -- the ghosts written ascend
-  pub held-written : Held (splice out at G) at count first end
-  held-written =
+module _ {mesh : List ℕ} {first n : ℕ} {ws behind : List ℕ} {count : ℕ} {out : List ℕ} (part : PartRoom mesh first n ws behind count out) where
+  pub records-room : {from faces : ℕ} {mid : List ℕ} → from ≡ meshHeader + treeSize * first → 0 < faces → length mid ≡ length out → RecordsRoom mesh mid from faces first n ws behind count
+  records-room e f l =
       record {
-        ghosts = record {
-          fits = rw (length-splice out at G (omega (arith, ghosts-bytes, part .room))) (part .room);
-          ascends = λ i j h l. rw (number-written i (omega arith), number-written j l) (kept-ascends K test i j 0 h (omega (arith, part .many)));
-        };
-        range = part .range;
-        small = part .small;
+        source = omega (arith, part .long, part .within);
+        target = omega (arith, part .room);
+        faced = f;
+        known = record { counted = part .ghosts .counted; range = omega arith; small = part .small };
       }
 
-  -- the search among them counts the ghosts below
-  pub smaller-is : (n : ℕ) → n ≤ K → smaller (splice out at G) at count n ≡ countBelow n test
-  unfolding smaller
-  smaller-is n h =
-      count-initial count (λ i. ltb (numberAt (splice out at G) at i) n) (countBelow n test) (omega (arith, count-mono n K test h, part .many))
-      (λ i p.
-      let b : i < count = omega (arith, count-mono n K test h, part .many) in
-      let g : ℕ = getD (keptBelow K test) i 0 in
-      let w = kept-found K test i 0 (omega (arith, part .many)) in
-      rw (number-written i b) (lt-ltb g n (either (ltb g n) (ltb-true g n) (λ q. absurd (omega (arith, w .2, count-mono n g test (omega tests)))))))
-      (λ i p b.
-      let g : ℕ = getD (keptBelow K test) i 0 in
-      let w = kept-found K test i 0 (omega (arith, part .many)) in
-      rw (number-written i b) (le-ltb g n (either (ltb g n) (λ q. absurd (omega (arith, w .2, count-lt g n test (ltb-true g n q) (w .1)))) (λ q. omega tests))))
+  member-there : (k : ℕ) → inSet ws k ≡ true → meshHeader + treeSize * k + treeSize ≤ length mesh
+  member-there k e = either (ltb k (meshTrees mesh)) (λ p. omega (tests, part .long)) (λ p. clash e (part .ghosts .past k (omega tests)))
 
-  -- ---- the three writes
+  pub members-room : {at : ℕ} {mid : List ℕ} → at ≡ ghostPlace n 0 → length mid ≡ length out → GhostsRoom mesh ws mid at
+  members-room e l = record { few = part .ghosts .few; there = member-there; room = omega (arith, part .room, part .ghosts .counted .whole) }
 
-  pub trees-room : {faces : ℕ} {mid : List ℕ} → 0 < faces → mid ≡ splice out at G → TreesRoom mesh mid faces first end at count
-  trees-room f e = record { source = omega (arith, part .long, part .within); target = part .place; faced = f; held = rw e held-written }
-
-  pub part-written : (P rank : ℕ) {dimension faces : ℕ} {o1 o2 o3 : List ℕ} → dimension ≡ meshDimension mesh → faces ≡ facesIn dimension
-      → o1 ≡ splice out at G → o2 ≡ splice o1 partHeader (treesWith (localRead o1 at count first end) faces mesh first (end - first))
-      → o3 ≡ splice o2 0 (headerBytes dimension K P rank first (end - first) count)
-      → o3 ≡ splice out 0 (partWith mesh K P rank first end out at count)
+  pub part-written : (P rank : ℕ) {dimension K faces from at : ℕ} {o1 o2 o3 : List ℕ} → dimension ≡ meshDimension mesh → K ≡ meshTrees mesh → faces ≡ facesIn dimension → from ≡ meshHeader + treeSize * first → at ≡ ghostPlace n 0
+      → o1 ≡ splice out 0 (headerBytes dimension K P rank first n count)
+      → o2 ≡ splice o1 partHeader (recordsWith (localIn ws first (first + n)) faces mesh from n)
+      → o3 ≡ splice o2 at (coresBelow (meshCore mesh) (inSet ws) (64 * length ws))
+      → o3 ≡ splice out 0 (partWith mesh P rank first n ws count)
   unfolding partWith
-  part-written P rank {dimension} {faces} {o1} {o2} {o3} d f e1 e2 e3 =
-      let X : List ℕ = splice out at G in
-      let F : ℕ = facesIn (meshDimension mesh) in
-      let g : faces ≡ F = f ∙ ap facesIn d in
-      let T : List ℕ = treesWith (localRead X at count first end) F mesh first (end - first) in
-      let H : List ℕ = headerBytes (meshDimension mesh) K P rank first (end - first) count in
-      let lT : length T ≡ treeSize * (end - first) = trees-bytes mesh F first end X at count (trees-room (faces-positive (meshDimension mesh)) refl) (end - first) (omega (arith, part .range)) in
-      let lH : length H ≡ 32 = header-length (meshDimension mesh) K P rank first (end - first) count in
-      let lG : length G ≡ coreSize * count = ghosts-bytes in
-      let q2 : o2 ≡ splice X partHeader T = rw (e1, g) at e2 in
-      let q3 : o3 ≡ splice o2 0 H = rw d at e3 in
-      q3 ∙ ap (λ (o : List ℕ). splice o 0 H) (q2 ∙ splice-before out partHeader at T G (omega (arith, part .place)) (omega (arith, part .room)))
-      ∙ splice-before out 0 partHeader H (T ++ G) (omega (arith, lH)) (rw (length-append, lT, lG) (omega (arith, part .place, part .room)))
+  part-written P rank {dimension} {K} {faces} {from} {at} {o1} {o2} {o3} d k f s a e1 e2 e3 =
+      let H : List ℕ = headerBytes (meshDimension mesh) (meshTrees mesh) P rank first n count in
+      let T : List ℕ = recordsWith (localIn ws first (first + n)) (facesIn (meshDimension mesh)) mesh (meshHeader + treeSize * first) n in
+      let G : List ℕ = coresBelow (meshCore mesh) (inSet ws) (64 * length ws) in
+      let lH : length H ≡ 32 = header-length (meshDimension mesh) (meshTrees mesh) P rank first n count in
+      let lT : length T ≡ treeSize * n = records-long (localIn ws first (first + n)) (facesIn (meshDimension mesh)) mesh (meshHeader + treeSize * first) n (omega (arith, part .long, part .within)) in
+      let q1 : o1 ≡ splice out 0 H = rw (d, k) at e1 in
+      let q2 : o2 ≡ splice o1 (0 + 32) T = rw (f, d, s) at e2 in
+      let w2 : o2 ≡ splice out 0 (H ++ T) = splice-then out 0 32 H T lH (omega (arith, part .room)) q1 q2 in
+      let place : at ≡ 0 + (32 + treeSize * n) = omega arith in
+      let q3 : o3 ≡ splice o2 (0 + (32 + treeSize * n)) G = rw place at e3 in
+      let lHT : length (H ++ T) ≡ 32 + treeSize * n = rw (length-append, lH, lT) in
+      splice-then out 0 (32 + treeSize * n) (H ++ T) G lHT (omega (arith, part .room)) w2 q3 ∙ ap (splice out 0) (append-assoc H T G)
 
 -- ---- the definition
 
@@ -174,6 +98,10 @@ unfolding neighbourOf meshRecord meshCore
 record-neighbour mesh k f h =
     at-piece 4 mesh (meshHeader + treeSize * k) treeSize (8 + 4 * f) (omega arith) ∙ sym (at-piece 4 mesh (meshHeader + treeSize * k) coreSize (8 + 4 * f) (omega arith))
 
+record-at : (mesh : List ℕ) (first n : ℕ) → piece mesh (meshHeader + treeSize * first + treeSize * n) treeSize ≡ meshRecord mesh (first + n)
+unfolding meshRecord
+record-at mesh first n = let e : meshHeader + treeSize * first + treeSize * n ≡ meshHeader + treeSize * (first + n) = omega arith in rw e
+
 module _ (mesh : List ℕ) (sound : meshSound mesh ≡ true) where
   -- a neighbour is below K, or the face is unused
   neighbour-within : (k : ℕ) → k < meshTrees mesh → (f : ℕ) → f < 6 → eqb (neighbourOf (meshCore mesh k) f) unused ≡ false → neighbourOf (meshCore mesh k) f ≤ meshTrees mesh
@@ -182,47 +110,58 @@ module _ (mesh : List ℕ) (sound : meshSound mesh ≡ true) where
       (λ p. omega (arith, neighbour-below mesh sound k h f (ltb-true _ _ p)))
       (λ p. clash (eq-eqb _ _ (unused-neighbour (meshCore mesh k) f (form-unused k (meshCore mesh k) (sound-form mesh sound k h) f (omega tests) l))) e)
 
-  module _ (table : List ℕ) (rank : ℕ) where
+  module _ (table : List ℕ) (rank : ℕ) {ws behind : List ℕ} {count : ℕ} (set : GhostSet mesh (meshTrees mesh) (firstTree table rank) (endTree table rank) ws behind count) where
     abbrev first : ℕ
     first = firstTree table rank
 
-    abbrev end : ℕ
-    end = endTree table rank
+    member-is : (k : ℕ) → k < meshTrees mesh → inSet ws k ≡ isGhost (meshCore mesh) table rank k
+    member-is k h = set .members k h ∙ sym (ghost-read (meshCore mesh) table rank k)
 
-    count-is : (n : ℕ) → countBelow n (ghostIn (meshCore mesh) first end) ≡ ghostPosition (meshCore mesh) table rank n
+    count-is : (k : ℕ) → k ≤ meshTrees mesh → countBelow k (inSet ws) ≡ ghostPosition (meshCore mesh) table rank k
     unfolding ghostPosition
-    count-is n = count-same n (ghostIn (meshCore mesh) first end) (isGhost (meshCore mesh) table rank) (λ k h. sym (ghost-read (meshCore mesh) table rank k))
+    count-is k h = count-same k (inSet ws) (isGhost (meshCore mesh) table rank) (λ i l. member-is i (omega arith))
 
-    ghosts-are : (k : ℕ) → ghostCores (meshCore mesh) first end k ≡ partGhosts mesh table rank k
-    unfolding ghostCores
-    ghosts-are zero = sym (ghosts-none mesh table rank)
-    ghosts-are (suc k) = rw (ghosts-next mesh table rank k, ghosts-are k, ghost-read (meshCore mesh) table rank k)
+    ghosts-below : (k : ℕ) → k ≤ meshTrees mesh → coresBelow (meshCore mesh) (inSet ws) k ≡ partGhosts mesh table rank k
+    unfolding coresBelow
+    ghosts-below zero h = sym (ghosts-none mesh table rank)
+    ghosts-below (suc k) h = rw (ghosts-next mesh table rank k, ghosts-below k (omega arith), member-is k (omega arith))
 
-    module _ (out : List ℕ) (at count : ℕ) (part : PartRoom mesh (meshTrees mesh) first end out at count) where
-      abbrev ghostly : List ℕ
-      ghostly = splice out at (ghostCores (meshCore mesh) first end (meshTrees mesh))
+    ghosts-are : coresBelow (meshCore mesh) (inSet ws) (64 * length ws) ≡ partGhosts mesh table rank (meshTrees mesh)
+    ghosts-are =
+        let N : ℕ = 64 * length ws in
+        let s : meshTrees mesh + (N - meshTrees mesh) ≡ N = omega (arith, set .room) in
+        ap (coresBelow (meshCore mesh) (inSet ws)) (sym s) ∙ cores-gap (meshCore mesh) (inSet ws) (meshTrees mesh) (N - meshTrees mesh) (λ i p q. set .past i p)
+        ∙ ghosts-below (meshTrees mesh) (omega arith)
 
-      -- the local index read is the one defined
-      read-is : (n : ℕ) → (eqb n unused ≡ false → n ≤ meshTrees mesh) → localRead ghostly at count first end n ≡ localIndex mesh table rank n
-      unfolding localRead localIndex inRange holds treeCount
-      read-is n h = either (eqb n unused) (λ p. rw p) (λ p. rw (p, smaller-is mesh (meshTrees mesh) first end out at count part n (h p), count-is n))
+    -- how many there are
+    pub ghosts-many : count ≡ ghostCount mesh table rank
+    unfolding ghostCount
+    ghosts-many =
+        let g : countBelow (meshTrees mesh) (inSet ws) ≡ countBelow (meshTrees mesh) (ghostIn (meshCore mesh) first (endTree table rank)) = count-same (meshTrees mesh) (inSet ws) (ghostIn (meshCore mesh) first (endTree table rank)) (set .members) in
+        set .many ∙ sym g ∙ count-is (meshTrees mesh) (omega arith)
 
-      trees-are : (n : ℕ) → first + n ≤ meshTrees mesh → treesWith (localRead ghostly at count first end) (facesIn (meshDimension mesh)) mesh first n ≡ partTrees mesh table rank n
-      unfolding treesWith partTrees partTree
-      trees-are zero h = refl
-      trees-are (suc n) h =
-          ap₂ (λ (a b : List ℕ). a ++ b) (trees-are n (omega arith))
-          (renamed-same (localRead ghostly at count first end) (localIndex mesh table rank) (facesIn (meshDimension mesh)) (meshRecord mesh (first + n))
-          (λ f l. rw (record-neighbour mesh (first + n) f l) (read-is (neighbourOf (meshCore mesh (first + n)) f) (neighbour-within (first + n) (omega arith) f l))))
+    -- the local index by the set is the one defined
+    local-is : (k : ℕ) → (eqb k unused ≡ false → k ≤ meshTrees mesh) → localIn ws first (endTree table rank) k ≡ localIndex mesh table rank k
+    unfolding localIn localIndex inRange holds treeCount
+    local-is k h = either (eqb k unused) (λ p. rw p) (λ p. rw (p, count-is k (h p)))
 
-      -- the part written is the part defined
-      pub part-is : partWith mesh (meshTrees mesh) (ranks table) rank first end out at count ≡ cutPart mesh table rank
-      unfolding partWith cutPart treeCount ghostCount
-      part-is =
-          let c : count ≡ ghostPosition (meshCore mesh) table rank (meshTrees mesh) = part .many ∙ count-is (meshTrees mesh) in
-          let t = trees-are (end - first) (omega (arith, part .range, part .within)) in
-          let g = ghosts-are (meshTrees mesh) in
-          ap₂ (λ (n : ℕ) (l : List ℕ). headerBytes (meshDimension mesh) (meshTrees mesh) (ranks table) rank first (end - first) n ++ l) c (ap₂ (λ (a b : List ℕ). a ++ b) t g)
+    trees-are : (n : ℕ) → first + n ≤ meshTrees mesh → recordsWith (localIn ws first (endTree table rank)) (facesIn (meshDimension mesh)) mesh (meshHeader + treeSize * first) n ≡ partTrees mesh table rank n
+    unfolding recordsWith partTrees partTree
+    trees-are zero h = refl
+    trees-are (suc n) h =
+        ap₂ (λ (a b : List ℕ). a ++ b) (trees-are n (omega arith))
+        (ap (renamed (localIn ws first (endTree table rank)) (facesIn (meshDimension mesh))) (record-at mesh first n)
+        ∙ renamed-same (localIn ws first (endTree table rank)) (localIndex mesh table rank) (facesIn (meshDimension mesh)) (meshRecord mesh (first + n))
+        (λ f l. rw (record-neighbour mesh (first + n) f l) (local-is (neighbourOf (meshCore mesh (first + n)) f) (neighbour-within (first + n) (omega arith) f l))))
+
+    -- the part written is the part defined
+    pub part-is : first + treeCount table rank ≡ endTree table rank → endTree table rank ≤ meshTrees mesh → partWith mesh (ranks table) rank first (treeCount table rank) ws count ≡ cutPart mesh table rank
+    unfolding partWith cutPart
+    part-is e h =
+        let t : recordsWith (localIn ws first (first + treeCount table rank)) (facesIn (meshDimension mesh)) mesh (meshHeader + treeSize * first) (treeCount table rank) ≡ partTrees mesh table rank (treeCount table rank) =
+        rw e (trees-are (treeCount table rank) (omega arith)) in
+        ap₂ (λ (g : ℕ) (l : List ℕ). headerBytes (meshDimension mesh) (meshTrees mesh) (ranks table) rank first (treeCount table rank) g ++ l) ghosts-many
+        (ap₂ (λ (a b : List ℕ). a ++ b) t ghosts-are)
 
 -- ---- the call
 
@@ -253,31 +192,34 @@ module _ (mesh table : List ℕ) (rank : ℕ) (out : List ℕ) {r : ℕ} (checke
     unfolding cutPartOf writeAnswer lengthAnswer written
     cut-done h e = rw (with-room (leb (length (cutPart mesh table rank)) (length out)), ok, ← long, le-leb n (length out) h, e)
 
-  module _ (ok : r ≡ 0) (bytes : Bytes table) {first end K count at : ℕ} (is-first : first ≡ firstTree table rank) (is-end : end ≡ endTree table rank) (is-K : K ≡ meshTrees mesh)
-      (is-count : count ≡ countBelow K (ghostIn (meshCore mesh) first end)) (is-at : at ≡ 32 + 64 * (end - first)) where
-    pub room-long : at + 40 * count ≡ length (cutPart mesh table rank)
-    unfolding treeCount ghostCount
-    room-long =
-        let c : count ≡ ghostPosition (meshCore mesh) table rank (meshTrees mesh) = is-count ∙ rw (is-first, is-end, is-K) (count-is mesh (all-hold mesh table rank checked ok .mesh-sound) table rank (meshTrees mesh)) in
-        omega (arith, cut-size mesh table rank checked ok bytes)
+-- ---- what was measured
 
-    pub part-room : at + 40 * count ≤ length out → PartRoom mesh K first end out at count
-    part-room h =
-        let f = cut-fits mesh table rank checked ok bytes in
-        let s = all-hold mesh table rank checked ok .mesh-sound in
+module _ {mesh table : List ℕ} {rank : ℕ} {ws₀ behind₀ ws behind : List ℕ} {first n count : ℕ} (space : CutSpace mesh table rank ws₀ behind₀) (bytes : Bytes table) (found : Measured mesh table rank ws behind first n count) where
+  ghost-set : GhostSet mesh (meshTrees mesh) (firstTree table rank) (endTree table rank) ws behind count
+  ghost-set = rw (found .is-end, found .is-first) at (found .ghosts)
+
+  -- the length of the part
+  pub found-long : {size : ℕ} → size ≡ ghostPlace n count → size ≡ length (cutPart mesh table rank)
+  found-long e =
+      let g : count ≡ ghostCount mesh table rank = ghosts-many mesh (space-known space bytes .mesh-sound) table rank ghost-set in
+      omega (arith, cut-size mesh table rank (sym (space .checked)) refl bytes, found .is-count)
+
+  pub length-found : {size : ℕ} → size ≡ ghostPlace n count → record { refusal = 0; length = size } ≡ partLengthOf mesh table rank
+  unfolding partLengthOf lengthAnswer
+  length-found e = rw (space .checked, found-long e)
+
+  module _ (out : List ℕ) where
+    pub part-room : {size : ℕ} → size ≡ ghostPlace n count → size ≤ length out → PartRoom mesh first n ws behind count out
+    part-room e h =
         record {
-          long = rw is-K (f .mesh-long);
-          numbers = λ k l. sound-number mesh s k (rw is-K at l);
-          range = rw (is-first, is-end) (f .rises);
-          within = rw (is-end, is-K) (f .within);
-          place = is-at;
-          many = is-count;
-          small = omega (arith, count-le K (ghostIn (meshCore mesh) first end), f .within, f .most);
-          room = h;
+          long = space-fits space bytes .mesh-long;
+          within = found .within;
+          small = omega (arith, found .within, space-fits space bytes .most, found .ghosts .many, count-le (meshTrees mesh) (ghostIn (meshCore mesh) first (first + n)));
+          ghosts = found .ghosts;
+          room = omega arith;
         }
 
-    pub part-cut : {P : ℕ} {last : List ℕ} → P ≡ ranks table → PartRoom mesh K first end out at count → last ≡ splice out 0 (partWith mesh K P rank first end out at count) → last ≡ splice out 0 (cutPart mesh table rank)
-    part-cut p room e =
-        let s = all-hold mesh table rank checked ok .mesh-sound in
-        let m : PartRoom mesh (meshTrees mesh) (firstTree table rank) (endTree table rank) out at count = rw (is-K, is-first, is-end) at room in
-        (rw (is-K, p, is-first, is-end) at e) ∙ ap (splice out 0) (part-is mesh s table rank out at count m)
+    pub part-cut : {P : ℕ} {last : List ℕ} → P ≡ ranks table → last ≡ splice out 0 (partWith mesh P rank first n ws count) → last ≡ splice out 0 (cutPart mesh table rank)
+    part-cut p e =
+        let s = part-is mesh (space-known space bytes .mesh-sound) table rank ghost-set (rw (← found .is-first, ← found .is-count) (found .is-end)) (space-fits space bytes .within) in
+        (rw (p, found .is-first, found .is-count) at e) ∙ ap (splice out 0) s

@@ -2,12 +2,45 @@
 ghost use mathlib.Core.Path.{_≡_};
 ghost use Rattle.encoding.specs.Refusal.{firstFailed};
 ghost use Rattle.part_cut.specs.Calls.{cutChecks, partLengthOf, cutPartOf};
+ghost use Rattle.part_cut.specs.Means.{CutSpace};
+use crate::ghosts::measure;
 use encoding::answer::Length;
+use part::layout::ghost_at;
 
+mod ghosts;
+pub mod locals;
 pub mod rename;
 pub mod write;
 
-// How long the part of a whole mesh for a table and a rank is (2, 3, 5, 7).
+// The length, where no check fails.
+fn length_with(
+    mesh: &[u8],
+    table: &[u8],
+    rank: u32,
+    marks: &mut [u64],
+    behind: &mut [u32],
+) -> Length
+    requires { ⌜ CutSpace (now mesh) (now table) rank (now marks) (now behind) ⌝ }
+    ensures { λ r. ⌜ r ≡ partLengthOf (now (mesh .entry)) (now (table .entry)) rank ⌝ }
+{
+    let part = measure(mesh, table, rank, &mut *marks, &mut *behind);
+    Length {
+        refusal: 0,
+        length: ghost_at(part.trees, part.ghosts) as u64,
+    }
+}
+
+// The same, with a set for as many trees as there can be.
+fn length_of_many(mesh: &[u8], table: &[u8], rank: u32) -> Length
+    requires { ⌜ firstFailed (cutChecks (now mesh) (now table) rank) ≡ 0 ⌝ }
+    ensures { λ r. ⌜ r ≡ partLengthOf (now (mesh .entry)) (now (table .entry)) rank ⌝ }
+{
+    let mut marks = [0u64; 16384];
+    let mut behind = [0u32; 16384];
+    length_with(mesh, table, rank, &mut marks, &mut behind)
+}
+
+// How long the part of a whole mesh for a table and a rank is (2, 3, 5, 7). To clear the words for all trees takes longer than to measure a small part: up to 65,536 trees have fewer words.
 pub fn part_length(mesh: &[u8], table: &[u8], rank: u32) -> Length
     ensures { λ r. ⌜ r ≡ partLengthOf (now (mesh .entry)) (now (table .entry)) rank ⌝ }
 {
@@ -15,13 +48,60 @@ pub fn part_length(mesh: &[u8], table: &[u8], rank: u32) -> Length
     if refusal != 0 {
         return Length { refusal, length: 0 };
     }
-    let first = offsets::table::first_tree(table, rank as usize) as u32;
-    let end = offsets::table::end_tree(table, rank as usize) as u32;
-    let ghosts = part::range::ghost_count(mesh, mesh::layout::trees(mesh), first, end);
+    if mesh::layout::trees(mesh) <= 65536 {
+        let mut marks = [0u64; 1024];
+        let mut behind = [0u32; 1024];
+        return length_with(mesh, table, rank, &mut marks, &mut behind);
+    }
+    length_of_many(mesh, table, rank)
+}
+
+// Cuts the part out, where no check fails before that of the room (22).
+fn cut_with(
+    mesh: &[u8],
+    table: &[u8],
+    rank: u32,
+    marks: &mut [u64],
+    behind: &mut [u32],
+    out: &mut [u8],
+) -> Length
+    requires { ⌜ CutSpace (now mesh) (now table) rank (now marks) (now behind) ⌝ }
+    ensures { λ r. ⌜ (r, now (out .exit)) ≡ cutPartOf (now (mesh .entry)) (now (table .entry)) rank (now (out .entry)) ⌝ }
+{
+    let part = measure(mesh, table, rank, &mut *marks, &mut *behind);
+    let n = ghost_at(part.trees, part.ghosts);
+    if out.len() < n {
+        return Length {
+            refusal: 22,
+            length: 0,
+        };
+    }
+    let ranks = offsets::table::ranks(table) as u32;
+    write::write(
+        mesh,
+        ranks,
+        rank,
+        part.first,
+        part.trees,
+        &*marks,
+        &*behind,
+        part.ghosts,
+        &mut *out,
+    );
     Length {
         refusal: 0,
-        length: 32 + (64 * ((end - first) as u64) + 40 * (ghosts as u64)),
+        length: n as u64,
     }
+}
+
+// The same, with a set for as many trees as there can be.
+fn cut_of_many(mesh: &[u8], table: &[u8], rank: u32, out: &mut [u8]) -> Length
+    requires { ⌜ firstFailed (cutChecks (now mesh) (now table) rank) ≡ 0 ⌝ }
+    ensures { λ r. ⌜ (r, now (out .exit)) ≡ cutPartOf (now (mesh .entry)) (now (table .entry)) rank (now (out .entry)) ⌝ }
+{
+    let mut marks = [0u64; 16384];
+    let mut behind = [0u32; 16384];
+    cut_with(mesh, table, rank, &mut marks, &mut behind, &mut *out)
 }
 
 // Cut out the part of a whole mesh for a table and a rank (2, 3, 5, 7, 22).
@@ -32,24 +112,12 @@ pub fn cut_part(mesh: &[u8], table: &[u8], rank: u32, out: &mut [u8]) -> Length
     if refusal != 0 {
         return Length { refusal, length: 0 };
     }
-    let first = offsets::table::first_tree(table, rank as usize) as u32;
-    let end = offsets::table::end_tree(table, rank as usize) as u32;
-    let trees = mesh::layout::trees(mesh);
-    let count = part::range::ghost_count(mesh, trees, first, end);
-    let at = 32 + 64 * ((end - first) as usize);
-    let n = at + 40 * (count as usize);
-    if out.len() < n {
-        return Length {
-            refusal: 22,
-            length: 0,
-        };
+    if mesh::layout::trees(mesh) <= 65536 {
+        let mut marks = [0u64; 1024];
+        let mut behind = [0u32; 1024];
+        return cut_with(mesh, table, rank, &mut marks, &mut behind, &mut *out);
     }
-    let ranks = offsets::table::ranks(table) as u32;
-    write::write(mesh, trees, ranks, rank, first, end, &mut *out, at, count);
-    Length {
-        refusal: 0,
-        length: n as u64,
-    }
+    cut_of_many(mesh, table, rank, &mut *out)
 }
 
 // The checks of a mesh, a table and a rank (2, 3, 5, 7): 0 or the refusal.

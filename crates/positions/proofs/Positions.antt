@@ -11,7 +11,7 @@ use lib.Seq.{getD-set-same, getD-set-other}
 use borrow.Author.Tests.{ltb-true, lt-ltb, le-ltb, eqb-true, eqb-false, eq-eqb, ne-eqb}
 use Rattle.encoding.specs.Below.{anyBelow, countBelow, leastBelow}
 use Rattle.encoding.specs.Numbers.{u32At}
-use Rattle.encoding.proofs.Below.{either, tests, clash, below-suc, any-at, any-intro, count-more, count-same, count-none, count-le, count-initial, least-is, least-none}
+use Rattle.encoding.proofs.Below.{either, tests, clash, below-suc, any-at, any-intro, count-more, count-same, count-none, count-le, count-mono, count-initial, least-is, least-none}
 use Rattle.bits.specs.Bits.{bitOf, inSet, withMember}
 use Rattle.bits.proofs.Bits.{bit-zero, bit-shift, bit-past, in-none, in-with, with-length, count-add}
 use Rattle.records.specs.Record.{coreSize}
@@ -19,19 +19,42 @@ use Rattle.part.specs.Means.{numberAt, Ascending, smaller}
 use Rattle.part.proofs.Search.{Between, between-end}
 use Rattle.positions.specs.Means.{hasNumber, someHas, positionOf, memberPosition, Markable, Added, Countable, Counted, Counts, Blank, Numbered, Indexed}
 
+-- ---- a set that grows
+
+-- nothing is added
+pub added-none : (ws : List ℕ) (f : ℕ → Bool) → ((k : ℕ) → f k ≡ false) → Added ws f ws
+added-none ws f h = record { same-length = refl; members = λ k. sym (ap (λ (b : Bool). inSet ws k || b) (h k) ∙ or-false (inSet ws k)) }
+
+-- two additions in turn
+pub added-then : {ws₀ ws last : List ℕ} {f g : ℕ → Bool} (h : ℕ → Bool) → Added ws₀ f ws → Added ws g last → ((k : ℕ) → h k ≡ (f k || g k)) → Added ws₀ h last
+added-then {ws₀} {ws} {last} {f} {g} h p q e =
+    record {
+      same-length = q .same-length ∙ p .same-length;
+      members = λ k.
+          q .members k ∙ ap (λ (b : Bool). b || g k) (p .members k) ∙ or-assoc (inSet ws₀ k) (f k) (g k) ∙ ap (λ (b : Bool). inSet ws₀ k || b) (sym (e k));
+    }
+
+eqb-sym : (a b : ℕ) → eqb a b ≡ eqb b a
+eqb-sym a b = either (eqb a b) (λ p. rw (p, eqb-true a b p) (sym (eq-eqb b b refl))) (λ p. rw p (sym (ne-eqb b a (λ e. eqb-false a b p (sym e)))))
+
+-- one number is added
+pub added-one : {ws last : List ℕ} {v : ℕ} → v < 64 * length ws → last ≡ withMember ws v → Added ws (eqb v) last
+added-one {ws} {last} {v} h e =
+    record {
+      same-length = ap length e ∙ with-length ws v;
+      members = λ k. ap (λ (x : List ℕ). inSet x k) e ∙ in-with ws v k h ∙ or-comm (eqb k v) (inSet ws k) ∙ ap (λ (b : Bool). inSet ws k || b) (eqb-sym k v);
+    }
+
 -- ---- marking
 
 module _ (bs : List ℕ) (at : ℕ) (ws₀ : List ℕ) where
   pub mark-start : Added ws₀ (someHas bs at 0) ws₀
   unfolding someHas anyBelow
-  mark-start = record { same-length = refl; members = λ k. sym (or-false (inSet ws₀ k)) }
+  mark-start = added-none ws₀ (someHas bs at 0) (λ k. refl)
 
   some-more : (i k : ℕ) → someHas bs at (i + 1) k ≡ (someHas bs at i k || eqb (numberAt bs at i) k)
   unfolding someHas anyBelow hasNumber
   some-more i k = rw (add-one i)
-
-  eqb-sym : (a b : ℕ) → eqb a b ≡ eqb b a
-  eqb-sym a b = either (eqb a b) (λ p. rw (p, eqb-true a b p) (sym (eq-eqb b b refl))) (λ p. rw p (sym (ne-eqb b a (λ e. eqb-false a b p (sym e)))))
 
   module _ {count i k : ℕ} (fit : Markable bs at count ws₀) (under : i < count) (read : k ≡ u32At bs (at + coreSize * i)) {ws : List ℕ} (so-far : Added ws₀ (someHas bs at i) ws) where
     number-is : k ≡ numberAt bs at i
@@ -42,16 +65,7 @@ module _ (bs : List ℕ) (at : ℕ) (ws₀ : List ℕ) where
     mark-low = omega (arith, number-is, fit .low i under, so-far .same-length)
 
     pub mark-more : {after : List ℕ} → after ≡ withMember ws k → Added ws₀ (someHas bs at (i + 1)) after
-    mark-more {after} e =
-        record {
-          same-length = rw e (with-length ws k ∙ so-far .same-length);
-          members = λ x.
-              rw e (in-with ws k x mark-low)
-              ∙ or-comm (eqb x k) (inSet ws x)
-              ∙ ap (λ (b : Bool). b || eqb x k) (so-far .members x)
-              ∙ or-assoc (inSet ws₀ x) (someHas bs at i x) (eqb x k)
-              ∙ ap (λ (b : Bool). inSet ws₀ x || b) (ap (λ (b : Bool). someHas bs at i x || b) (eqb-sym x k ∙ ap (λ (n : ℕ). eqb n x) number-is) ∙ sym (some-more i x));
-        }
+    mark-more e = added-then (someHas bs at (i + 1)) so-far (added-one mark-low e) (λ x. some-more i x ∙ ap (λ (n : ℕ). someHas bs at i x || eqb n x) (sym number-is))
 
   pub mark-end : {count i : ℕ} {ws : List ℕ} → Added ws₀ (someHas bs at i) ws → i ≤ count → count ≤ i → Added ws₀ (someHas bs at count) ws
   mark-end {count} {i} a h l = let e : count ≡ i = omega arith in rw e a
@@ -92,6 +106,9 @@ module _ (ws : List ℕ) where
   pub counted-end : (words : ℕ) {behind₀ behind : List ℕ} {i : ℕ} → Counted ws words behind₀ i behind → i ≤ 0 → Counted ws words behind₀ 0 behind
   counted-end words {i} c h = let e : i ≡ 0 = omega arith in rw e at c
 
+  pub total-end : (words : ℕ) {i : ℕ} (total : ℕ) → total + countBelow (64 * i) (inSet ws) ≡ countBelow (64 * words) (inSet ws) → i ≤ 0 → total ≡ countBelow (64 * words) (inSet ws)
+  total-end words {i} total t h = omega (arith, count-le (64 * i) (inSet ws))
+
   -- the total grows by the bits of the word
   pub word-total : (words : ℕ) {i : ℕ} (total n : ℕ) → 0 < i → total + countBelow (64 * i) (inSet ws) ≡ countBelow (64 * words) (inSet ws) → n ≡ countBelow 64 (bitOf (getD ws (i - 1) 0))
       → (total + n + countBelow (64 * (i - 1)) (inSet ws) ≡ countBelow (64 * words) (inSet ws)) × (total + n ≤ 64 * words)
@@ -100,6 +117,13 @@ module _ (ws : List ℕ) where
       let m : countBelow (64 * i) (inSet ws) ≡ countBelow (64 * (i - 1)) (inSet ws) + countBelow 64 (bitOf (getD ws (i - 1) 0)) = rw d at (word-more (i - 1)) in
       let s : total + n + countBelow (64 * (i - 1)) (inSet ws) ≡ countBelow (64 * words) (inSet ws) = omega arith in
       (s, omega (arith, count-le (64 * words) (inSet ws)))
+
+  -- an empty word adds none
+  pub word-none : (words : ℕ) {i : ℕ} (total : ℕ) → 0 < i → total + countBelow (64 * i) (inSet ws) ≡ countBelow (64 * words) (inSet ws) → getD ws (i - 1) 0 ≡ 0
+      → total + countBelow (64 * (i - 1)) (inSet ws) ≡ countBelow (64 * words) (inSet ws)
+  word-none words {i} total some t e =
+      let z : 0 ≡ countBelow 64 (bitOf (getD ws (i - 1) 0)) = rw e (sym (count-none 64 (bitOf 0) (λ b h. bit-zero b))) in
+      omega (arith, word-total words total 0 some t z .0)
 
   -- the members below k are those below the end of its word but for those of the word from k on
   word-rest : (k : ℕ) → getD ws (k / 64) 0 < 2 ^ 64 → countBelow (64 * (k / 64 + 1)) (inSet ws) ≡ countBelow k (inSet ws) + countBelow 64 (bitOf (getD ws (k / 64) 0 / 2 ^ (k % 64)))
@@ -248,6 +272,7 @@ module _ {bs : List ℕ} {at count below : ℕ} {ws₀ behind₀ : List ℕ} (n 
           counted =
               record {
                 same = c .same-length ∙ z .same ∙ sym (m .same-length);
+                whole = made-all (64 * length ws) (omega (arith, m .same-length));
                 counts = λ i h. either (ltb i words)
                     (λ p. c .counts i (omega arith) (ltb-true i words p) ∙ made-all (64 * words) (omega arith))
                     (λ p. omega (arith, c .others i (omega tests), z .zeros i, made-all (64 * (i + 1)) (omega tests)));
@@ -260,9 +285,22 @@ module _ {ws behind : List ℕ} {count : ℕ} (x : Counts ws behind count) (k : 
   members-split h fits is = omega (arith, x .counts (k / 64) (omega arith), word-rest ws k fits)
 
 -- what isn't in a word is no member
+in-past : (ws : List ℕ) (k : ℕ) → length ws ≤ k / 64 → inSet ws k ≡ false
+unfolding inSet
+in-past ws k h = rw (List·getD-eq-default ws 0 h) (bit-zero (k % 64))
+
 pub member-past : (ws : List ℕ) (count k : ℕ) → length ws ≤ k / 64 → (count ≡ memberPosition ws count k) × (count ≤ count)
-unfolding memberPosition inSet
-member-past ws count k h = (rw (List·getD-eq-default ws 0 h, bit-zero (k % 64)), omega arith)
+unfolding memberPosition
+member-past ws count k h = (rw (in-past ws k h), omega arith)
+
+-- and all members are below it
+pub members-all : {ws behind : List ℕ} {count : ℕ} → Counts ws behind count → (k : ℕ) → length ws ≤ k / 64 → (count ≡ countBelow k (inSet ws)) × (count ≤ count)
+members-all {ws} {behind} {count} x k h =
+    let n : ℕ = 64 * length ws in
+    let e : k ≡ n + (k - n) = omega arith in
+    let past : countBelow (k - n) (λ i. inSet ws (n + i)) ≡ 0 = count-none (k - n) (λ i. inSet ws (n + i)) (λ i l. in-past ws (n + i) (omega arith)) in
+    let split : countBelow k (inSet ws) ≡ countBelow n (inSet ws) + countBelow (k - n) (λ i. inSet ws (n + i)) = ap (λ (m : ℕ). countBelow m (inSet ws)) e ∙ count-add n (k - n) (inSet ws) in
+    (omega (arith, past, split, x .whole), omega arith)
 
 pub member-none : (ws : List ℕ) (count k : ℕ) {b : Bool} → b ≡ inSet ws k → b ≡ false → (count ≡ memberPosition ws count k) × (count ≤ count)
 unfolding memberPosition
@@ -272,6 +310,17 @@ pub member-is : (ws : List ℕ) (count k : ℕ) {b : Bool} {p : ℕ} → b ≡ i
 unfolding memberPosition
 member-is ws count k e t q = rw (← e, t, q)
 
+-- below any number are at most all
+pub members-few : {ws behind : List ℕ} {count : ℕ} → Counts ws behind count → (k : ℕ) → countBelow k (inSet ws) ≤ count
+members-few {ws} {behind} {count} x k =
+    either (ltb k (64 * length ws))
+    (λ p. omega (arith, count-mono k (64 * length ws) (inSet ws) (omega tests), x .whole))
+    (λ p. omega (arith, members-all x k (omega tests) .0))
+
+-- as many members as records are below a number
+pub index-smaller : {bs : List ℕ} {at count : ℕ} {ws behind : List ℕ} → Indexed bs at count ws behind → (k : ℕ) → countBelow k (inSet ws) ≡ smaller bs at count k
+index-smaller {bs} {at} {count} {ws} x k = members-smaller bs at count (x .ascending) ws (x .members) k .0
+
 -- the position among the members is that among the records
 pub index-position : {bs : List ℕ} {at count : ℕ} {ws behind : List ℕ} → Indexed bs at count ws behind → (k : ℕ) → memberPosition ws count k ≡ positionOf bs at count k
 unfolding memberPosition
@@ -280,5 +329,5 @@ index-position {bs} {at} {count} {ws} x k =
     (λ t.
     let found = has-some bs at count (x .ascending) k (sym (x .members k) ∙ t) in
     let number : numberAt bs at (found .0) ≡ k = has-is bs at count (x .ascending) k (found .0) (found .2) in
-    rw t (members-smaller bs at count (x .ascending) ws (x .members) k .0 ∙ smaller-is bs at count (x .ascending) k (found .0) (found .1) number ∙ found-is bs at count (x .ascending) k (found .0) (found .1) number))
+    rw t (index-smaller x k ∙ smaller-is bs at count (x .ascending) k (found .0) (found .1) number ∙ found-is bs at count (x .ascending) k (found .0) (found .1) number))
     (λ f. rw f (none-is bs at count (x .ascending) k (sym (x .members k) ∙ f)))

@@ -1,8 +1,8 @@
 -- Means, no part of what is promised: the numbers of ascending records as a set of bits, with counts, and what is looked up in it.
-use Prim.Native.Nat.{ℕ, _+_, _*_, _^_, _≤_, _<_}
+use Prim.Native.Nat.{ℕ, zero, suc, _+_, _*_, _^_, _≤_, _<_}
 use mathlib.Core.Path.{_≡_}
 use mathlib.Core.Bool.{Bool, false, cond, _||_}
-use mathlib.Core.List.{List}
+use mathlib.Core.List.{List, [], _++_}
 use lib.Dec.{eqb}
 use lib.ListN.{length, getD}
 use Rattle.encoding.specs.Below.{anyBelow, countBelow, leastBelow}
@@ -59,6 +59,7 @@ pub record Numbered (bs : List ℕ) (at count below : ℕ) : Type 0 where
 -- how many members are in the words behind each word of a set of count numbers
 pub record Counts (ws behind : List ℕ) (count : ℕ) : Type 0 where
   pub same : length behind ≡ length ws
+  pub whole : countBelow (64 * length ws) (inSet ws) ≡ count
   pub counts : (i : ℕ) → i < length ws → getD behind i 0 + countBelow (64 * (i + 1)) (inSet ws) ≡ count
 
 -- the position of k among the members; count where it is none
@@ -70,3 +71,8 @@ pub record Indexed (bs : List ℕ) (at count : ℕ) (ws behind : List ℕ) : Typ
   pub ascending : Ascending bs at count
   pub members : (k : ℕ) → inSet ws k ≡ someHas bs at count k
   pub counted : Counts ws behind count
+
+-- the cores of those below k that pass f, ascending
+unfoldable pub coresBelow : (ℕ → List ℕ) → (ℕ → Bool) → ℕ → List ℕ
+coresBelow core f zero = []
+coresBelow core f (suc k) = coresBelow core f k ++ cond (f k) (core k) []

@@ -23,18 +23,23 @@ fn mark_numbers(bs: &[u8], at: usize, count: u32, marks: &mut [u64])
     }
 }
 
-// For each of the first `words` words, how many members are in the words behind it.
-fn count_behind(marks: &[u64], words: usize, behind: &mut [u32])
+// For each of the first `words` words, how many members are in the words behind it. Answers how many there are in these words.
+pub fn count_behind(marks: &[u64], words: usize, behind: &mut [u32]) -> u32
     requires { ⌜ Countable (now marks) words (now behind) ⌝ }
-    ensures { λ u. ⌜ Counted (now (marks .entry)) words (now (behind .entry)) 0 (now (behind .exit)) ⌝ }
+    ensures { λ r. ⌜ Counted (now (marks .entry)) words (now (behind .entry)) 0 (now (behind .exit)) × (r ≡ countBelow (64 * words) (inSet (now (marks .entry)))) ⌝ }
 {
     let mut total = 0;
     let mut i = words;
     while 0 < i {
         i -= 1;
         behind[i] = total;
-        total += ones(marks[i]);
+        let w = marks[i];
+        // most words of few members are empty
+        if w != 0 {
+            total += ones(w);
+        }
     }
+    total
 }
 
 // Makes the index of `count` core records from byte `at` on, whose numbers are below `below`.
@@ -54,6 +59,18 @@ fn members_below(marks: &[u64], behind: &[u32], count: u32, k: u32) -> u32
 {
     let i = (k / 64) as usize;
     count - (behind[i] + ones(marks[i] >> (k % 64)))
+}
+
+// The same for any number: where it is past the words, all members are below it.
+pub fn count_below(marks: &[u64], behind: &[u32], count: u32, number: GlobalIndex) -> u32
+    requires { ⌜ Counts (now marks) (now behind) count ⌝ }
+    ensures { λ r. ⌜ (r ≡ countBelow (number .0) (inSet (now (marks .entry)))) × (r ≤ count) ⌝ }
+{
+    let k = number.0;
+    if marks.len() <= (k / 64) as usize {
+        return count;
+    }
+    members_below(marks, behind, count, k)
 }
 
 // The position of the number among the members; `count`, which is how many there are, where it is none.

@@ -3,7 +3,7 @@ use Prim.Native.Nat.{_*_, _-_}
 use native.Mathlib.Omega.{arith}
 use Rattle.bits.specs.Bits.{inSet}
 use Rattle.part.specs.Part.{partCore}
-use Rattle.message_build.proofs.Ghosts.{member-behind, Going, ghosts-start, ghosts-room, ghosts-next, ghosts-end}
+use Rattle.positions.proofs.Members.{member-behind, Going, ghosts-start, ghosts-room, ghosts-next, ghosts-end}
 use borrow.Author.Needs.{needs}
 use Rattle.message_build.proofs.write.write_ghosts.Statement.{statement}
 use Rattle.message_build.proofs.write.write_ghosts.Tie as tie

@@ -1,11 +1,10 @@
-use Rattle.positions.proofs.Positions.{counted-start, counted-more, counted-end, word-total}
-use Rattle.positions.specs.Means.{Counted}
-use Rattle.bits.specs.Bits.{inSet}
-use Rattle.encoding.proofs.Below.{count-le}
-use Rattle.encoding.specs.Below.{countBelow}
-use native.Mathlib.Omega.{arith}
-use mathlib.Core.Path.{_≡_}
 use Prim.Native.Nat.{_≤_, _+_, _*_}
+use mathlib.Core.Path.{_≡_}
+use native.Mathlib.Omega.{arith}
+use Rattle.encoding.specs.Below.{countBelow}
+use Rattle.bits.specs.Bits.{inSet}
+use Rattle.positions.specs.Means.{Counted}
+use Rattle.positions.proofs.Positions.{counted-start, counted-more, counted-end, word-total, word-none, total-end}
 use borrow.Author.Needs.{needs}
 use Rattle.positions.proofs.index.count_behind.Statement.{statement}
 use Rattle.positions.proofs.index.count_behind.Tie as tie
@@ -28,29 +27,35 @@ mul-behind c = search needs
 slice-write-behind : tie.Need-slice-write-behind Inv-loop μ-loop
 slice-write-behind c = omega (arith, c .before .loop .inv .2 .same-length, c .before .before .before .before .pre .room)
 
-mul-ones : tie.Need-mul-ones Inv-loop μ-loop
-mul-ones c = search needs
+mul-w : tie.Need-mul-w Inv-loop μ-loop
+mul-w c = search needs
 
-shared-slice-read-ones : tie.Need-shared-slice-read-ones Inv-loop μ-loop
-shared-slice-read-ones c = omega (arith, c .before .before .before .before .before .pre .marked)
+shared-slice-read-w : tie.Need-shared-slice-read-w Inv-loop μ-loop
+shared-slice-read-w c = omega (arith, c .before .before .before .before .before .pre .marked)
 
 ones-requires : tie.Need-ones-requires Inv-loop μ-loop
 ones-requires c κs = search needs
 
 add-total : tie.Need-add-total Inv-loop μ-loop
-add-total c = omega (arith, word-total _ _ _ _ (c .before .before .loop-test .taken) (c .before .before .before .loop .inv .1) (c .ones .ensures .0) .1, c .before .before .before .before .before .before .pre .few)
+add-total c = omega (arith, word-total _ _ _ _ (c .before .before .before .loop-test .taken) (c .before .before .before .before .loop .inv .1) (c .ones .ensures .0) .1, c .before .before .before .before .before .before .before .pre .few)
 
 loop-less : tie.Need-loop-less Inv-loop μ-loop
 loop-less c = search needs
 
 loop-again : tie.Need-loop-again Inv-loop μ-loop
-loop-again c = (omega arith, word-total _ _ _ _ (c .before .before .loop-test .taken) (c .before .before .before .loop .inv .1) (c .ones .ensures .0) .0, counted-more _ _ _ (c .before .before .before .before .before .before .pre .room) (c .before .before .loop-test .taken) (c .before .before .before .loop .inv .0) (c .before .before .before .loop .inv .1) (c .before .before .before .loop .inv .2))
+loop-again c = (omega arith, word-total _ _ _ _ (c .before .before .before .loop-test .taken) (c .before .before .before .before .loop .inv .1) (c .ones .ensures .0) .0, counted-more _ _ _ (c .before .before .before .before .before .before .before .pre .room) (c .before .before .before .loop-test .taken) (c .before .before .before .before .loop .inv .0) (c .before .before .before .before .loop .inv .1) (c .before .before .before .before .loop .inv .2))
+
+loop-less-2 : tie.Need-loop-less-2 Inv-loop μ-loop
+loop-less-2 c = search needs
+
+loop-again-2 : tie.Need-loop-again-2 Inv-loop μ-loop
+loop-again-2 c = (omega arith, word-none _ _ _ (c .before .before .loop-test .taken) (c .before .before .before .loop .inv .1) (omega arith), counted-more _ _ _ (c .before .before .before .before .before .before .pre .room) (c .before .before .loop-test .taken) (c .before .before .before .loop .inv .0) (c .before .before .before .loop .inv .1) (c .before .before .before .loop .inv .2))
 
 same-length : tie.Need-same-length Inv-loop μ-loop
 same-length c = c .before .loop .inv .2 .same-length
 
 returns : tie.Need-returns Inv-loop μ-loop
-returns c = counted-end _ _ (c .before .loop .inv .2) (omega arith)
+returns c = (counted-end _ _ (c .before .loop .inv .2) (omega arith), total-end _ _ _ (c .before .loop .inv .1) (omega arith))
 
 pub count-behind-spec : {M : Type 1} → statement M
 count-behind-spec =
@@ -62,11 +67,13 @@ count-behind-spec =
     sub-i
     mul-behind
     slice-write-behind
-    mul-ones
-    shared-slice-read-ones
+    mul-w
+    shared-slice-read-w
     ones-requires
     add-total
     loop-less
     loop-again
+    loop-less-2
+    loop-again-2
     same-length
     returns)

@@ -265,7 +265,7 @@
  *  - The thread has stack left. A call that cuts or checks a part or closes an
  *    area takes sets of trees there, of 208 KiB at most, and so does
  *    \ref vejgodat_part_length; \ref vejgodat_deliver and
- *    \ref vejgodat_deliver_all take 129 KiB; those that build messages check a
+ *    \ref vejgodat_deliver_all take 137 KiB; those that build messages check a
  *    part too, and take 336 KiB at most; every other call takes less than 1 KiB.
  *    \ref VEJGODAT_STACK_BYTES are enough for any. A thread made with a stack
  *    of 128 KiB is too small. Only \ref vejgodat_triangle_length and

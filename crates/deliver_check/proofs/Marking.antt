@@ -11,7 +11,7 @@ use borrow.Author.Tests.{lt-ltb, le-ltb, ltb-true, eqb-true, eqb-false, eq-eqb, 
 use Rattle.encoding.specs.Below.{allBelow, anyBelow}
 use Rattle.encoding.specs.Numbers.{u32At}
 use Rattle.encoding.specs.Pieces.{piece}
-use Rattle.encoding.proofs.Below.{tests, either, below-suc, iff-eq, and-fst, and-snd, all-at, any-intro, any-none, any-same, count-initial}
+use Rattle.encoding.proofs.Below.{tests, either, below-suc, iff-eq, and-fst, and-snd, all-at, all-same, any-intro, any-none, any-same, count-initial}
 use Rattle.offsets.specs.Limits.{maxTrees}
 use Rattle.offsets.specs.Table.{holds}
 use Rattle.offsets.proofs.OnePass.{ranks-known}
@@ -29,7 +29,7 @@ use Rattle.area.specs.Area.{areaK, areaP, areaRank, areaCount, areaGhosts, area
 use Rattle.area.specs.Deliver.{among, besideTrees, ghostDue, ghostNew}
 use Rattle.area.proofs.Headers.{ghosts-place-is}
 use Rattle.area.proofs.Soundness.{filled-fits}
-use Rattle.deliver_check.specs.Means.{Checkable, acrossFaces, besideFirst, Marked, FacesFit, TreesFit, ghostBeside, Beside, heldAt}
+use Rattle.deliver_check.specs.Means.{Checkable, acrossFaces, besideFirst, Marked, FacesFit, TreesFit, ghostBeside, Beside, heldAt, HeldFit, GhostsFit, ghostUnmarked}
 
 -- ---- a set that grows
 
@@ -130,24 +130,24 @@ module _ {new m ws : List ℕ} {rank : ℕ} (B : Beside new m ws rank) {n : ℕ}
   beside-read e q = rw (number-is, e, q, B .members v)
 
 module _ {a m : List ℕ} (R : Checkable a m) where
-  few-trees : messageK m ≤ maxTrees
+  pub few-trees : messageK m ≤ maxTrees
   few-trees =
       let T = R .header .tables in
       omega (arith, R .sameTrees, R .header .treesAre, trees-high (areaOld a) (T .oldBytes) (T .oldRanks) (T .oldValid))
 
   -- n words hold every tree
-  pub trees-fit : (n : ℕ) → maxTrees ≤ 64 * n → TreesFit m (replicate n 0)
-  trees-fit n h = record { laid = R .laid; room = omega (arith, length-replicate {A = ℕ} n 0, few-trees) }
+  pub trees-fit : (n : ℕ) → messageK m ≤ 64 * n → TreesFit m (replicate n 0)
+  trees-fit n h = record { laid = R .laid; room = omega (arith, length-replicate {A = ℕ} n 0) }
 
   module _ {new : List ℕ} {rank : ℕ} (is-new : new ≡ areaNew a) (is-rank : rank ≡ areaRank a) where
     -- the neighbours added to the empty set
-    pub beside : (n : ℕ) → maxTrees ≤ 64 * n → {ws : List ℕ} → Marked (replicate n 0) (besideFirst m (messageTrees m)) ws → Beside new m ws rank
+    pub beside : (n : ℕ) → messageK m ≤ 64 * n → {ws : List ℕ} → Marked (replicate n 0) (besideFirst m (messageTrees m)) ws → Beside new m ws rank
     beside n h p =
         let H = R .header in
         record {
           laid = R .laid;
           long = rw is-new (omega (arith, is-rank, ranks-known (areaNew a) (H .tables .newRanks) .size, H .tables .sameRanks, H .ranksAre, H .rankBelow));
-          room = omega (arith, p .same-length, length-replicate {A = ℕ} n 0, few-trees);
+          room = omega (arith, p .same-length, length-replicate {A = ℕ} n 0);
           members = λ k. p .members k ∙ ap (λ (b : Bool). b || besideFirst m (messageTrees m) k) (in-none n k);
         }
 
@@ -183,6 +183,41 @@ module _ (a : List ℕ) (at count : ℕ) (known : Ascending a at count) (k : ℕ
         (λ t. t ∙ sym (any-intro count (λ j. eqb (numberAt a at j) k) p h (rw (← e) t)))
         (λ f. f ∙ none-held (λ i l q. eqb-false v k f (e ∙ ap (numberAt a at) (position ∙ search-is i l q) ∙ q)))
 
+-- as a set
+module _ (a : List ℕ) (at : ℕ) where
+  held-none : (k : ℕ) → heldAt a at 0 k ≡ false
+  unfolding heldAt anyBelow
+  held-none k = refl
+
+  held-more : (i : ℕ) {v : ℕ} → v ≡ u32At a (at + coreSize * i) → (k : ℕ) → heldAt a at (i + 1) k ≡ (heldAt a at i k || eqb v k)
+  unfolding heldAt anyBelow numberAt
+  held-more i e k = rw (add-one, e)
+
+  pub held-start : (ws : List ℕ) → Marked ws (heldAt a at 0) ws
+  held-start ws = marked-none ws (heldAt a at 0) held-none
+
+  pub held-next : (i : ℕ) {v : ℕ} {ws₀ ws last : List ℕ} → Marked ws₀ (heldAt a at i) ws → v ≡ u32At a (at + coreSize * i) → v < 64 * length ws₀ → last ≡ withMember ws v → Marked ws₀ (heldAt a at (i + 1)) last
+  held-next i p e l q = marked-then (heldAt a at (i + 1)) p (marked-one (omega (arith, p .same-length)) q) (held-more i e)
+
+  pub held-end : {i n : ℕ} {ws₀ ws : List ℕ} → Marked ws₀ (heldAt a at i) ws → i ≤ n → n ≤ i → Marked ws₀ (heldAt a at n) ws
+  held-end {i} {n} p l h = let e : n ≡ i = omega arith in rw e p
+
+  pub number-low : {count : ℕ} {ws : List ℕ} → HeldFit a at count ws → (i : ℕ) → i < count → {v : ℕ} → v ≡ u32At a (at + coreSize * i) → v < 64 * length ws
+  unfolding numberAt
+  number-low t i h e = omega (arith, t .low i h)
+
+module _ (m ws : List ℕ) {n : ℕ} (j : ℕ) (is-n : n ≡ messageTrees m) {at v : ℕ} (here : at ≡ messageGhostPlace n j) (number : v ≡ numberOf (piece m at coreSize)) where
+  ghost-is : v ≡ numberOf (messageGhost m j)
+  unfolding messageGhost
+  ghost-is = number ∙ rw (here, is-n)
+
+  pub unmarked-is : {b : Bool} → b ≡ inSet ws v → ghostUnmarked ws m j ≡ not b
+  unfolding ghostUnmarked
+  unmarked-is e = rw (e, ghost-is)
+
+  pub ghost-low : GhostsFit m ws → {g : ℕ} → g ≡ messageGhosts m → j < g → v < 64 * length ws
+  ghost-low t e h = omega (arith, ghost-is, t .low j (omega arith))
+
 module _ {a m : List ℕ} (R : Checkable a m) where
   sound-ghosts : (areaGhosts a ≤ areaBound a) × (allBelow (areaBound a) (ghostSlotSound a) ≡ true)
   unfolding areaSound
@@ -192,11 +227,22 @@ module _ {a m : List ℕ} (R : Checkable a m) where
       let s : Bool = allBelow (areaBound a) (ghostSlotSound a) in
       (omega (arith, leb-true (areaGhosts a) (filledBound a) (and-snd x l (and-fst (x && l) s (R .sound))), filled-fits a), and-snd (x && l) s (R .sound))
 
+  held-sound : (j : ℕ) → j < areaGhosts a → ghostHeldSound a j ≡ true
+  unfolding ghostSlotSound
+  held-sound j l = rw (lt-ltb j (areaGhosts a) l) at (all-at (areaBound a) (ghostSlotSound a) (sound-ghosts .1) j (omega (arith, sound-ghosts .0)))
+
   held-after : (j : ℕ) → j < areaGhosts a → afterLast (ghostSlot a) j ≡ true
-  unfolding ghostSlotSound ghostHeldSound
+  unfolding ghostHeldSound
   held-after j l =
-      let e : ghostHeldSound a j ≡ true = rw (lt-ltb j (areaGhosts a) l) at (all-at (areaBound a) (ghostSlotSound a) (sound-ghosts .1) j (omega (arith, sound-ghosts .0))) in
-      and-snd (inForm (numberOf (ghostSlot a j)) (ghostSlot a j) && ltb (numberOf (ghostSlot a j)) (areaK a) && not (holds (areaNew a) (areaRank a) (numberOf (ghostSlot a j)))) (afterLast (ghostSlot a) j) e
+      and-snd (inForm (numberOf (ghostSlot a j)) (ghostSlot a j) && ltb (numberOf (ghostSlot a j)) (areaK a) && not (holds (areaNew a) (areaRank a) (numberOf (ghostSlot a j)))) (afterLast (ghostSlot a) j) (held-sound j l)
+
+  held-low : (j : ℕ) → j < areaGhosts a → numberOf (ghostSlot a j) < areaK a
+  unfolding ghostHeldSound
+  held-low j l =
+      let f : Bool = inForm (numberOf (ghostSlot a j)) (ghostSlot a j) in
+      let k : Bool = ltb (numberOf (ghostSlot a j)) (areaK a) in
+      let h : Bool = not (holds (areaNew a) (areaRank a) (numberOf (ghostSlot a j))) in
+      ltb-true _ _ (and-snd f k (and-fst (f && k) h (and-fst (f && k && h) (afterLast (ghostSlot a) j) (held-sound j l))))
 
   held-step : (j : ℕ) → suc j < areaGhosts a → numberOf (ghostSlot a j) < numberOf (ghostSlot a (suc j))
   unfolding afterLast
@@ -233,3 +279,37 @@ module _ {a m : List ℕ} (R : Checkable a m) where
         any-same (areaGhosts a) (λ i. eqb (numberOf (ghostSlot a i)) v) (λ i. eqb (numberAt a at i) v) (λ i l. ap (λ (x : ℕ). eqb x v) (sym (slot-number i)))
         ∙ ap (λ (x : ℕ). anyBelow x (λ i. eqb (numberAt a at i) v)) (sym is-g) ∙ sym s in
         rw (k, t)
+
+    -- the numbers of those held added to the empty set
+    pub held-fit : (w : ℕ) → maxTrees ≤ 64 * w → HeldFit a at g (replicate w 0)
+    held-fit w h =
+        record {
+          fits = held-ascending .fits;
+          low = λ i l. omega (arith, slot-number i, held-low i (omega arith), R .sameTrees, few-trees R, length-replicate {A = ℕ} w 0);
+        }
+
+    module _ (w : ℕ) (many : maxTrees ≤ 64 * w) {ws : List ℕ} (p : Marked (replicate w 0) (heldAt a at g) ws) where
+      -- a ghost that is due is a neighbour of a tree, so below K
+      pub ghosts-fit : allBelow (messageGhosts m) (ghostDue a m) ≡ true → GhostsFit m ws
+      unfolding ghostDue besideTrees besideFirst acrossFaces
+      ghosts-fit due =
+          record {
+            laid = R .laid;
+            low = λ j l.
+                let v : ℕ = numberOf (messageGhost m j) in
+                either (ltb v (messageK m))
+                (λ h. omega (arith, ltb-true v (messageK m) h, few-trees R, p .same-length, length-replicate {A = ℕ} w 0))
+                (λ h. let t : besideFirst m (messageTrees m) v ≡ true = and-snd (not (holds (areaNew a) (areaRank a) v)) (besideFirst m (messageTrees m) v) (all-at (messageGhosts m) (ghostDue a m) due j l) in
+                let f : besideFirst m (messageTrees m) v ≡ false = beside-low m (R .laid) v (omega tests) in
+                let z : _≡_ {A = ℕ} 0 1 = cc in
+                omega arith);
+          }
+
+      pub new-marked : {r : Bool} → r ≡ allBelow (messageGhosts m) (ghostUnmarked ws m) → r ≡ allBelow (messageGhosts m) (ghostNew a m)
+      unfolding ghostUnmarked messageGhost
+      new-marked e =
+          e
+          ∙ all-same (messageGhosts m) (ghostUnmarked ws m) (ghostNew a m)
+          (λ j l. let v : ℕ = numberOf (messageGhost m j) in
+          let h : inSet ws v ≡ heldAt a at g v = p .members v ∙ ap (λ (b : Bool). b || heldAt a at g v) (in-none w v) in
+          sym (new-is j {c = messageTrees m} {to = messageGhostPlace (messageTrees m) j} {v = v} {b = inSet ws v} refl refl refl h))

@@ -79,3 +79,17 @@ pub record Beside (new m ws : List ℕ) (rank : ℕ) : Type 0 where
 -- one of count core records from byte `at` has number k
 unfoldable pub heldAt : List ℕ → ℕ → ℕ → ℕ → Bool
 heldAt a at count k = anyBelow count (λ j. eqb (numberAt a at j) k)
+
+-- those records, whose numbers the set can hold
+pub record HeldFit (a : List ℕ) (at count : ℕ) (ws : List ℕ) : Type 0 where
+  pub fits : at + coreSize * count ≤ length a
+  pub low : (i : ℕ) → i < count → numberAt a at i < 64 * length ws
+
+-- a message in layout, whose ghosts' numbers the set can hold
+pub record GhostsFit (m ws : List ℕ) : Type 0 where
+  pub laid : inLayout m ≡ true
+  pub low : (j : ℕ) → j < messageGhosts m → numberOf (messageGhost m j) < 64 * length ws
+
+-- ghost j is not in the set
+unfoldable pub ghostUnmarked : List ℕ → List ℕ → ℕ → Bool
+ghostUnmarked ws m j = not (inSet ws (numberOf (messageGhost m j)))

@@ -65,7 +65,9 @@ returns-4 c =
     fails-ghosts _ _ (sender-due .ensures) (not-false _ (if1 .left)) (sender .ensures) (heard .ensures) (if2 .left) (trees-due .ensures) (not-false _ (if3 .left)) (ghosts-due .ensures) (not-true _ (c .if4 .taken))
 
 ghosts-new-requires : tie.Need-ghosts-new-requires
-ghosts-new-requires c κs = search needs
+ghosts-new-requires c κs =
+    let pre = c .before .before .before .before .before .before .before .before .before .before .before .before .before .pre in
+    (pre .1, sym (c .before .ghosts-due .ensures) ∙ not-false _ (c .if4 .left))
 
 returns-5 : tie.Need-returns-5
 returns-5 c =

@@ -1,7 +1,7 @@
 -- What the functions that check a part find is what the definitions say.
 use Prim.Native.Nat.{ℕ, _+_, _-_, _≤_, _<_}
 use native.Mathlib.Omega.{arith}
-use mathlib.Core.Path.{_≡_, sym, ap, _∙_}
+use mathlib.Core.Path.{_≡_, refl, sym, ap, _∙_}
 use mathlib.Core.Bool.{Bool, true, false, not, _&&_, and-false}
 use mathlib.Core.List.{List}
 use lib.Dec.{ltb, eqb}
@@ -10,7 +10,7 @@ use borrow.Author.Tests.{ltb-true, lt-ltb, le-ltb, eq-eqb, ne-eqb, eqb-true}
 use Rattle.encoding.specs.Below.{allBelow, anyBelow, leastBelow}
 use Rattle.encoding.specs.Numbers.{u32At}
 use Rattle.encoding.specs.Pieces.{piece, Bytes}
-use Rattle.encoding.proofs.Below.{either, iff-eq, all-at, and-fst, and-snd, least-none, least-lt, least-same}
+use Rattle.encoding.proofs.Below.{either, clash, iff-eq, all-at, and-fst, and-snd, least-none, least-lt, least-same}
 use Rattle.records.specs.Shape.{dimensionOf, faceCount}
 use Rattle.records.specs.Record.{coreSize, numberOf, shapeOf, neighbourOf, inForm}
 use Rattle.mesh.specs.Link.{orientationOk}
@@ -24,10 +24,11 @@ use Rattle.part.specs.Means.{viewSound, inRange, neighbourIn, numberAt, Ascendi
 use Rattle.part.proofs.Sound.{part-sound-is}
 use Rattle.part.specs.Part.{partDimension, partK, partFirst, partCount, partGhostCount, storedTree, storedGhost, globalNumber, globalTree, partHeaderSound, partSound}
 use Rattle.mesh.specs.Means.{linkByDimension}
-use Rattle.part_check.specs.Means.{treeTo, treeFace, treeStored, treeNumbered, ghostBehind, ghostNumbered, numbersSound, ghostTo, ghostFace, ghostStored, recordsSound, PartLaid, PartNumbered}
+use Rattle.part_check.specs.Means.{treeTo, treeFace, treeStored, treeNumbered, ghostBehind, ghostNumbered, numbersSound, ghostTo, ghostFace, ghostStored, recordsSound, PartLaid, PartNumbered, Leads}
 use Rattle.part.proofs.Global.{global-alike, global-neighbour}
 use Rattle.part_check.proofs.Judging.{ghosts-ascend, ghosts-few, lookedUp, Seen, view-is}
 use Rattle.part_check.proofs.ByDimension.{records-by-dimension}
+use Rattle.part.proofs.Ranges.{range-last}
 use Rattle.part.proofs.Search.{number-there}
 
 -- ---- trees
@@ -124,30 +125,46 @@ module _ (part : List ℕ) (n g : ℕ) where
       e ∙ index-position x k
       ∙ least-same g (hasNumber part (ghostPlace n 0) k) (ghostHas (ghostCore part n) k) (λ i h. ap (λ (y : ℕ). eqb y k) (number-there part n g i))
 
-  -- the link of a ghost
-  module _ (first D K j f : ℕ) {at k : ℕ} (here : at ≡ ghostPlace n j) (read : k ≡ neighbourOf (piece part at coreSize) f) {b : Bool} (test : b ≡ inRange first (first + n) k) where
-    pub link-local : (t : ℕ) {own to : ℕ} {r : Bool} → b ≡ true → t + first ≡ k → own ≡ n + j → to ≡ treePlace t → r ≡ linkByDimension D own (piece part at coreSize) f (piece part to coreSize)
-        → r ≡ ghostFace (linkByDimension D) first n g (storedTree part) (ghostCore part n) K j f
-    unfolding ghostFace ghostTo ghostCore storedTree
-    link-local t h l e there p =
+  -- the link of a ghost to tree k
+  module _ (first j k : ℕ) {b : Bool} (test : b ≡ inRange first (first + n) k) (long : length part ≡ partSize n g) where
+    pub leads-tree : (t : ℕ) {own to : ℕ} → b ≡ true → t + first ≡ k → own ≡ n + j → to ≡ treePlace t → Leads part first n g j k true to own
+    unfolding inRange ghostTo storedTree
+    leads-tree t h l e there =
         let s : k - first ≡ t = omega arith in
-        rw (← here, ← read, ← test, h, s, ← there, p, e)
+        let low : k < first + n = range-last first (first + n) k test h in
+        record {
+          fits = λ q. omega (arith, there, long, low, l);
+          is = λ link K f. rw (← test, h, s, ← there, e);
+        }
 
     module _ (out : b ≡ false) {p : ℕ} (position : p ≡ leastBelow g (ghostHas (ghostCore part n) k)) where
-      pub link-held : {v to : ℕ} {r : Bool} → p < g → v ≡ numberOf (piece part at coreSize) → to ≡ ghostPlace n p → r ≡ linkByDimension D v (piece part at coreSize) f (piece part to coreSize)
-          → r ≡ ghostFace (linkByDimension D) first n g (storedTree part) (ghostCore part n) K j f
-      unfolding ghostFace ghostTo ghostCore
-      link-held h e there q =
+      pub leads-ghost : {at v to : ℕ} → p < g → at ≡ ghostPlace n j → v ≡ numberOf (piece part at coreSize) → to ≡ ghostPlace n p → Leads part first n g j k true to v
+      unfolding ghostTo ghostCore
+      leads-ghost h here e there =
           let some : anyBelow g (ghostHas (ghostCore part n) k) ≡ true =
           either (anyBelow g (ghostHas (ghostCore part n) k)) (λ t. t) (λ t. absurd (omega (arith, least-none g (ghostHas (ghostCore part n) k) t))) in
-          rw (← here, ← read, ← test, out, some, ← position, ← there, q, e)
+          record {
+            fits = λ q. omega (arith, there, long, h);
+            is = λ link K f. rw (← here, ← test, out, some, ← position, ← there, e);
+          }
 
-      pub link-free : {q : Bool} → g ≤ p → q ≡ orientationOk (piece part at coreSize) f → (ltb k K && q) ≡ ghostFace (linkByDimension D) first n g (storedTree part) (ghostCore part n) K j f
-      unfolding ghostFace ghostTo ghostCore
-      link-free h e =
+      pub leads-none : (to back : ℕ) → g ≤ p → Leads part first n g j k false to back
+      unfolding ghostTo
+      leads-none to back h =
           let none : anyBelow g (ghostHas (ghostCore part n) k) ≡ false =
           either (anyBelow g (ghostHas (ghostCore part n) k)) (λ t. absurd (omega (arith, least-lt g (ghostHas (ghostCore part n) k) t))) (λ t. t) in
-          rw (← here, ← read, ← test, out, none, e)
+          record { fits = λ q. absurd (clash q refl); is = λ link K f. rw (← test, out, none) }
+
+  -- the rule of that link
+  module _ (first D K j f : ℕ) {at k : ℕ} (here : at ≡ ghostPlace n j) (read : k ≡ neighbourOf (piece part at coreSize) f) {found : Bool} {to back : ℕ} (leads : Leads part first n g j k found to back) where
+    pub link-held : {r : Bool} → found ≡ true → r ≡ linkByDimension D back (piece part at coreSize) f (piece part to coreSize)
+        → r ≡ ghostFace (linkByDimension D) first n g (storedTree part) (ghostCore part n) K j f
+    unfolding ghostFace ghostCore
+    link-held h p = rw (← here, ← read, ← leads .is (linkByDimension D) K f, h, ← here, p)
+
+    pub link-free : {q : Bool} → found ≡ false → q ≡ orientationOk (piece part at coreSize) f → (ltb k K && q) ≡ ghostFace (linkByDimension D) first n g (storedTree part) (ghostCore part n) K j f
+    unfolding ghostFace ghostCore
+    link-free h e = rw (← here, ← read, ← leads .is (linkByDimension D) K f, h, ← here, e)
 
 -- ---- the header and the whole
 

@@ -27,7 +27,7 @@ ghost use Rattle.part.specs.Part.{partCount, partGhostCount, storedTree, partHe
 ghost use Rattle.part.specs.Means.{Ascending, ghostCore, ghostHas, RankKnown};
 ghost use Rattle.mesh.specs.Means.{linkByDimension};
 ghost use Rattle.positions.specs.Means.{Indexed};
-ghost use Rattle.part_check.specs.Means.{treeFace, treeStored, treeNumbered, ghostBehind, ghostNumbered, numbersSound, ghostFace, ghostStored, recordsSound, PartLaid, PartNumbered};
+ghost use Rattle.part_check.specs.Means.{treeFace, treeStored, treeNumbered, ghostBehind, ghostNumbered, numbersSound, ghostFace, ghostStored, recordsSound, PartLaid, PartNumbered, Leads};
 
 // Whether the header is as table and rank say, and the length as the header says.
 pub fn header_sound(part: &[u8], table: &[u8], rank: u32) -> bool
@@ -229,7 +229,53 @@ pub fn ghost_with(part: &[u8], count: u32, ghosts: u32, number: GlobalIndex) -> 
     position
 }
 
-// The neighbour is a tree of the range, another ghost, or not held.
+// Where a link leads: whether to a record of the part, where that begins, and the number that its link leads back to.
+struct Way {
+    held: bool,
+    to: usize,
+    back: u32,
+}
+
+// Ghost j's neighbour is a tree of the range, another ghost, or not held.
+fn ghost_way(
+    part: &[u8],
+    first: u32,
+    count: u32,
+    ghosts: u32,
+    trees: u32,
+    marks: &[u64],
+    behind: &[u32],
+    j: u32,
+    neighbour: u32,
+) -> Way
+    requires { ⌜ PartNumbered (now part) first count ghosts trees × (j < ghosts) × Indexed (now part) (ghostPlace count 0) ghosts (now marks) (now behind) ⌝ }
+    ensures { λ r. ⌜ Leads (now (part .entry)) first count ghosts j neighbour (r .held) (r .to) (r .back) ⌝ }
+{
+    if in_range(first, first + count, GlobalIndex(neighbour)) {
+        let tree = to_local(GlobalIndex(neighbour), GlobalIndex(first));
+        let own = ghost_index(count, j);
+        return Way {
+            held: true,
+            to: tree_at(tree),
+            back: own.0,
+        };
+    }
+    let position = positions::index::find(marks, behind, ghosts, GlobalIndex(neighbour));
+    if position < ghosts {
+        return Way {
+            held: true,
+            to: ghost_at(count, position),
+            back: records::read::number_of(part, ghost_at(count, j)),
+        };
+    }
+    Way {
+        held: false,
+        to: 0,
+        back: 0,
+    }
+}
+
+// The rule of a link stands once here: called at two places it is no longer taken into the loop.
 fn ghost_face(
     part: &[u8],
     first: u32,
@@ -247,15 +293,9 @@ fn ghost_face(
 {
     let at = ghost_at(count, j);
     let k = records::read::neighbour_of(part, at, face);
-    if in_range(first, first + count, GlobalIndex(k)) {
-        let tree = to_local(GlobalIndex(k), GlobalIndex(first));
-        let own = ghost_index(count, j);
-        return link_ok(part, dimension, own.0, at, face, tree_at(tree));
-    }
-    let number = records::read::number_of(part, at);
-    let position = positions::index::find(marks, behind, ghosts, GlobalIndex(k));
-    if position < ghosts {
-        return link_ok(part, dimension, number, at, face, ghost_at(count, position));
+    let way = ghost_way(part, first, count, ghosts, trees, marks, behind, j, k);
+    if way.held {
+        return link_ok(part, dimension, way.back, at, face, way.to);
     }
     (k < trees) & mesh::link::orientation_ok(part, at, face)
 }

@@ -66,6 +66,10 @@ module _ (link : ℕ → List ℕ → ℕ → List ℕ → Bool) (first n g : �
       inForm (numberOf (ghostly j)) (ghostly j) && eqb (dimensionOf (shapeOf (ghostly j))) dimension
       && anyBelow (faceCount (shapeOf (ghostly j))) (neighbourIn first (first + n) (ghostly j)) && allBelow (faceCount (shapeOf (ghostly j))) (ghostFace K j)
 
+  -- tree i and its number
+  unfoldable pub treeChecked : ℕ → ℕ → Bool
+  treeChecked dimension i = treeNumbered first tree i && treeStored link n g tree ghostly dimension i
+
   -- all records: first every number, by which the links are then looked up
   unfoldable pub recordsSound : ℕ → ℕ → Bool
   recordsSound dimension K = numbersSound first n g tree ghostly K && (allBelow n (treeStored link n g tree ghostly dimension) && allBelow g (ghostStored dimension K))

@@ -1,8 +1,9 @@
 -- What the functions that check a part find is what the definitions say.
 use Prim.Native.Nat.{ℕ, _+_, _-_, _≤_, _<_}
+use native.Mathlib.Numerals.{add-one}
 use native.Mathlib.Omega.{arith}
-use mathlib.Core.Path.{_≡_, sym, ap, _∙_}
-use mathlib.Core.Bool.{Bool, true, false, not, _&&_, and-false}
+use mathlib.Core.Path.{_≡_, refl, sym, ap, _∙_}
+use mathlib.Core.Bool.{Bool, true, false, not, _&&_, _||_, and-false}
 use mathlib.Core.List.{List}
 use lib.Dec.{ltb, eqb}
 use lib.ListN.{length}
@@ -10,7 +11,7 @@ use borrow.Author.Tests.{ltb-true, lt-ltb, le-ltb, eq-eqb, ne-eqb, eqb-true}
 use Rattle.encoding.specs.Below.{allBelow, anyBelow, leastBelow}
 use Rattle.encoding.specs.Numbers.{u32At}
 use Rattle.encoding.specs.Pieces.{piece, Bytes}
-use Rattle.encoding.proofs.Below.{either, iff-eq, all-at, and-fst, and-snd, least-none, least-lt, least-same}
+use Rattle.encoding.proofs.Below.{either, clash, iff-eq, all-at, all-fails, all-and, and-fst, and-snd, and-intro, least-none, least-lt, least-same}
 use Rattle.records.specs.Shape.{dimensionOf, faceCount}
 use Rattle.records.specs.Record.{coreSize, numberOf, shapeOf, neighbourOf, inForm}
 use Rattle.mesh.specs.Link.{orientationOk}
@@ -24,10 +25,11 @@ use Rattle.part.specs.Means.{viewSound, inRange, neighbourIn, numberAt, Ascendi
 use Rattle.part.proofs.Sound.{part-sound-is}
 use Rattle.part.specs.Part.{partDimension, partK, partFirst, partCount, partGhostCount, storedTree, storedGhost, globalNumber, globalTree, partHeaderSound, partSound}
 use Rattle.mesh.specs.Means.{linkByDimension}
-use Rattle.part_check.specs.Means.{treeTo, treeFace, treeStored, treeNumbered, ghostBehind, ghostNumbered, numbersSound, ghostTo, ghostFace, ghostStored, recordsSound, PartLaid, PartNumbered}
+use Rattle.part_check.specs.Means.{treeTo, treeFace, treeStored, treeNumbered, ghostBehind, ghostNumbered, numbersSound, ghostTo, ghostFace, treeChecked, ghostStored, recordsSound, PartLaid, PartNumbered, Leads}
 use Rattle.part.proofs.Global.{global-alike, global-neighbour}
 use Rattle.part_check.proofs.Judging.{ghosts-ascend, ghosts-few, lookedUp, Seen, view-is}
 use Rattle.part_check.proofs.ByDimension.{records-by-dimension}
+use Rattle.part.proofs.Ranges.{range-last}
 use Rattle.part.proofs.Search.{number-there}
 
 -- ---- trees
@@ -66,6 +68,16 @@ module _ (part : List ℕ) (i : ℕ) {at : ℕ} (here : at ≡ treePlace i) wher
 
 -- ---- ghosts
 
+pub links-fail : (n : ℕ) (f : ℕ → Bool) (b : Bool) (i : ℕ) → i < n → f i ≡ false → false ≡ (allBelow n f && b)
+links-fail n f b i h e = ap (λ (x : Bool). x && b) (sym (all-fails n f i h e))
+
+and-swap : (x a b : Bool) → (x && (a && b)) ≡ (x && b && a)
+and-swap true true true = refl
+and-swap true true false = refl
+and-swap true false true = refl
+and-swap true false false = refl
+and-swap false a b = refl
+
 module _ (part : List ℕ) (n j : ℕ) where
   pub behind-none : j ≡ 0 → true ≡ ghostBehind (ghostCore part n) j
   unfolding ghostBehind
@@ -80,11 +92,24 @@ module _ (part : List ℕ) (n j : ℕ) where
     unfolding ghostNumbered ghostCore
     ghost-numbered-is first K p q = rw (← here, ← number, p, q)
 
-    pub ghost-read : {a b d : Bool} {shape dimension faces : ℕ} (first g D K : ℕ) → shape ≡ shapeOf (piece part at coreSize) → faces ≡ faceCount shape → a ≡ inForm v (piece part at coreSize) → dimension ≡ dimensionOf shape
-        → b ≡ anyBelow faces (neighbourIn first (first + n) (piece part at coreSize)) → d ≡ allBelow faces (ghostFace (linkByDimension D) first n g (storedTree part) (ghostCore part n) K j)
-        → (a && eqb dimension D && b && d) ≡ ghostStored (linkByDimension D) first n g (storedTree part) (ghostCore part n) D K j
+    pub ghost-read : {a d : Bool} {shape dimension faces : ℕ} (first g D K : ℕ) → shape ≡ shapeOf (piece part at coreSize) → faces ≡ faceCount shape → a ≡ inForm v (piece part at coreSize) → dimension ≡ dimensionOf shape
+        → d ≡ (allBelow faces (ghostFace (linkByDimension D) first n g (storedTree part) (ghostCore part n) K j) && anyBelow faces (neighbourIn first (first + n) (ghostCore part n j)))
+        → (a && eqb dimension D && d) ≡ ghostStored (linkByDimension D) first n g (storedTree part) (ghostCore part n) D K j
     unfolding ghostStored ghostCore
-    ghost-read first g D K e s p r q t = rw (← here, p, r, q, t, s, e, number)
+    ghost-read first g D K e s p r t =
+        rw (← here, p, r, t, ← here, s, e, number)
+        (and-swap (inForm (numberOf (piece part at coreSize)) (piece part at coreSize) && eqb (dimensionOf (shapeOf (piece part at coreSize))) D)
+        (allBelow (faceCount (shapeOf (piece part at coreSize))) (ghostFace (linkByDimension D) first n g (storedTree part) (ghostCore part n) K j))
+        (anyBelow (faceCount (shapeOf (piece part at coreSize))) (neighbourIn first (first + n) (piece part at coreSize))))
+
+  -- the faces of a ghost that were looked at, and whether one led into the range
+  module _ (first f : ℕ) {m : Bool} (met : m ≡ anyBelow f (neighbourIn first (first + n) (ghostCore part n j))) where
+    pub met-more : {at k : ℕ} {b : Bool} → at ≡ ghostPlace n j → k ≡ neighbourOf (piece part at coreSize) f → b ≡ inRange first (first + n) k → (m || b) ≡ anyBelow (f + 1) (neighbourIn first (first + n) (ghostCore part n j))
+    unfolding anyBelow neighbourIn ghostCore
+    met-more here read test = rw (add-one f, met, test, read, here)
+
+    pub met-all : (link : ℕ → Bool) (faces : ℕ) → f ≤ faces → faces ≤ f → allBelow f link ≡ true → m ≡ (allBelow faces link && anyBelow faces (neighbourIn first (first + n) (ghostCore part n j)))
+    met-all link faces p q a = let e : faces ≡ f = omega arith in rw (e, a) met
 
 module _ (part : List ℕ) (n g : ℕ) where
   module _ (first K : ℕ) (known : PartNumbered part first n g K) where
@@ -124,30 +149,84 @@ module _ (part : List ℕ) (n g : ℕ) where
       e ∙ index-position x k
       ∙ least-same g (hasNumber part (ghostPlace n 0) k) (ghostHas (ghostCore part n) k) (λ i h. ap (λ (y : ℕ). eqb y k) (number-there part n g i))
 
-  -- the link of a ghost
-  module _ (first D K j f : ℕ) {at k : ℕ} (here : at ≡ ghostPlace n j) (read : k ≡ neighbourOf (piece part at coreSize) f) {b : Bool} (test : b ≡ inRange first (first + n) k) where
-    pub link-local : (t : ℕ) {own to : ℕ} {r : Bool} → b ≡ true → t + first ≡ k → own ≡ n + j → to ≡ treePlace t → r ≡ linkByDimension D own (piece part at coreSize) f (piece part to coreSize)
-        → r ≡ ghostFace (linkByDimension D) first n g (storedTree part) (ghostCore part n) K j f
-    unfolding ghostFace ghostTo ghostCore storedTree
-    link-local t h l e there p =
+  -- the link of a ghost to tree k
+  module _ (first j k : ℕ) {b : Bool} (test : b ≡ inRange first (first + n) k) (long : length part ≡ partSize n g) where
+    pub leads-tree : (t : ℕ) {own to : ℕ} → b ≡ true → t + first ≡ k → own ≡ n + j → to ≡ treePlace t → Leads part first n g j k true to own
+    unfolding inRange ghostTo storedTree
+    leads-tree t h l e there =
         let s : k - first ≡ t = omega arith in
-        rw (← here, ← read, ← test, h, s, ← there, p, e)
+        let low : k < first + n = range-last first (first + n) k test h in
+        record {
+          fits = λ q. omega (arith, there, long, low, l);
+          is = λ link K f. rw (← test, h, s, ← there, e);
+        }
 
     module _ (out : b ≡ false) {p : ℕ} (position : p ≡ leastBelow g (ghostHas (ghostCore part n) k)) where
-      pub link-held : {v to : ℕ} {r : Bool} → p < g → v ≡ numberOf (piece part at coreSize) → to ≡ ghostPlace n p → r ≡ linkByDimension D v (piece part at coreSize) f (piece part to coreSize)
-          → r ≡ ghostFace (linkByDimension D) first n g (storedTree part) (ghostCore part n) K j f
-      unfolding ghostFace ghostTo ghostCore
-      link-held h e there q =
+      pub leads-ghost : {at v to : ℕ} → p < g → at ≡ ghostPlace n j → v ≡ numberOf (piece part at coreSize) → to ≡ ghostPlace n p → Leads part first n g j k true to v
+      unfolding ghostTo ghostCore
+      leads-ghost h here e there =
           let some : anyBelow g (ghostHas (ghostCore part n) k) ≡ true =
           either (anyBelow g (ghostHas (ghostCore part n) k)) (λ t. t) (λ t. absurd (omega (arith, least-none g (ghostHas (ghostCore part n) k) t))) in
-          rw (← here, ← read, ← test, out, some, ← position, ← there, q, e)
+          record {
+            fits = λ q. omega (arith, there, long, h);
+            is = λ link K f. rw (← here, ← test, out, some, ← position, ← there, e);
+          }
 
-      pub link-free : {q : Bool} → g ≤ p → q ≡ orientationOk (piece part at coreSize) f → (ltb k K && q) ≡ ghostFace (linkByDimension D) first n g (storedTree part) (ghostCore part n) K j f
-      unfolding ghostFace ghostTo ghostCore
-      link-free h e =
+      pub leads-none : (to back : ℕ) → g ≤ p → Leads part first n g j k false to back
+      unfolding ghostTo
+      leads-none to back h =
           let none : anyBelow g (ghostHas (ghostCore part n) k) ≡ false =
           either (anyBelow g (ghostHas (ghostCore part n) k)) (λ t. absurd (omega (arith, least-lt g (ghostHas (ghostCore part n) k) t))) (λ t. t) in
-          rw (← here, ← read, ← test, out, none, e)
+          record { fits = λ q. absurd (clash q refl); is = λ link K f. rw (← test, out, none) }
+
+  -- the rule of that link
+  module _ (first D K j f : ℕ) {at k : ℕ} (here : at ≡ ghostPlace n j) (read : k ≡ neighbourOf (piece part at coreSize) f) {found : Bool} {to back : ℕ} (leads : Leads part first n g j k found to back) where
+    pub link-held : {r : Bool} → found ≡ true → r ≡ linkByDimension D back (piece part at coreSize) f (piece part to coreSize)
+        → r ≡ ghostFace (linkByDimension D) first n g (storedTree part) (ghostCore part n) K j f
+    unfolding ghostFace ghostCore
+    link-held h p = rw (← here, ← read, ← leads .is (linkByDimension D) K f, h, ← here, p)
+
+    pub link-free : {q : Bool} → found ≡ false → q ≡ orientationOk (piece part at coreSize) f → (ltb k K && q) ≡ ghostFace (linkByDimension D) first n g (storedTree part) (ghostCore part n) K j f
+    unfolding ghostFace ghostCore
+    link-free h e = rw (← here, ← read, ← leads .is (linkByDimension D) K f, h, ← here, e)
+
+-- ---- trees and ghosts together
+
+and-mix : (a b s z : Bool) → ((a && b) && (s && z)) ≡ (b && (a && s && z))
+and-mix true true s z = refl
+and-mix true false s z = refl
+and-mix false true s z = refl
+and-mix false false s z = refl
+
+-- the numbers of the ghosts, then the trees with their numbers, then the ghosts
+module _ (link : ℕ → List ℕ → ℕ → List ℕ → Bool) (first n g : ℕ) (tree ghostly : ℕ → List ℕ) (D K : ℕ) where
+  trees-checked : allBelow n (treeChecked link first n g tree ghostly D) ≡ (allBelow n (treeNumbered first tree) && allBelow n (treeStored link n g tree ghostly D))
+  unfolding treeChecked
+  trees-checked = all-and n (treeNumbered first tree) (treeStored link n g tree ghostly D)
+
+  records-are : recordsSound link first n g tree ghostly D K
+      ≡ (allBelow g (ghostNumbered first n ghostly K) && (allBelow n (treeChecked link first n g tree ghostly D) && allBelow g (ghostStored link first n g tree ghostly D K)))
+  unfolding recordsSound numbersSound
+  records-are =
+      rw trees-checked
+      (and-mix (allBelow n (treeNumbered first tree)) (allBelow g (ghostNumbered first n ghostly K)) (allBelow n (treeStored link n g tree ghostly D)) (allBelow g (ghostStored link first n g tree ghostly D K)))
+
+  module _ {x : Bool} (ghosts : x ≡ allBelow g (ghostNumbered first n ghostly K)) where
+    pub records-no-ghosts : x ≡ false → false ≡ recordsSound link first n g tree ghostly D K
+    records-no-ghosts h = rw (records-are, ← ghosts, h)
+
+    module _ {y : Bool} (trees : y ≡ allBelow n (treeChecked link first n g tree ghostly D)) (some : x ≡ true) where
+      pub records-no-trees : y ≡ false → false ≡ recordsSound link first n g tree ghostly D K
+      records-no-trees h = rw (records-are, ← ghosts, some, ← trees, h)
+
+      pub records-read : {z : Bool} → y ≡ true → z ≡ allBelow g (ghostStored link first n g tree ghostly D K) → z ≡ recordsSound link first n g tree ghostly D K
+      records-read h e = rw (records-are, ← ghosts, some, ← trees, h, e)
+
+      pub numbers-known : y ≡ true → numbersSound first n g tree ghostly K ≡ true
+      unfolding numbersSound
+      numbers-known h =
+          and-intro (allBelow n (treeNumbered first tree)) (allBelow g (ghostNumbered first n ghostly K))
+          (and-fst (allBelow n (treeNumbered first tree)) (allBelow n (treeStored link n g tree ghostly D)) (sym trees-checked ∙ (sym trees ∙ h))) (sym ghosts ∙ some)
 
 -- ---- the header and the whole
 

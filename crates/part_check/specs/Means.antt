@@ -6,9 +6,10 @@ use mathlib.Core.List.{List}
 use lib.Dec.{ltb, eqb}
 use lib.ListN.{length}
 use Rattle.encoding.specs.Below.{allBelow, anyBelow, leastBelow}
+use Rattle.encoding.specs.Pieces.{piece}
 use Rattle.offsets.specs.Limits.{maxTrees}
 use Rattle.records.specs.Shape.{dimensionOf, faceCount}
-use Rattle.records.specs.Record.{numberOf, shapeOf, neighbourOf, inForm}
+use Rattle.records.specs.Record.{coreSize, numberOf, shapeOf, neighbourOf, inForm}
 use Rattle.mesh.specs.Link.{orientationOk}
 use Rattle.part.specs.Layout.{partSize}
 use Rattle.part.specs.Part.{storedTree}
@@ -65,6 +66,10 @@ module _ (link : ℕ → List ℕ → ℕ → List ℕ → Bool) (first n g : �
       inForm (numberOf (ghostly j)) (ghostly j) && eqb (dimensionOf (shapeOf (ghostly j))) dimension
       && anyBelow (faceCount (shapeOf (ghostly j))) (neighbourIn first (first + n) (ghostly j)) && allBelow (faceCount (shapeOf (ghostly j))) (ghostFace K j)
 
+  -- tree i and its number
+  unfoldable pub treeChecked : ℕ → ℕ → Bool
+  treeChecked dimension i = treeNumbered first tree i && treeStored link n g tree ghostly dimension i
+
   -- all records: first every number, by which the links are then looked up
   unfoldable pub recordsSound : ℕ → ℕ → Bool
   recordsSound dimension K = numbersSound first n g tree ghostly K && (allBelow n (treeStored link n g tree ghostly dimension) && allBelow g (ghostStored dimension K))
@@ -79,3 +84,9 @@ pub record PartLaid (part : List ℕ) (first n g K : ℕ) : Type 0 where
 pub record PartNumbered (part : List ℕ) (first n g K : ℕ) : Type 0 where
   pub laid : PartLaid part first n g K
   pub numbers : numbersSound first n g (storedTree part) (ghostCore part n) K ≡ true
+
+-- where the link of ghost j to tree k leads: to the record at byte `to`, whose link leads back to `back`, or to none that is held
+pub record Leads (part : List ℕ) (first n g j k : ℕ) (found : Bool) (to back : ℕ) : Type 0 where
+  pub fits : found ≡ true → to + coreSize ≤ length part
+  pub is : (link : ℕ → List ℕ → ℕ → List ℕ → Bool) (K f : ℕ)
+      → cond found (link back (ghostCore part n j) f (piece part to coreSize)) (ltb k K && orientationOk (ghostCore part n j) f) ≡ ghostTo link first n g (storedTree part) (ghostCore part n) K j f k

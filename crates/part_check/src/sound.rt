@@ -7,7 +7,6 @@ use part::layout::ghost_count;
 use part::layout::tree_at;
 use part::layout::tree_count;
 use part::layout::trees;
-use part::range::beside;
 use part::range::find_ghost;
 use part::range::in_range;
 use records::index::GlobalIndex;
@@ -19,15 +18,15 @@ ghost use mathlib.Core.Bool.{_&&_};
 ghost use Prim.Native.Nat.{_+_, _≤_, _<_};
 ghost use lib.Dec.{eqb};
 ghost use lib.ListN.{length};
-ghost use Rattle.encoding.specs.Below.{allBelow, leastBelow};
+ghost use Rattle.encoding.specs.Below.{allBelow, anyBelow, leastBelow};
 ghost use Rattle.offsets.specs.Limits.{maxTrees};
 ghost use Rattle.records.specs.Record.{coreSize};
 ghost use Rattle.part.specs.Layout.{treePlace, ghostPlace, partSize};
 ghost use Rattle.part.specs.Part.{partCount, partGhostCount, storedTree, partHeaderSound, partSound};
-ghost use Rattle.part.specs.Means.{Ascending, ghostCore, ghostHas, RankKnown};
+ghost use Rattle.part.specs.Means.{neighbourIn, Ascending, ghostCore, ghostHas, RankKnown};
 ghost use Rattle.mesh.specs.Means.{linkByDimension};
 ghost use Rattle.positions.specs.Means.{Indexed};
-ghost use Rattle.part_check.specs.Means.{treeFace, treeStored, treeNumbered, ghostBehind, ghostNumbered, numbersSound, ghostFace, ghostStored, recordsSound, PartLaid, PartNumbered};
+ghost use Rattle.part_check.specs.Means.{treeFace, treeNumbered, ghostBehind, ghostNumbered, ghostFace, treeChecked, ghostStored, recordsSound, PartLaid, PartNumbered, Leads};
 
 // Whether the header is as table and rank say, and the length as the header says.
 pub fn header_sound(part: &[u8], table: &[u8], rank: u32) -> bool
@@ -66,20 +65,6 @@ pub fn tree_numbered(part: &[u8], first: GlobalIndex, tree: LocalIndex) -> bool
     local.0 == tree.0
 }
 
-fn tree_numbers(part: &[u8], first: u32, count: u32) -> bool
-    requires { ⌜ treePlace count ≤ length (now part) ⌝ }
-    ensures { λ r. ⌜ r ≡ allBelow count (treeNumbered first (storedTree (now (part .entry)))) ⌝ }
-{
-    let mut i = 0;
-    while i < count {
-        if !tree_numbered(part, GlobalIndex(first), LocalIndex(i)) {
-            return false;
-        }
-        i += 1;
-    }
-    true
-}
-
 fn ghost_behind(part: &[u8], count: u32, j: u32) -> bool
     requires { ⌜ ghostPlace count j + coreSize ≤ length (now part) ⌝ }
     ensures { λ r. ⌜ r ≡ ghostBehind (ghostCore (now (part .entry)) count) j ⌝ }
@@ -113,14 +98,6 @@ fn ghost_numbers(part: &[u8], first: u32, count: u32, ghosts: u32, trees: u32) -
         j += 1;
     }
     true
-}
-
-// Whether trees and ghosts have the numbers that they are to have. The links are looked at only then.
-fn numbers_sound(part: &[u8], first: u32, count: u32, ghosts: u32, trees: u32) -> bool
-    requires { ⌜ PartLaid (now part) first count ghosts trees ⌝ }
-    ensures { λ r. ⌜ r ≡ numbersSound first count ghosts (storedTree (now (part .entry))) (ghostCore (now (part .entry)) count) trees ⌝ }
-{
-    tree_numbers(part, first, count) & ghost_numbers(part, first, count, ghosts, trees)
 }
 
 // ---- trees
@@ -178,32 +155,41 @@ fn tree_faces(
     true
 }
 
-fn tree_sound(part: &[u8], count: u32, ghosts: u32, dimension: u32, tree: LocalIndex) -> bool
+fn tree_sound(
+    part: &[u8],
+    first: u32,
+    count: u32,
+    ghosts: u32,
+    dimension: u32,
+    tree: LocalIndex,
+) -> bool
     requires { ⌜ (length (now part) ≡ partSize count ghosts) × (tree .0 < count) ⌝ }
-    ensures { λ r. ⌜ r ≡ treeStored (linkByDimension dimension) count ghosts (storedTree (now (part .entry))) (ghostCore (now (part .entry)) count) dimension (tree .0) ⌝ }
+    ensures { λ r. ⌜ r ≡ treeChecked (linkByDimension dimension) first count ghosts (storedTree (now (part .entry))) (ghostCore (now (part .entry)) count) dimension (tree .0) ⌝ }
 {
     let i = tree.0;
     let at = tree_at(tree);
     let shape = records::read::shape_of(part, at);
-    records::form::in_form(part, at, i)
-        & (records::shape::dimension_of(shape) == dimension)
-        & tree_faces(
-            part,
-            count,
-            ghosts,
-            dimension,
-            tree,
-            records::shape::face_count(shape),
-        )
+    tree_numbered(part, GlobalIndex(first), tree)
+        & (records::form::in_form(part, at, i)
+            & (records::shape::dimension_of(shape) == dimension)
+            & tree_faces(
+                part,
+                count,
+                ghosts,
+                dimension,
+                tree,
+                records::shape::face_count(shape),
+            ))
 }
 
-fn trees_sound(part: &[u8], count: u32, ghosts: u32, dimension: u32) -> bool
+// The trees' numbers are looked at with their records: a tree's links don't need the other trees' numbers.
+fn trees_sound(part: &[u8], first: u32, count: u32, ghosts: u32, dimension: u32) -> bool
     requires { ⌜ length (now part) ≡ partSize count ghosts ⌝ }
-    ensures { λ r. ⌜ r ≡ allBelow count (treeStored (linkByDimension dimension) count ghosts (storedTree (now (part .entry))) (ghostCore (now (part .entry)) count) dimension) ⌝ }
+    ensures { λ r. ⌜ r ≡ allBelow count (treeChecked (linkByDimension dimension) first count ghosts (storedTree (now (part .entry))) (ghostCore (now (part .entry)) count) dimension) ⌝ }
 {
     let mut i = 0;
     while i < count {
-        if !tree_sound(part, count, ghosts, dimension, LocalIndex(i)) {
+        if !tree_sound(part, first, count, ghosts, dimension, LocalIndex(i)) {
             return false;
         }
         i += 1;
@@ -229,7 +215,53 @@ pub fn ghost_with(part: &[u8], count: u32, ghosts: u32, number: GlobalIndex) -> 
     position
 }
 
-// The neighbour is a tree of the range, another ghost, or not held.
+// Where a link leads: whether to a record of the part, where that begins, and the number that its link leads back to.
+struct Way {
+    held: bool,
+    to: usize,
+    back: u32,
+}
+
+// Ghost j's neighbour is a tree of the range, another ghost, or not held.
+fn ghost_way(
+    part: &[u8],
+    first: u32,
+    count: u32,
+    ghosts: u32,
+    trees: u32,
+    marks: &[u64],
+    behind: &[u32],
+    j: u32,
+    neighbour: u32,
+) -> Way
+    requires { ⌜ PartNumbered (now part) first count ghosts trees × (j < ghosts) × Indexed (now part) (ghostPlace count 0) ghosts (now marks) (now behind) ⌝ }
+    ensures { λ r. ⌜ Leads (now (part .entry)) first count ghosts j neighbour (r .held) (r .to) (r .back) ⌝ }
+{
+    if in_range(first, first + count, GlobalIndex(neighbour)) {
+        let tree = to_local(GlobalIndex(neighbour), GlobalIndex(first));
+        let own = ghost_index(count, j);
+        return Way {
+            held: true,
+            to: tree_at(tree),
+            back: own.0,
+        };
+    }
+    let position = positions::index::find(marks, behind, ghosts, GlobalIndex(neighbour));
+    if position < ghosts {
+        return Way {
+            held: true,
+            to: ghost_at(count, position),
+            back: records::read::number_of(part, ghost_at(count, j)),
+        };
+    }
+    Way {
+        held: false,
+        to: 0,
+        back: 0,
+    }
+}
+
+// The rule of a link stands once here: called at two places it is no longer taken into the loop.
 fn ghost_face(
     part: &[u8],
     first: u32,
@@ -247,19 +279,14 @@ fn ghost_face(
 {
     let at = ghost_at(count, j);
     let k = records::read::neighbour_of(part, at, face);
-    if in_range(first, first + count, GlobalIndex(k)) {
-        let tree = to_local(GlobalIndex(k), GlobalIndex(first));
-        let own = ghost_index(count, j);
-        return link_ok(part, dimension, own.0, at, face, tree_at(tree));
-    }
-    let number = records::read::number_of(part, at);
-    let position = positions::index::find(marks, behind, ghosts, GlobalIndex(k));
-    if position < ghosts {
-        return link_ok(part, dimension, number, at, face, ghost_at(count, position));
+    let way = ghost_way(part, first, count, ghosts, trees, marks, behind, j, k);
+    if way.held {
+        return link_ok(part, dimension, way.back, at, face, way.to);
     }
     (k < trees) & mesh::link::orientation_ok(part, at, face)
 }
 
+// Every link of a ghost, and whether one leads into the range.
 fn ghost_faces(
     part: &[u8],
     first: u32,
@@ -273,8 +300,10 @@ fn ghost_faces(
     faces: u32,
 ) -> bool
     requires { ⌜ PartNumbered (now part) first count ghosts trees × (j < ghosts) × (faces ≤ 6) × Indexed (now part) (ghostPlace count 0) ghosts (now marks) (now behind) ⌝ }
-    ensures { λ r. ⌜ r ≡ allBelow faces (ghostFace (linkByDimension dimension) first count ghosts (storedTree (now (part .entry))) (ghostCore (now (part .entry)) count) trees j) ⌝ }
+    ensures { λ r. ⌜ r ≡ (allBelow faces (ghostFace (linkByDimension dimension) first count ghosts (storedTree (now (part .entry))) (ghostCore (now (part .entry)) count) trees j) && anyBelow faces (neighbourIn first (first + count) (ghostCore (now (part .entry)) count j))) ⌝ }
 {
+    let at = ghost_at(count, j);
+    let mut met = false;
     let mut face = 0;
     while face < faces {
         if !ghost_face(
@@ -291,9 +320,11 @@ fn ghost_faces(
         ) {
             return false;
         }
+        let k = records::read::neighbour_of(part, at, face);
+        met = met | in_range(first, first + count, GlobalIndex(k));
         face += 1;
     }
-    true
+    met
 }
 
 fn ghost_sound(
@@ -315,7 +346,6 @@ fn ghost_sound(
     let faces = records::shape::face_count(shape);
     records::form::in_form(part, at, records::read::number_of(part, at))
         & (records::shape::dimension_of(shape) == dimension)
-        & beside(part, at, faces, first, first + count)
         & ghost_faces(
             part,
             first,
@@ -447,11 +477,13 @@ fn records_sound(
     requires { ⌜ PartLaid (now part) first count ghosts trees ⌝ }
     ensures { λ r. ⌜ r ≡ recordsSound (linkByDimension dimension) first count ghosts (storedTree (now (part .entry))) (ghostCore (now (part .entry)) count) dimension trees ⌝ }
 {
-    if !numbers_sound(part, first, count, ghosts, trees) {
+    if !ghost_numbers(part, first, count, ghosts, trees) {
         return false;
     }
-    trees_sound(part, count, ghosts, dimension)
-        & all_ghosts_sound(part, first, count, ghosts, dimension, trees)
+    if !trees_sound(part, first, count, ghosts, dimension) {
+        return false;
+    }
+    all_ghosts_sound(part, first, count, ghosts, dimension, trees)
 }
 
 // Whether the part is sound for a valid table and a rank of it.

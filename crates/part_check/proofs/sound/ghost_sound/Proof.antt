@@ -21,25 +21,18 @@ in-form-requires c κs = search needs
 dimension-of-requires : tie.Need-dimension-of-requires
 dimension-of-requires c κs = search needs
 
-add-beside : tie.Need-add-beside
-add-beside c = search needs
-
-beside-requires : tie.Need-beside-requires
-beside-requires c κs = search needs
-
 ghost-faces-requires : tie.Need-ghost-faces-requires
 ghost-faces-requires c κs = search needs
 
 returns : tie.Need-returns
 returns c =
-    let ghost-at = c .before .before .before .before .before .before .before .ghost-at in
-    let number-of = c .before .before .before .before .number-of in
-    let shape-of = c .before .before .before .before .before .before .shape-of in
-    let face-count = c .before .before .before .before .before .face-count in
-    let in-form = c .before .before .before .in-form in
-    let dimension-of = c .before .before .dimension-of in
-    let beside = c .before .beside in
-    ghost-read _ _ _ (ghost-at .ensures) (number-of .ensures) _ _ _ _ (shape-of .ensures) (face-count .ensures .0) (in-form .ensures) (dimension-of .ensures) (beside .ensures) (c .ghost-faces .ensures)
+    let ghost-at = c .before .before .before .before .before .before .ghost-at in
+    let number-of = c .before .before .before .number-of in
+    let shape-of = c .before .before .before .before .before .shape-of in
+    let face-count = c .before .before .before .before .face-count in
+    let in-form = c .before .before .in-form in
+    let dimension-of = c .before .dimension-of in
+    ghost-read _ _ _ (ghost-at .ensures) (number-of .ensures) _ _ _ _ (shape-of .ensures) (face-count .ensures .0) (in-form .ensures) (dimension-of .ensures) (c .ghost-faces .ensures)
 
 pub ghost-sound-spec : {M : Type 1} → statement M
 ghost-sound-spec =
@@ -51,7 +44,5 @@ ghost-sound-spec =
     number-of-requires
     in-form-requires
     dimension-of-requires
-    add-beside
-    beside-requires
     ghost-faces-requires
     returns)

@@ -1,6 +1,6 @@
 use Rattle.mesh.specs.Means.{linkByDimension}
 use Rattle.part.specs.Means.{ghostCore}
-use Rattle.part_check.specs.Means.{treeStored}
+use Rattle.part_check.specs.Means.{treeChecked}
 use Rattle.part.specs.Part.{storedTree}
 use Rattle.encoding.proofs.Below.{all-more, all-fails, all-to}
 use Rattle.encoding.specs.Below.{allBelow}
@@ -14,10 +14,10 @@ use Rattle.part_check.proofs.sound.trees_sound.Statement.{statement}
 use Rattle.part_check.proofs.sound.trees_sound.Tie as tie
 
 abbrev Inv-loop : tie.InvT-loop
-Inv-loop part count ghosts dimension i₀ i = (i ≤ count) × (allBelow i (treeStored (linkByDimension dimension) count ghosts (storedTree part) (ghostCore part count) dimension) ≡ true)
+Inv-loop part first count ghosts dimension i₀ i = (i ≤ count) × (allBelow i (treeChecked (linkByDimension dimension) first count ghosts (storedTree part) (ghostCore part count) dimension) ≡ true)
 
 abbrev μ-loop : tie.MeasureT-loop
-μ-loop part count ghosts dimension i₀ i = count - i
+μ-loop part first count ghosts dimension i₀ i = count - i
 
 loop-holds : tie.Need-loop-holds Inv-loop μ-loop
 unfolding allBelow

@@ -131,31 +131,70 @@ module _ (src : List ℕ) (a step leap : ℕ) (old : List ℕ) (b gap span w : �
   pub moved-start : Moved src a step leap old old b gap span 0 w
   moved-start = record { long = refl; keep = λ t f k e. e; gain = λ t f i j h l. absurd (omega arith) }
 
-  module _ {new next : List ℕ} (i some : ℕ) (so-far : Moved src a step leap old new b gap span i w) (places : Lines new (b + gap * i) gap span some w)
-      (band : next ≡ bandOf src (a + step * i) step leap new (b + gap * i) gap span some w) where
-    fits-before : (t : List ℕ) → Fits src a step leap t b gap span (i + some) w → Fits src a step leap t b gap span i w
+  -- lines moved one by one
+  pub moved-lines : {new : List ℕ} (n : ℕ) → Lines old b gap span n w → new ≡ bandOf src a step leap old b gap span n w → Moved src a step leap old new b gap span n w
+  moved-lines n r e =
+      record {
+        long = band-long src a step leap old b gap span n w e;
+        keep = λ t f k s. ap (λ (l : List ℕ). getD l k 0) e ∙ band-keep src a step leap old b gap span n t w r f k s;
+        gain = λ t f i j h l. ap (λ (x : List ℕ). getD x (b + span * j + gap * i) 0) e ∙ band-gain src a step leap old b gap span n t w r f i j h l;
+      }
+
+  -- i records were moved, and then some from k on: they may overlap
+  module _ {new next : List ℕ} (i k some : ℕ) (from : k ≤ i) (reach : i ≤ k + some) (so-far : Moved src a step leap old new b gap span i w)
+      (then : Moved src (a + step * k) step leap new next (b + gap * k) gap span some w) where
+    fits-before : (t : List ℕ) → Fits src a step leap t b gap span (k + some) w → Fits src a step leap t b gap span i w
     fits-before t f m j h l = f m j (omega arith) l
 
-    fits-now : (t : List ℕ) → Fits src a step leap t b gap span (i + some) w → Fits src (a + step * i) step leap t (b + gap * i) gap span some w
-    fits-now t f m j h l = rw (← later b gap span i m j, ← later a step leap i m j) (f (i + m) j (omega arith) l)
+    fits-now : (t : List ℕ) → Fits src a step leap t b gap span (k + some) w → Fits src (a + step * k) step leap t (b + gap * k) gap span some w
+    fits-now t f m j h l = rw (← later b gap span k m j, ← later a step leap k m j) (f (k + m) j (omega arith) l)
 
-    pub moved-more : Moved src a step leap old next b gap span (i + some) w
+    pub moved-more : Moved src a step leap old next b gap span (k + some) w
     moved-more =
         record {
-          long = band-long src (a + step * i) step leap new (b + gap * i) gap span some w band ∙ so-far .long;
-          keep = λ t f k e.
-              ap (λ (l : List ℕ). getD l k 0) band
-              ∙ band-keep src (a + step * i) step leap new (b + gap * i) gap span some t w places (fits-now t f) k (so-far .keep t (fits-before t f) k e);
+          long = then .long ∙ so-far .long;
+          keep = λ t f p e. then .keep t (fits-now t f) p (so-far .keep t (fits-before t f) p e);
           gain = λ t f m j h l.
               either (ltb m i)
-              (λ p. ap (λ (x : List ℕ). getD x (b + span * j + gap * m) 0) band
-              ∙ band-keep src (a + step * i) step leap new (b + gap * i) gap span some t w places (fits-now t f) (b + span * j + gap * m) (so-far .gain t (fits-before t f) m j (omega tests) l))
+              (λ p. then .keep t (fits-now t f) (b + span * j + gap * m) (so-far .gain t (fits-before t f) m j (omega tests) l))
               (λ p.
-              let e : i + (m - i) ≡ m = omega tests in
-              let at : b + span * j + gap * m ≡ b + gap * i + span * j + gap * (m - i) = rw e at (later b gap span i (m - i) j) in
-              rw at (ap (λ (x : List ℕ). getD x (b + gap * i + span * j + gap * (m - i)) 0) band
-              ∙ band-gain src (a + step * i) step leap new (b + gap * i) gap span some t w places (fits-now t f) (m - i) j (omega tests) l));
+              let e : k + (m - k) ≡ m = omega tests in
+              let at : b + span * j + gap * m ≡ b + gap * k + span * j + gap * (m - k) = rw e at (later b gap span k (m - k) j) in
+              rw at (then .gain t (fits-now t f) (m - k) j (omega tests) l));
         }
 
   pub moved-done : {new : List ℕ} (i n : ℕ) → i ≤ n → n ≤ i → Moved src a step leap old new b gap span i w → Moved src a step leap old new b gap span n w
   moved-done i n h l m = let e : n ≡ i = omega arith in rw e m
+
+-- ---- records and columns change places
+
+swap : (b p q : ℕ) → b + p + q ≡ b + q + p
+swap b p q = omega arith
+
+pub lines-flip : {bs : List ℕ} {off step leap n w : ℕ} → Lines bs off step leap n w → Lines bs off leap step w n
+lines-flip {bs} {off} {step} {leap} r = record { line = λ j l. record { at = λ i q. rw (swap off (step * j) (leap * i)) (r .line i q .at j l) } }
+
+fits-flip : (src t : List ℕ) (a step leap b gap span n w : ℕ) → Fits src a step leap t b gap span n w → Fits src a leap step t b span gap w n
+fits-flip src t a step leap b gap span n w f i j h l = rw (swap b (gap * j) (span * i), swap a (step * j) (leap * i)) (f j i l h)
+
+pub moved-flip : {src old new : List ℕ} {a step leap b gap span n w : ℕ} → Moved src a step leap old new b gap span n w → Moved src a leap step old new b span gap w n
+moved-flip {src} {old} {new} {a} {step} {leap} {b} {gap} {span} {n} {w} m =
+    record {
+      long = m .long;
+      keep = λ t f. m .keep t (fits-flip src t a leap step b span gap w n f);
+      gain = λ t f i j h l. rw (swap b (gap * j) (span * i)) (m .gain t (fits-flip src t a leap step b span gap w n f) j i l h);
+    }
+
+-- some columns from k on
+pub lines-beside : (bs : List ℕ) (b step leap n w k some : ℕ) → Lines bs b step leap n w → k + some ≤ w → Lines bs (b + leap * k) step leap n some
+lines-beside bs b step leap n w k some r h = lines-flip (lines-from bs b leap step w n k some (lines-flip r) h)
+
+pub moved-beside : (src : List ℕ) (a step leap : ℕ) (old : List ℕ) (b gap span n : ℕ) {new next : List ℕ} (j k some : ℕ) → k ≤ j → j ≤ k + some → Moved src a step leap old new b gap span n j
+    → Moved src (a + leap * k) step leap new next (b + span * k) gap span n some → Moved src a step leap old next b gap span n (k + some)
+moved-beside src a step leap old b gap span n j k some h l m t = moved-flip (moved-more src a leap step old b span gap n j k some h l (moved-flip m) (moved-flip t))
+
+pub moved-none : (src : List ℕ) (a step leap : ℕ) (old : List ℕ) (b gap span n : ℕ) → Moved src a step leap old old b gap span n 0
+moved-none src a step leap old b gap span n = moved-flip (moved-start src a leap step old b span gap n)
+
+pub moved-width : (src : List ℕ) (a step leap : ℕ) (old : List ℕ) (b gap span n : ℕ) {new : List ℕ} (j w : ℕ) → j ≤ w → w ≤ j → Moved src a step leap old new b gap span n j → Moved src a step leap old new b gap span n w
+moved-width src a step leap old b gap span n j w h l m = let e : w ≡ j = omega arith in rw e m

@@ -15,7 +15,8 @@ use Rattle.part.specs.Layout.{partSize}
 use Rattle.part.specs.Part.{partCount, partGhostCount}
 use Rattle.columns_check.specs.Columns.{partColumns, columnsPart}
 use Rattle.columns_check.proofs.Turned.{Turned, place, zones, part-turned, file-turned}
-use Rattle.columns.specs.Means.{Line, Lines, lineOf, Fits, Moved, Turnable}
+use Rattle.columns.specs.Means.{Line, Lines, lineOf, Sides, Fits, Moved, Turnable}
+use Rattle.columns.specs.Means.Sides.{records, columns}
 use Rattle.columns.proofs.Moving.{line-length, line-long, line-keep, line-gain}
 
 -- ---- what is there
@@ -98,21 +99,21 @@ module _ (src out : List ℕ) (n g : ℕ) (trees-n : n ≡ partCount src) (ghost
 
   -- what moving the trees, and then the ghosts, needs
   module _ {a : List ℕ} (line : a ≡ lineOf src 0 1 out 0 1 32) where
-    pub columns-trees : Lines src 32 64 1 n 64 × Lines a 32 1 n n 64 × (0 < 64)
+    pub columns-trees : Sides 64 1 1 n × Lines src 32 64 1 n 64 × Lines a 32 1 n n 64 × (16 ≤ 64)
     columns-trees =
-        (rows-there src 32 64 n (omega (arith, ok .long)), columns-there a 32 64 n (omega (arith, ok .room, line-long src 0 1 out 0 1 32 line)), omega arith)
+        (records, rows-there src 32 64 n (omega (arith, ok .long)), columns-there a 32 64 n (omega (arith, ok .room, line-long src 0 1 out 0 1 32 line)), omega arith)
 
-    pub part-trees : Lines src 32 1 n n 64 × Lines a 32 64 1 n 64 × (0 < 64)
+    pub part-trees : Sides 1 n 64 1 × Lines src 32 1 n n 64 × Lines a 32 64 1 n 64 × (16 ≤ 64)
     part-trees =
-        (columns-there src 32 64 n (omega (arith, ok .long)), rows-there a 32 64 n (omega (arith, ok .room, line-long src 0 1 out 0 1 32 line)), omega arith)
+        (columns, columns-there src 32 64 n (omega (arith, ok .long)), rows-there a 32 64 n (omega (arith, ok .room, line-long src 0 1 out 0 1 32 line)), omega arith)
 
-    pub columns-ghosts : {b : List ℕ} → Moved src 32 64 1 a b 32 1 n n 64 → Lines src (32 + 64 * n) 40 1 g 40 × Lines b (32 + 64 * n) 1 g g 40 × (0 < 40)
+    pub columns-ghosts : {b : List ℕ} → Moved src 32 64 1 a b 32 1 n n 64 → Sides 40 1 1 g × Lines src (32 + 64 * n) 40 1 g 40 × Lines b (32 + 64 * n) 1 g g 40 × (16 ≤ 40)
     columns-ghosts {b} m =
-        (rows-there src (32 + 64 * n) 40 g (omega (arith, ok .long)), columns-there b (32 + 64 * n) 40 g (omega (arith, ok .room, m .long, line-long src 0 1 out 0 1 32 line)), omega arith)
+        (records, rows-there src (32 + 64 * n) 40 g (omega (arith, ok .long)), columns-there b (32 + 64 * n) 40 g (omega (arith, ok .room, m .long, line-long src 0 1 out 0 1 32 line)), omega arith)
 
-    pub part-ghosts : {b : List ℕ} → Moved src 32 1 n a b 32 64 1 n 64 → Lines src (32 + 64 * n) 1 g g 40 × Lines b (32 + 64 * n) 40 1 g 40 × (0 < 40)
+    pub part-ghosts : {b : List ℕ} → Moved src 32 1 n a b 32 64 1 n 64 → Sides 1 g 40 1 × Lines src (32 + 64 * n) 1 g g 40 × Lines b (32 + 64 * n) 40 1 g 40 × (16 ≤ 40)
     part-ghosts {b} m =
-        (columns-there src (32 + 64 * n) 40 g (omega (arith, ok .long)), rows-there b (32 + 64 * n) 40 g (omega (arith, ok .room, m .long, line-long src 0 1 out 0 1 32 line)), omega arith)
+        (columns, columns-there src (32 + 64 * n) 40 g (omega (arith, ok .long)), rows-there b (32 + 64 * n) 40 g (omega (arith, ok .room, m .long, line-long src 0 1 out 0 1 32 line)), omega arith)
 
   pub columns-written : {a b c : List ℕ} → a ≡ lineOf src 0 1 out 0 1 32 → Moved src 32 64 1 a b 32 1 n n 64 → Moved src (32 + 64 * n) 40 1 b c (32 + 64 * n) 1 g g 40 → c ≡ splice out 0 (partColumns src)
   columns-written =

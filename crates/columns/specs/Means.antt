@@ -22,6 +22,16 @@ unfoldable pub bandOf : List ℕ → ℕ → ℕ → ℕ → List ℕ → ℕ �
 bandOf src a step leap dst b gap span n zero = dst
 bandOf src a step leap dst b gap span n (suc w) = lineOf src (a + leap * w) step (bandOf src a step leap dst b gap span n w) (b + span * w) gap n
 
+-- of two halves of 128 bytes, the first n of each stand in y in turns
+pub record Shuffled (x y : List ℕ) (n : ℕ) : Type 0 where
+  pub even : (i : ℕ) → i < n → getD y (2 * i) 0 ≡ getD x i 0
+  pub odd : (i : ℕ) → i < n → getD y (2 * i + 1) 0 ≡ getD x (i + 128) 0
+
+-- records become columns, or columns records: the bytes of a row stand side by side here, those of a column there
+pub data Sides : ℕ → ℕ → ℕ → ℕ → Type 0 where
+  records : {step span : ℕ} → Sides step 1 1 span
+  columns : {leap gap : ℕ} → Sides 1 leap gap 1
+
 -- list t has at each place what is moved there
 abbrev pub Fits : List ℕ → ℕ → ℕ → ℕ → List ℕ → ℕ → ℕ → ℕ → ℕ → ℕ → Type 0
 Fits src a step leap t b gap span n w = (i j : ℕ) → i < n → j < w → getD t (b + span * j + gap * i) 0 ≡ getD src (a + leap * j + step * i) 0

@@ -25,7 +25,7 @@ module _ (r : List ℕ) where
   unfolding neighbourOf
   neighbour-is f e = e
 
-  two : 40 ≤ length r → leAt 2 r 38 ≡ getD r 38 0 + 256 * getD r 39 0
+  pub two : 40 ≤ length r → leAt 2 r 38 ≡ getD r 38 0 + 256 * getD r 39 0
   two h = at-step 1 r 38 (omega arith) ∙ ap (λ (x : ℕ). getD r 38 0 + 256 * x) (at-one r 39)
 
   pub head-read : {a : Bool} {shape d x y z low high : ℕ} (D : ℕ) → 40 ≤ length r → shape ≡ getD r 4 0 → a ≡ shapeOk shape → d ≡ dimensionOf shape

@@ -1,9 +1,10 @@
 -- Means, no part of what is promised: a column file as the code checks it, face by face.
-use Prim.Native.Nat.{ℕ, _+_, _*_}
+use Prim.Native.Nat.{ℕ, _+_, _*_, _%_, _^_, _≤_, _<_}
 use mathlib.Core.Bool.{Bool, true, cond, _&&_}
 use mathlib.Core.Path.{_≡_}
 use mathlib.Core.List.{List}
 use lib.Dec.{ltb, eqb}
+use lib.ListN.{getD}
 use Rattle.encoding.specs.Below.{allBelow, anyBelow}
 use Rattle.records.specs.Shape.{shapeOk, dimensionOf, faceCount}
 use Rattle.records.specs.Record.{coreSize, numberOf, shapeOf, zerosOk, regionOk}
@@ -55,3 +56,35 @@ module _ (link : ℕ → List ℕ → ℕ → List ℕ → Bool) (first n g : �
 pub record FileNumbered (file : List ℕ) (first n g K : ℕ) : Type 0 where
   pub laid : PartLaid file first n g K
   pub numbers : numbersSound first n g (treeColumn file n) (ghostColumn file n g) K ≡ true
+
+-- ---- records like another, k of them behind it
+
+-- byte j of record s is that of r
+unfoldable pub sameByte : List ℕ → List ℕ → ℕ → Bool
+sameByte r s j = eqb (getD s j 0) (getD r j 0)
+
+-- the number of 32 bits at byte j of s is k more than that of r, where the lowest byte has room for that
+unfoldable pub countsOn : List ℕ → List ℕ → ℕ → ℕ → Bool
+countsOn r s j k = eqb (getD s j 0) ((getD r j 0 + k) % 2 ^ 8) && (sameByte r s (j + 1) && (sameByte r s (j + 2) && sameByte r s (j + 3)))
+
+-- s has r's shape and its code of face f, and the neighbour k behind
+unfoldable pub sideLike : ℕ → List ℕ → List ℕ → ℕ → Bool
+sideLike f r s k = countsOn r s (8 + 4 * f) k && (sameByte r s (32 + f) && sameByte r s 4)
+
+-- s has the number k behind r's, and its bytes outside number and faces
+unfoldable pub headLike : List ℕ → List ℕ → ℕ → Bool
+headLike r s k =
+    countsOn r s 0 k && (sameByte r s 4 && (sameByte r s 5 && (sameByte r s 6 && (sameByte r s 7 && (sameByte r s 38 && sameByte r s 39)))))
+
+-- the same of record k behind the one at off
+unfoldable pub sideRun : List ℕ → ℕ → ℕ → ℕ → ℕ → Bool
+sideRun bs off step f k = sideLike f (spaced bs off step coreSize) (spaced bs (off + k) step coreSize) k
+
+unfoldable pub headRun : List ℕ → ℕ → ℕ → ℕ → Bool
+headRun bs off step k = headLike (spaced bs off step coreSize) (spaced bs (off + k) step coreSize) k
+
+-- of the first i records behind, those among the first `some` pass, and the lowest byte has room for these
+pub record Run (test : ℕ → Bool) (low some i : ℕ) : Type 0 where
+  pub few : some ≤ 64
+  pub room : (k : ℕ) → 0 < k → k ≤ some → low + k < 256
+  pub like : (k : ℕ) → 0 < k → k ≤ i → k ≤ some → test k ≡ true

@@ -1,3 +1,4 @@
 // Whether a column file is that of a sound part. No calls for users.
+pub mod alike;
 pub mod read;
 pub mod sound;

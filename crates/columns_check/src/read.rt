@@ -20,11 +20,18 @@ fn wide(x: u8) -> u32
 }
 
 // Byte j of the core.
+pub fn bare(bs: &[u8], at: usize, step: u32, j: u32) -> u8
+    requires { ⌜ (at + step * 39 < length (now bs)) × (j < 40) ⌝ }
+    ensures { λ r. ⌜ r ≡ getD (spaced (now (bs .entry)) at step coreSize) j 0 ⌝ }
+{
+    bs[at + (step as usize) * (j as usize)]
+}
+
 pub fn byte(bs: &[u8], at: usize, step: u32, j: u32) -> u32
     requires { ⌜ (at + step * 39 < length (now bs)) × (j < 40) ⌝ }
     ensures { λ r. ⌜ (r ≡ getD (spaced (now (bs .entry)) at step coreSize) j 0) × (r < 256) ⌝ }
 {
-    wide(bs[at + (step as usize) * (j as usize)])
+    wide(bare(bs, at, step, j))
 }
 
 // The number of 32 bits at byte j.

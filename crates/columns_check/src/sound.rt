@@ -1,4 +1,6 @@
 // Whether a column file is that of a sound part. Face by face, and for each face record by record: so few columns are read at a time that their bytes stay in cache.
+use crate::alike::heads_on;
+use crate::alike::sides_on;
 use crate::read::byte;
 use crate::read::face_ok;
 use crate::read::head_ok;
@@ -54,7 +56,7 @@ fn tree_heads(file: &[u8], first: u32, count: u32, ghosts: u32, dimension: u32, 
             & head_ok(file, 32 + (i as usize), count, dimension)) {
             return false;
         }
-        i += 1;
+        i += heads_on(file, first, count, ghosts, dimension, trees, i) + 1;
     }
     true
 }
@@ -118,7 +120,7 @@ fn tree_sides(
         if !tree_side(file, first, count, ghosts, dimension, trees, i, face) {
             return false;
         }
-        i += 1;
+        i += sides_on(file, first, count, ghosts, dimension, trees, i, face) + 1;
     }
     true
 }

@@ -4,8 +4,9 @@ use mathlib.Core.Bool.{true}
 use native.Mathlib.Omega.{arith}
 use borrow.Author.Tests.{not-true, not-false}
 use Rattle.encoding.specs.Below.{allBelow}
-use Rattle.encoding.proofs.Below.{all-more, all-fails, all-to}
+use Rattle.encoding.proofs.Below.{all-fails, all-to}
 use Rattle.columns_check.proofs.Finding.{head-both}
+use Rattle.columns_check.proofs.Runs.{all-run}
 use Rattle.columns_check.specs.Means.{treeColumn, ghostColumn, treeHead}
 use Rattle.mesh.specs.Means.{linkByDimension}
 use borrow.Author.Needs.{needs}
@@ -41,18 +42,25 @@ returns c =
     let head-ok = c .before .head-ok in
     sym (all-fails _ _ _ (loop-test .taken) (head-both _ _ _ _ _ _ _ (tree-numbered .ensures) (head-ok .ensures) ∙ not-true _ (c .if1 .taken)))
 
+heads-on-requires : tie.Need-heads-on-requires Inv-loop μ-loop
+heads-on-requires c κs = search needs
+
 add-i : tie.Need-add-i Inv-loop μ-loop
 add-i c = search needs
+
+add-i-2 : tie.Need-add-i-2 Inv-loop μ-loop
+add-i-2 c = search needs
 
 loop-less : tie.Need-loop-less Inv-loop μ-loop
 loop-less c = search needs
 
 loop-again : tie.Need-loop-again Inv-loop μ-loop
 loop-again c =
-    let loop = c .before .before .before .before .loop in
-    let tree-numbered = c .before .before .tree-numbered in
-    let head-ok = c .before .head-ok in
-    (omega arith, all-more _ _ (loop .inv .1) (head-both _ _ _ _ _ _ _ (tree-numbered .ensures) (head-ok .ensures) ∙ not-false _ (c .if1 .left)))
+    let loop = c .before .before .before .before .before .loop in
+    let tree-numbered = c .before .before .before .tree-numbered in
+    let head-ok = c .before .before .head-ok in
+    let if1 = c .before .if1 in
+    (omega arith, all-run _ _ _ (loop .inv .1) (head-both _ _ _ _ _ _ _ (tree-numbered .ensures) (head-ok .ensures) ∙ not-false _ (if1 .left)) (c .heads-on .ensures .1))
 
 returns-2 : tie.Need-returns-2 Inv-loop μ-loop
 returns-2 c = sym (all-to _ _ _ (c .before .loop .inv .0) (omega arith) (c .before .loop .inv .1))
@@ -69,7 +77,9 @@ tree-heads-spec =
     add-head-ok
     head-ok-requires
     returns
+    heads-on-requires
     add-i
+    add-i-2
     loop-less
     loop-again
     returns-2)

@@ -1,0 +1,122 @@
+use native.Mathlib.Omega.{arith}
+use Rattle.columns_check.proofs.Runs.{sides-none, sides-run}
+use borrow.Author.Needs.{needs}
+use Rattle.columns_check.proofs.alike.sides_on.Statement.{statement}
+use Rattle.columns_check.proofs.alike.sides_on.Tie as tie
+
+sub-if1 : tie.Need-sub-if1
+sub-if1 c = search needs
+
+returns : tie.Need-returns
+returns c = (omega arith, sides-none _ _ _ _ _ _ _ _)
+
+add-at : tie.Need-add-at
+add-at c = search needs
+
+sides-like-requires : tie.Need-sides-like-requires
+sides-like-requires c κs = search needs
+
+returns-2 : tie.Need-returns-2
+returns-2 c = (omega arith, sides-none _ _ _ _ _ _ _ _)
+
+mul-word : tie.Need-mul-word
+mul-word c = search needs
+
+add-word : tie.Need-add-word
+add-word c = search needs
+
+word-requires : tie.Need-word-requires
+word-requires c κs = search needs
+
+sub-if3 : tie.Need-sub-if3
+sub-if3 c = search needs
+
+returns-3 : tie.Need-returns-3
+returns-3 c = (omega arith, sides-none _ _ _ _ _ _ _ _)
+
+byte-requires : tie.Need-byte-requires
+byte-requires c κs = search needs
+
+face-count-requires : tie.Need-face-count-requires
+face-count-requires c κs = search needs
+
+returns-4 : tie.Need-returns-4
+returns-4 c = (omega arith, sides-none _ _ _ _ _ _ _ _)
+
+add-byte : tie.Need-add-byte
+add-byte c = search needs
+
+byte-requires-2 : tie.Need-byte-requires-2
+byte-requires-2 c κs = search needs
+
+parted-requires : tie.Need-parted-requires
+parted-requires c κs = search needs
+
+cast-sides-like : tie.Need-cast-sides-like
+cast-sides-like c = search needs
+
+add-sides-like : tie.Need-add-sides-like
+add-sides-like c = search needs
+
+sides-like-requires-2 : tie.Need-sides-like-requires-2
+sides-like-requires-2 c κs = search needs
+
+returns-5 : tie.Need-returns-5
+returns-5 c =
+    let sides-like2 = c .before .sides-like2 in
+    let parted = c .before .before .parted in
+    let byte2 = c .before .before .before .byte2 in
+    let if4 = c .before .before .before .before .if4 in
+    let face-count = c .before .before .before .before .before .face-count in
+    let byte = c .before .before .before .before .before .before .byte in
+    let if3 = c .before .before .before .before .before .before .before .if3 in
+    let word = c .before .before .before .before .before .before .before .before .word in
+    let sides-like = c .before .before .before .before .before .before .before .before .before .before .sides-like in
+    let if1 = c .before .before .before .before .before .before .before .before .before .before .before .if1 in
+    let pre = c .before .before .before .before .before .before .before .before .before .before .before .before .before .pre in (
+      omega (arith, if1 .left, sides-like .ensures .few, sides-like2 .ensures .few),
+      sides-run _ _ _ _ _ _ _ _ (pre .2) (sides-like .ensures) (word .ensures) (byte .ensures .0) (face-count .ensures .0) (if4 .left) (byte2 .ensures .0) (parted .ensures .0) (parted .ensures .1 .1) (sides-like2 .ensures) (omega (arith, if1 .left, if3 .left)) (omega arith) (omega arith),
+    )
+
+returns-6 : tie.Need-returns-6
+returns-6 c =
+    let sides-like2 = c .before .sides-like2 in
+    let parted = c .before .before .parted in
+    let byte2 = c .before .before .before .byte2 in
+    let if4 = c .before .before .before .before .if4 in
+    let face-count = c .before .before .before .before .before .face-count in
+    let byte = c .before .before .before .before .before .before .byte in
+    let if3 = c .before .before .before .before .before .before .before .if3 in
+    let word = c .before .before .before .before .before .before .before .before .word in
+    let sides-like = c .before .before .before .before .before .before .before .before .before .before .sides-like in
+    let if1 = c .before .before .before .before .before .before .before .before .before .before .before .if1 in
+    let pre = c .before .before .before .before .before .before .before .before .before .before .before .before .before .pre in (
+      omega (arith, if1 .left, sides-like .ensures .few, sides-like2 .ensures .few),
+      sides-run _ _ _ _ _ _ _ _ (pre .2) (sides-like .ensures) (word .ensures) (byte .ensures .0) (face-count .ensures .0) (if4 .left) (byte2 .ensures .0) (parted .ensures .0) (parted .ensures .1 .1) (sides-like2 .ensures) (omega (arith, if1 .left, if3 .left)) (omega arith) (omega arith),
+    )
+
+pub sides-on-spec : {M : Type 1} → statement M
+sides-on-spec =
+    tie.close
+    (tie.spec
+    sub-if1
+    returns
+    add-at
+    sides-like-requires
+    returns-2
+    mul-word
+    add-word
+    word-requires
+    sub-if3
+    returns-3
+    byte-requires
+    face-count-requires
+    returns-4
+    add-byte
+    byte-requires-2
+    parted-requires
+    cast-sides-like
+    add-sides-like
+    sides-like-requires-2
+    returns-5
+    returns-6)

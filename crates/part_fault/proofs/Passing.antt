@@ -19,7 +19,6 @@ use Rattle.part.specs.Means.{inRange, neighbourIn, ghostCore, ghostHas}
 use Rattle.part.specs.Part.{storedTree, storedGhost, viewOf}
 use Rattle.part.proofs.Ranges.{range-last}
 use Rattle.part_check.specs.Means.{treeTo, treeFace, treeStored, treeNumbered, ghostNumbered, ghostTo, ghostFace, ghostStored}
-use Rattle.part_check.proofs.Checking.{tree-read, ghost-read}
 use Rattle.faults.specs.declared.answer.Wrong.{Wrong}
 use Rattle.faults.proofs.OneRecord.{link-any}
 use Rattle.part_fault.specs.declared.search.Extent.{Extent}
@@ -92,11 +91,17 @@ module _ (part : List ℕ) (e : Extent) (known : Known part e) where
   unfolding storedGhost ghostCore
   tree-known i = rw (known .is-first, known .is-count, known .is-ghosts, known .is-dimension) (tree-checked (viewOf part) i)
 
+  tree-read : (i : ℕ) {at : ℕ} {a d : Bool} {shape dimension faces : ℕ} → at ≡ treePlace i → shape ≡ shapeOf (piece part at coreSize) → a ≡ inForm i (piece part at coreSize) → dimension ≡ dimensionOf shape → faces ≡ faceCount shape
+      → d ≡ allBelow faces (treeFace (linkByDimension (e .dimension)) (e .count) (e .ghosts) (storedTree part) (ghostCore part (e .count)) i)
+      → (a && eqb dimension (e .dimension) && d) ≡ treeStored (linkByDimension (e .dimension)) (e .count) (e .ghosts) (storedTree part) (ghostCore part (e .count)) (e .dimension) i
+  unfolding treeStored storedTree
+  tree-read i here ps pa pd pf pl = rw (← here, pa, pd, pl, pf, ps)
+
   pub tree-passed : (i : ℕ) {at : ℕ} {b a d : Bool} {shape dimension faces : ℕ} → at ≡ treePlace i → b ≡ treeNumbered (e .first) (storedTree part) i → shape ≡ shapeOf (piece part at coreSize) → a ≡ inForm i (piece part at coreSize)
       → dimension ≡ dimensionOf shape → faces ≡ faceCount shape → d ≡ allBelow faces (treeFace (linkByDimension (e .dimension)) (e .count) (e .ghosts) (storedTree part) (ghostCore part (e .count)) i)
       → (b && a && eqb dimension (e .dimension) && d) ≡ eqb (treeWrongIn (viewOf part) i .kind) 0
   tree-passed i {at} {b} {a} {d} {shape} {dimension} {faces} here pb ps pa pd pf pl =
-      and-four b a (eqb dimension (e .dimension)) d ∙ ap₂ _&&_ pb (tree-read part i here (e .dimension) (e .count) (e .ghosts) ps pa pd pf pl) ∙ tree-known i
+      and-four b a (eqb dimension (e .dimension)) d ∙ ap₂ _&&_ pb (tree-read i here ps pa pd pf pl) ∙ tree-known i
 
   ghost-known : (j : ℕ) → j < e .found
       → ghostStored (linkByDimension (e .dimension)) (e .first) (e .count) (e .found) (storedTree part) (ghostCore part (e .count)) (e .dimension) (e .trees) j ≡ eqb (ghostWrongIn (viewOf part) j .kind) 0
@@ -107,7 +112,8 @@ module _ (part : List ℕ) (e : Extent) (known : Known part e) where
       → a ≡ inForm v (piece part at coreSize) → dimension ≡ dimensionOf shape → b ≡ anyBelow faces (neighbourIn (e .first) (e .first + e .count) (piece part at coreSize))
       → d ≡ allBelow faces (ghostFace (linkByDimension (e .dimension)) (e .first) (e .count) (e .found) (storedTree part) (ghostCore part (e .count)) (e .trees) j)
       → (a && eqb dimension (e .dimension) && b && d) ≡ eqb (ghostWrongIn (viewOf part) j .kind) 0
-  ghost-passed j h here pv ps pf pa pd pb pl = ghost-read part (e .count) j here pv (e .first) (e .found) (e .dimension) (e .trees) ps pf pa pd pb pl ∙ ghost-known j h
+  unfolding ghostStored ghostCore
+  ghost-passed j h here pv ps pf pa pd pb pl = rw (pa, pd, pb, pl, pf, ps, pv, here) (ghost-known j h)
 
 -- where the link of a ghost leads, and its rule
 module _ (part : List ℕ) (e : Extent) (known : Known part e) (j k : ℕ) where

@@ -12,9 +12,9 @@ use Rattle.encoding.proofs.Numbers.{at-bytes}
 use Rattle.encoding.proofs.Below.{below-suc}
 use Rattle.encoding.proofs.Pieces.{piece-add, piece-cons, piece-length, splice-none, splice-cons, splice-next, splice-then}
 use Rattle.columns_check.proofs.Turned.{place}
-use Rattle.columns.specs.Means.{Line, Lines, lineOf, bandOf, Shuffled, Sides, Fits, Moved}
+use Rattle.columns.specs.Means.{Lines, lineOf, bandOf, Shuffled, Sides, Fits, Moved}
 use Rattle.columns.specs.Means.Sides.{records, columns}
-use Rattle.columns.proofs.Moving.{line-length, line-start, band-length, band-keep, band-gain, band-long, lines-flip, moved-flip}
+use Rattle.columns.proofs.Moving.{line-length, band-length, band-keep, band-gain, band-long, lines-flip, moved-flip}
 
 -- ---- bytes that stand side by side
 

@@ -1,4 +1,4 @@
-// Records turned into columns and back, in squares of 16 records and 16 columns; up to 256 records at a time, so that what is read and written stays in cache.
+// Records turned into columns and back, in squares of 16 records and 16 columns; up to 2,048 records at a time, so that what is read stays in cache and what is written has long runs.
 use encoding::bytes::read_u64;
 use encoding::bytes::write_u64;
 ghost use mathlib.Core.Path.{_≡_};
@@ -183,8 +183,8 @@ fn together(left: usize) -> usize
     requires { ⌜ 16 ≤ left ⌝ }
     ensures { λ r. ⌜ (16 ≤ r) × (r ≤ left) ⌝ }
 {
-    if 256 < left {
-        return 256;
+    if 2048 < left {
+        return 2048;
     }
     left
 }

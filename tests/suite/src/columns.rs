@@ -138,11 +138,17 @@ fn by_hand(run: &mut Run) {
 }
 
 fn there_and_back(run: &mut Run) {
+    // a square has 16 records, and 2,048 go together
     let mut sizes = [0; 4];
+    let mut long = 0;
     run.cases(500, |random, calls| {
-        let trees = if random.chance(20) { random.number(60, 300) as usize } else { meshes::count(random) };
+        let trees = match random.below(50) {
+            0 => random.number(2_049, 2_200) as usize,
+            1..=10 => random.number(60, 300) as usize,
+            _ => meshes::count(random),
+        };
         let mesh = meshes::sound(random, trees);
-        let ranks = random.number(1, 5);
+        let ranks = if trees > 2_048 { 1 } else { random.number(1, 5) };
         let table = bytes_of(&cases::table(random, ranks as usize, trees as u32));
         for rank in 0..ranks {
             let length = calls.part_length(&mesh, &table, rank).length as usize;
@@ -154,10 +160,11 @@ fn there_and_back(run: &mut Run) {
             assert_eq!((got.refusal, got.length as usize), (0, length));
             assert!(back[..length] == part, "another part came back");
             let (n, g) = (number_at(&part, 20), number_at(&part, 24));
-            sizes[usize::from(n > 64) + 2 * usize::from(g > 1)] += 1;
+            sizes[usize::from(n > 16) + 2 * usize::from(g > 16)] += 1;
+            long += usize::from(n > 2_048);
         }
     });
-    assert!(sizes.iter().all(|&size| size > 10), "{sizes:?}");
+    assert!(sizes.iter().all(|&size| size > 10) && long > 2, "{sizes:?}, {long} long");
 }
 
 fn each_byte(run: &mut Run) {

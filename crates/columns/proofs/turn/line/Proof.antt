@@ -1,8 +1,7 @@
 use Prim.Native.Nat.{_≤_, _-_}
-use mathlib.Core.Path.{_≡_, ap, _∙_}
-use lib.ListN.{length}
+use mathlib.Core.Path.{_≡_}
 use native.Mathlib.Omega.{arith}
-use Rattle.columns.proofs.Moving.{line-length, line-start, line-more, line-long, line-done}
+use Rattle.columns.proofs.Moving.{line-start, line-more, line-long, line-done}
 use Rattle.columns.specs.Means.{lineOf}
 use borrow.Author.Needs.{needs}
 use Rattle.columns.proofs.turn.line.Statement.{statement}

@@ -14,6 +14,7 @@ use Rattle.encoding.proofs.Below.{either}
 use Rattle.part.specs.Layout.{partSize}
 use Rattle.part.specs.Part.{partSound}
 use Rattle.area.specs.Area.{areaRank, areaCount, areaGhosts, areaNew, areaSound}
+use Rattle.area.proofs.Soundness.{sound-holds}
 use Rattle.area.specs.Close.{allHeard, joinedPart, closeChecks, closeOf}
 use Rattle.close_check.specs.Means.{joinSound}
 use Rattle.close_check.proofs.AreaSlots.{joined-length}
@@ -64,7 +65,7 @@ module _ (a out : List ℕ) {r : ℕ} (checked : r ≡ firstFailed (closeChecks 
 
       module _ (enough : size ≤ length out) where
         pub join-room : JoinRoom a out
-        join-room = record { isSound = all-hold .isSound; joined = all-hold .joined; room = omega (arith, is-n, is-g, is-size) }
+        join-room = record { header = sound-holds a (all-hold .isSound) b; isSound = all-hold .isSound; joined = all-hold .joined; room = omega (arith, is-n, is-g, is-size) }
 
         pub close-done : {last : List ℕ} → last ≡ splice out 0 (joinedPart a) → (record { refusal = 0; length = size }, last) ≡ closeOf a out
         unfolding closeOf writeAnswer lengthAnswer written

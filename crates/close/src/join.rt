@@ -1,4 +1,4 @@
-// Writing the joined part of an area: the header, the trees with local indices, the ghosts.
+// Joining the slots of an area into a part: the last checks, then the header, the trees with local indices, the ghosts.
 use area::copy::copy_words;
 use area::layout::ghost_slots_place;
 use area::layout::new_place;
@@ -10,20 +10,21 @@ use area::read::ghosts;
 use area::read::rank;
 use area::read::ranks;
 use area::read::trees;
+use close_check::join::join_by;
+use encoding::answer::Length;
 use records::index::GlobalIndex;
 ghost use mathlib.Core.Path.{_≡_};
 ghost use Prim.Native.Nat.{_+_, _*_, _≤_};
+ghost use lib.ListN.{length};
 ghost use Rattle.encoding.specs.Pieces.{piece, splice};
 ghost use Rattle.offsets.specs.Limits.{maxTrees};
-ghost use Rattle.records.specs.Record.{coreSize, treeSize};
-ghost use Rattle.part.specs.Layout.{partHeader};
-ghost use Rattle.part.specs.Cut.{renamed};
-ghost use Rattle.part_cut.specs.Means.{localRead};
-ghost use Rattle.area.specs.Layout.{slotsOf};
-ghost use Rattle.area.specs.Area.{areaCount, areaFirst};
-ghost use Rattle.area.specs.Close.{joinedPart};
+ghost use Rattle.records.specs.Record.{coreSize};
+ghost use Rattle.positions.specs.Means.{Blank};
+ghost use Rattle.area.specs.Area.{areaK, areaCount, areaNew, areaFirst};
+ghost use Rattle.area.specs.Close.{joinedPart, closeOf};
 ghost use Rattle.area.specs.Means.{HeaderHolds};
-ghost use Rattle.close.specs.Means.{GhostsRoom, SlotRoom, SlotsRoom, slotRecord, JoinRoom};
+ghost use Rattle.close_check.specs.Means.{Complete, GhostsIndexed};
+ghost use Rattle.close.specs.Means.{GhostsRoom, JoinRoom};
 
 // The first tree of the new range.
 fn first_tree(area: &[u8]) -> GlobalIndex
@@ -48,63 +49,9 @@ fn write_ghosts(area: &[u8], from: usize, count: u32, out: &mut [u8], to: usize)
     copy_words(&area[from..end], words, &mut *out, to);
 }
 
-// Writes the tree slot at byte `from` of an area to byte `to`, its neighbours as local indices. The held ghosts stand from byte `at` on.
-fn write_tree(
-    area: &[u8],
-    from: usize,
-    faces: u32,
-    first: u32,
-    end: u32,
-    at: usize,
-    count: u32,
-    out: &mut [u8],
-    to: usize,
-)
-    requires { ⌜ SlotRoom (now area) (now out) from faces first end at count to ⌝ }
-    ensures { λ u. ⌜ now (out .exit) ≡ splice (now (out .entry)) to (renamed (localRead (now (area .entry)) at count first end) faces (piece (now (area .entry)) from treeSize)) ⌝ }
-{
-    let rows = records::links::rows_of(area, from, faces);
-    let local = part_cut::rename::rename_rows(area, at, count, first, end, rows);
-    encoding::record::copy64(area, from, &mut *out, to);
-    records::links::put_rows(&mut *out, to, local, faces);
-}
-
-// Writes the n tree slots from byte `from` of an area behind the header.
-fn write_trees(
-    area: &[u8],
-    from: usize,
-    faces: u32,
-    first: u32,
-    n: u32,
-    at: usize,
-    count: u32,
-    out: &mut [u8],
-)
-    requires { ⌜ SlotsRoom (now area) (now out) from faces first n at count ⌝ }
-    ensures { λ u. ⌜ now (out .exit) ≡ splice (now (out .entry)) partHeader (slotsOf (slotRecord (localRead (now (area .entry)) at count first (first + n)) faces (now (area .entry)) from) n) ⌝ }
-{
-    let end = first + n;
-    let mut i = 0;
-    while i < n {
-        let before = 64 * (i as usize);
-        write_tree(
-            area,
-            from + before,
-            faces,
-            first,
-            end,
-            at,
-            count,
-            &mut *out,
-            32 + before,
-        );
-        i += 1;
-    }
-}
-
-// Writes the joined part of a sound area.
-pub fn write_part(area: &[u8], out: &mut [u8])
-    requires { ⌜ JoinRoom (now area) (now out) ⌝ }
+// Writes the joined part of a sound area, by the index of its ghosts.
+fn write_part(area: &[u8], marks: &[u64], behind: &[u32], out: &mut [u8])
+    requires { ⌜ JoinRoom (now area) (now out) × GhostsIndexed (now area) (now marks) (now behind) ⌝ }
     ensures { λ u. ⌜ now (out .exit) ≡ splice (now (out .entry)) 0 (joinedPart (now (area .entry))) ⌝ }
 {
     let dimension = dimension(area);
@@ -127,6 +74,45 @@ pub fn write_part(area: &[u8], out: &mut [u8])
         ghosts,
         0,
     );
-    write_trees(area, from, faces, first, n, at, ghosts, &mut *out);
+    part_cut::locals::write_trees(
+        area,
+        from,
+        faces,
+        first,
+        n,
+        marks,
+        behind,
+        ghosts,
+        &mut *out,
+    );
     write_ghosts(area, at, ghosts, &mut *out, 32 + 64 * (n as usize));
+}
+
+// What is left of a close once every due sender is heard (21, 22). The words hold the index of the ghosts, which the check and the writing share.
+pub fn close_by(area: &[u8], out: &mut [u8], marks: &mut [u64], behind: &mut [u32]) -> Length
+    requires { ⌜ Complete (now area) (areaNew (now area)) × (areaK (now area) ≤ 64 * length (now marks)) × Blank (now marks) (now behind) ⌝ }
+    ensures { λ r. ⌜ (r, now (out .exit)) ≡ closeOf (now (area .entry)) (now (out .entry)) ⌝ }
+{
+    let n = count(area);
+    let ghosts = ghosts(area);
+    let at = ghost_slots_place(ranks(area), n);
+    positions::index::make(area, at, ghosts, trees(area), &mut *marks, &mut *behind);
+    if !join_by(area, first_tree(area), &*marks, &*behind) {
+        return Length {
+            refusal: 21,
+            length: 0,
+        };
+    }
+    let length = part::layout::ghost_at(n, ghosts);
+    if out.len() < length {
+        return Length {
+            refusal: 22,
+            length: 0,
+        };
+    }
+    write_part(area, &*marks, &*behind, &mut *out);
+    Length {
+        refusal: 0,
+        length: length as u64,
+    }
 }

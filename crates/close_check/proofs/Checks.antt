@@ -1,9 +1,10 @@
 -- What the functions find is what the checks of a close say.
-use Prim.Native.Nat.{ℕ, _≤_, _<_}
+use Prim.Native.Nat.{ℕ, _-_, _≤_, _<_}
 use native.Mathlib.Omega.{arith}
-use mathlib.Core.Path.{_≡_, sym, _∙_}
+use mathlib.Core.Path.{_≡_, refl, sym, _∙_}
 use mathlib.Core.Bool.{Bool, true, false}
 use mathlib.Core.List.{List}
+use lib.ListN.{take, drop}
 use Rattle.encoding.specs.Below.{allBelow}
 use Rattle.encoding.specs.Pieces.{Bytes}
 use Rattle.encoding.specs.Refusal.{firstFailed}
@@ -11,10 +12,13 @@ use Rattle.encoding.proofs.Below.{either, all-fails, all-to}
 use Rattle.pattern.specs.Sets.{sendsTo, getsFrom}
 use Rattle.pattern.proofs.Sets.{gets-sends}
 use Rattle.part.specs.Part.{partSound}
+use Rattle.area.specs.Layout.{newPlace, wordsPlace}
 use Rattle.area.specs.Area.{areaP, areaRank, areaOld, areaNew, heard, areaSound}
 use Rattle.area.specs.Close.{allHeard, joinedPart, closeChecks}
 use Rattle.area.specs.Means.{Tabled}
-use Rattle.close_check.specs.Means.{senderHeard, joinSound}
+use Rattle.area.proofs.Headers.{tabled}
+use Rattle.area.proofs.Soundness.{sound-holds}
+use Rattle.close_check.specs.Means.{senderHeard, joinSound, Complete, earlyRefusal}
 use Rattle.close_check.proofs.Reading.{join-sound-part}
 
 -- ---- the heard senders
@@ -69,3 +73,39 @@ module _ (a : List ℕ) where
       pub not-refused : joinSound a ≡ true → 0 ≡ firstFailed (closeChecks a)
       unfolding closeChecks firstFailed
       not-refused e = rw (sound, all, part-is e)
+
+-- ---- the refusal before the records are joined
+
+module _ (a : List ℕ) where
+  pub early-area : areaSound a ≡ false → 10 ≡ earlyRefusal a
+  unfolding earlyRefusal
+  early-area e = rw e
+
+  module _ (sound : areaSound a ≡ true) where
+    pub early-heard : allHeard a ≡ false → 20 ≡ earlyRefusal a
+    unfolding earlyRefusal
+    early-heard e = rw (sound, e)
+
+    pub early-none : allHeard a ≡ true → 0 ≡ earlyRefusal a
+    unfolding earlyRefusal
+    early-none e = rw (sound, e)
+
+  module _ {r : ℕ} (is : r ≡ earlyRefusal a) where
+    pub early-refused : (r ≡ 0 → ⊥) → r ≡ firstFailed (closeChecks a)
+    early-refused some =
+        either (areaSound a)
+        (λ s. either (allHeard a) (λ h. absurd (some (is ∙ sym (early-none s h)))) (λ h. is ∙ sym (early-heard s h) ∙ refused-heard a s h))
+        (λ s. is ∙ sym (early-area s) ∙ refused-area a s)
+
+    pub early-complete : r ≡ 0 → (areaSound a ≡ true) × (allHeard a ≡ true)
+    early-complete z =
+        either (areaSound a)
+        (λ s. either (allHeard a) (λ h. (s, h)) (λ h. absurd (omega (arith, early-heard s h))))
+        (λ s. absurd (omega (arith, early-area s)))
+
+    -- what the joining needs
+    pub complete : Bytes a → r ≡ 0 → Complete a (areaNew a)
+    complete b z = let e = early-complete z in record { header = sound-holds a (e .0) b; isNew = refl; sound = e .0; all = e .1 }
+
+    pub complete-new : Bytes a → r ≡ 0 → {P middle end : ℕ} → P ≡ areaP a → middle ≡ newPlace P → end ≡ wordsPlace P → Complete a (take (end - middle) (drop middle a))
+    complete-new b z p m e = let C = complete b z in record { header = C .header; isNew = tabled a p m e (C .header) .isNew; sound = C .sound; all = C .all }

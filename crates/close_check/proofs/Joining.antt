@@ -13,10 +13,11 @@ use Rattle.offsets.specs.Limits.{maxTrees}
 use Rattle.offsets.specs.Table.{firstTree}
 use Rattle.offsets.proofs.Tables.{trees-high}
 use Rattle.records.specs.Shape.{faceCount}
-use Rattle.records.specs.Record.{numberOf, shapeOf, inForm}
+use Rattle.records.specs.Record.{treeSize, numberOf, shapeOf, inForm}
 use Rattle.records.proofs.Forms.{form-shape}
 use Rattle.part.specs.Means.{isLocal, treeLink, ghostLink, localSound, ghostAfter, ghostBeside, ghostSound, viewSound, inRange, neighbourIn}
 use Rattle.mesh.specs.Means.{linkByDimension, linkBetween}
+use Rattle.positions.specs.Means.{Indexed}
 use Rattle.area.specs.Layout.{slotsPlace, ghostSlotsPlace}
 use Rattle.area.specs.Area.{areaDimension, areaK, areaP, areaRank, areaCount, areaGhosts, areaOld, areaNew, areaFirst, heard, treeSlotCore, ghostSlot, areaSound}
 use Rattle.area.specs.Close.{allHeard}
@@ -27,7 +28,7 @@ use Rattle.area.proofs.Tabled.{tabled-long}
 use Rattle.area.proofs.Soundness.{sound-holds}
 use Rattle.area_theorems.proofs.Kept.{Ghosts}
 use Rattle.area_theorems.proofs.Again.{area-parts, sound-ghosts}
-use Rattle.close_check.specs.Means.{treeFrom, ghostFrom, Slots, SlotsNumbered, linkOfTree, linkOfGhost, treeJoins, ghostJoins, recordsJoin, joinSound, Complete}
+use Rattle.close_check.specs.Means.{treeFrom, ghostFrom, Slots, SlotsNumbered, linkOfTree, linkOfGhost, treeJoins, ghostJoins, recordsJoin, joinSound, Complete, GhostsIndexed}
 use Rattle.close_check.proofs.AreaSlots.{range-is, tree-slot, tree-number}
 use Rattle.close_check.proofs.Links.{tree-link-is, ghost-link-is}
 use Rattle.close_check.proofs.ByDimension.{records-by-dimension}
@@ -155,6 +156,19 @@ module _ (a new : List ℕ) (bytes : Bytes a) (C : Complete a new) {rank first :
 
     pub join-read : {D K : ℕ} {r : Bool} → D ≡ areaDimension a → K ≡ areaK a → r ≡ recordsJoin (linkByDimension D) a at first n g D K → r ≡ joinSound a
     join-read d k e = e ∙ rw (is-at, is-P, first-is, is-n, is-g, d, k) (sym (join-is a bytes (C .sound) (C .all)))
+
+-- and with the index of the ghosts
+module _ {a : List ℕ} (bytes : Bytes a) (C : Complete a (areaNew a)) {first P at n g : ℕ} (is-first : first ≡ areaFirst a) (is-P : P ≡ areaP a) (is-at : at ≡ slotsPlace P) (is-n : n ≡ areaCount a) (is-g : g ≡ areaGhosts a) where
+  first-entry : first ≡ firstTree (areaNew a) (areaRank a)
+  unfolding areaFirst
+  first-entry = is-first
+
+  pub slots-by : {marks behind : List ℕ} → GhostsIndexed a marks behind → Slots a at first n g × Indexed a (at + treeSize * n) g marks behind
+  unfolding ghostSlotsPlace
+  slots-by x = (numbered-read a (areaNew a) bytes C refl first-entry is-P is-at is-n is-g refl .slots, rw (is-at, is-P, is-n, is-g) x)
+
+  pub joined-by : {D K : ℕ} {r : Bool} → D ≡ areaDimension a → K ≡ areaK a → r ≡ recordsJoin (linkByDimension D) a at first n g D K → r ≡ joinSound a
+  joined-by = join-read a (areaNew a) bytes C refl first-entry is-P is-at is-n is-g
 
 -- the new table has the rank's entries
 pub complete-long : {a new : List ℕ} {rank : ℕ} → Complete a new → rank ≡ areaRank a → 8 * (rank + 1 + 1) ≤ length new

@@ -13,7 +13,9 @@ use Rattle.records.specs.Shape.{dimensionOf, faceCount}
 use Rattle.records.specs.Record.{coreSize, treeSize, numberOf, shapeOf, neighbourOf}
 use Rattle.mesh.specs.Link.{orientationOk}
 use Rattle.part.specs.Means.{held, heldCore, viewSound, inRange, neighbourIn, ghostHas}
-use Rattle.area.specs.Area.{areaDimension, areaK, areaRank, areaCount, areaGhosts, areaOld, areaNew, areaFirst, heard, treeSlotCore, ghostSlot, areaSound}
+use Rattle.positions.specs.Means.{Indexed}
+use Rattle.area.specs.Layout.{ghostSlotsPlace}
+use Rattle.area.specs.Area.{areaDimension, areaK, areaP, areaRank, areaCount, areaGhosts, areaOld, areaNew, areaFirst, heard, treeSlotCore, ghostSlot, areaSound}
 use Rattle.area.specs.Close.{allHeard}
 use Rattle.area.specs.Means.{HeaderHolds}
 
@@ -98,3 +100,11 @@ pub record Complete (a new : List ℕ) : Type 0 where
   pub isNew : new ≡ areaNew a
   pub sound : areaSound a ≡ true
   pub all : allHeard a ≡ true
+
+-- the index of an area's ghosts
+abbrev pub GhostsIndexed : List ℕ → List ℕ → List ℕ → Type 0
+GhostsIndexed a marks behind = Indexed a (ghostSlotsPlace (areaP a) (areaCount a)) (areaGhosts a) marks behind
+
+-- the refusal of the checks that come before the records are joined; 0 where these hold
+unfoldable pub earlyRefusal : List ℕ → ℕ
+earlyRefusal a = cond (areaSound a) (cond (allHeard a) 0 20) 10

@@ -13,7 +13,8 @@ ghost use Rattle.records.specs.Record.{treeSize};
 ghost use Rattle.part.specs.Means.{inRange};
 ghost use Rattle.positions.specs.Means.{Indexed};
 ghost use Rattle.mesh.specs.Means.{linkByDimension};
-ghost use Rattle.close_check.specs.Means.{Slots, SlotsNumbered, placeOf, linkOfTree, linkOfGhost, treeJoins, ghostJoins, recordsJoin, joinSound, Complete};
+ghost use Rattle.area.specs.Area.{areaNew, areaFirst};
+ghost use Rattle.close_check.specs.Means.{Slots, SlotsNumbered, placeOf, linkOfTree, linkOfGhost, treeJoins, ghostJoins, recordsJoin, joinSound, Complete, GhostsIndexed};
 
 // Where the ghost with the number begins; 0 where none has it.
 fn ghost_place(
@@ -447,5 +448,23 @@ pub fn join_sound(area: &[u8], new: &[u8]) -> bool
         area::read::ghosts(area),
         area::read::dimension(area),
         area::read::trees(area),
+    )
+}
+
+// The same, by the index of the area's ghosts. `first` is the first tree of the new range.
+pub fn join_by(area: &[u8], first: GlobalIndex, marks: &[u64], behind: &[u32]) -> bool
+    requires { ⌜ Complete (now area) (areaNew (now area)) × (first .0 ≡ areaFirst (now area)) × GhostsIndexed (now area) (now marks) (now behind) ⌝ }
+    ensures { λ r. ⌜ r ≡ joinSound (now (area .entry)) ⌝ }
+{
+    records_join(
+        area,
+        area::layout::slots_place(area::read::ranks(area)),
+        first.0,
+        area::read::count(area),
+        area::read::ghosts(area),
+        area::read::dimension(area),
+        area::read::trees(area),
+        marks,
+        behind,
     )
 }

@@ -3,6 +3,4 @@ pub mod Checks
 pub mod Cutting
 pub mod Marking
 pub mod Renaming
-pub mod Writing
-pub mod Trees
 pub mod Parts

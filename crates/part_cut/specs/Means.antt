@@ -15,19 +15,9 @@ use Rattle.records.specs.Record.{coreSize, treeSize, unused, shapeOf, neighbour
 use Rattle.mesh.specs.Mesh.{meshHeader, meshDimension, meshTrees, meshCore, meshSound}
 use Rattle.part.specs.Layout.{partHeader, headerBytes, partSize}
 use Rattle.part.specs.Cut.{renamed}
-use Rattle.part.specs.Means.{inRange, ghostIn, Ascending, smaller}
+use Rattle.part.specs.Means.{inRange, ghostIn}
 use Rattle.positions.specs.Means.{Blank, Counts, coresBelow}
 use Rattle.part_cut.specs.Calls.{cutChecks}
-
--- what the renaming of a part's neighbours reads: the ghosts written, and the range
-pub record Held (bs : List ℕ) (at count first end : ℕ) : Type 0 where
-  pub ghosts : Ascending bs at count
-  pub range : first ≤ end
-  pub small : end + count < 4294967296
-
--- the local index of a neighbour, by the ghosts written
-unfoldable pub localRead : List ℕ → ℕ → ℕ → ℕ → ℕ → ℕ → ℕ
-localRead bs at count first end k = cond (eqb k unused) unused (cond (inRange first end k) (k - first) (end - first + smaller bs at count k))
 
 -- ---- the ghosts as a set of bits
 

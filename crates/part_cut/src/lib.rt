@@ -9,8 +9,7 @@ use part::layout::ghost_at;
 
 mod ghosts;
 pub mod locals;
-pub mod rename;
-pub mod write;
+mod write;
 
 // The length, where no check fails.
 fn length_with(

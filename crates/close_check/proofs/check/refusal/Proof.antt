@@ -1,54 +1,25 @@
-use native.Mathlib.Omega.{arith}
-use mathlib.Core.Path.{sym, _∙_}
+use Rattle.close_check.proofs.Checks.{early-refused, complete, complete-new, refused-join, not-refused}
 use borrow.Author.Tests.{not-true, not-false}
-use Rattle.area.proofs.Headers.{tabled}
-use Rattle.area.proofs.Soundness.{sound-holds}
-use Rattle.close_check.proofs.Checks.{refused-area, refused-heard, refused-join, not-refused}
+use mathlib.Core.Path.{sym, _∙_}
+use native.Mathlib.Omega.{arith}
 use borrow.Author.Needs.{needs}
 use Rattle.close_check.proofs.check.refusal.Statement.{statement}
 use Rattle.close_check.proofs.check.refusal.Tie as tie
 
-area-sound-requires : tie.Need-area-sound-requires
-area-sound-requires c κs = search needs
+early-refusal-requires : tie.Need-early-refusal-requires
+early-refusal-requires c κs = search needs
 
 returns : tie.Need-returns
-returns c = refused-area _ (sym (c .before .area-sound .ensures) ∙ not-true _ (c .if1 .taken))
+returns c = early-refused _ (c .before .early-refusal .ensures) (c .if1 .taken)
 
 ranks-requires : tie.Need-ranks-requires
-ranks-requires c κs =
-    let area-sound = c .before .area-sound in
-    let shared-slice-known = c .before .before .shared-slice-known in
-    omega (arith, (sound-holds _ (sym (area-sound .ensures) ∙ not-false _ (c .if1 .left)) (λ i. shared-slice-known .given i .fits)) .long)
+ranks-requires c κs = omega (arith, complete _ (c .before .early-refusal .ensures) (λ i. c .before .before .shared-slice-known .given i .fits) (c .if1 .left) .header .long)
 
 new-place-requires : tie.Need-new-place-requires
-new-place-requires c κs =
-    let area-sound = c .before .before .area-sound in
-    let if1 = c .before .if1 in
-    let shared-slice-known = c .before .before .before .shared-slice-known in
-    omega (arith, (sound-holds _ (sym (area-sound .ensures) ∙ not-false _ (if1 .left)) (λ i. shared-slice-known .given i .fits)) .ranksHigh, c .ranks .ensures)
+new-place-requires c κs = omega (arith, complete _ (c .before .before .early-refusal .ensures) (λ i. c .before .before .before .shared-slice-known .given i .fits) (c .before .if1 .left) .header .ranksHigh, c .ranks .ensures)
 
 words-place-requires : tie.Need-words-place-requires
-words-place-requires c κs =
-    let area-sound = c .before .before .before .area-sound in
-    let if1 = c .before .before .if1 in
-    let shared-slice-known = c .before .before .before .before .shared-slice-known in
-    let ranks = c .before .ranks in
-    omega (arith, (sound-holds _ (sym (area-sound .ensures) ∙ not-false _ (if1 .left)) (λ i. shared-slice-known .given i .fits)) .ranksHigh, ranks .ensures)
-
-sub-old : tie.Need-sub-old
-sub-old c = search needs
-
-part-old-start : tie.Need-part-old-start
-part-old-start c = search needs
-
-part-old-end : tie.Need-part-old-end
-part-old-end c =
-    let area-sound = c .before .before .before .before .area-sound in
-    let if1 = c .before .before .before .if1 in
-    let shared-slice-known = c .before .before .before .before .before .shared-slice-known in
-    let ranks = c .before .before .ranks in
-    let new-place = c .before .new-place in
-    omega (arith, (sound-holds _ (sym (area-sound .ensures) ∙ not-false _ (if1 .left)) (λ i. shared-slice-known .given i .fits)) .long, ranks .ensures, new-place .ensures .1)
+words-place-requires c κs = omega (arith, complete _ (c .before .before .before .early-refusal .ensures) (λ i. c .before .before .before .before .shared-slice-known .given i .fits) (c .before .before .if1 .left) .header .ranksHigh, c .before .ranks .ensures)
 
 sub-new : tie.Need-sub-new
 sub-new c = search needs
@@ -57,79 +28,29 @@ part-new-start : tie.Need-part-new-start
 part-new-start c = search needs
 
 part-new-end : tie.Need-part-new-end
-part-new-end c =
-    let area-sound = c .before .before .before .before .before .area-sound in
-    let if1 = c .before .before .before .before .if1 in
-    let shared-slice-known = c .before .before .before .before .before .before .shared-slice-known in
-    let ranks = c .before .before .before .ranks in
-    let words-place = c .before .words-place in
-    omega (arith, (sound-holds _ (sym (area-sound .ensures) ∙ not-false _ (if1 .left)) (λ i. shared-slice-known .given i .fits)) .long, ranks .ensures, words-place .ensures .1)
-
-all-heard-requires : tie.Need-all-heard-requires
-all-heard-requires c κs =
-    let ranks = c .before .before .before .before .ranks in
-    let new-place = c .before .before .before .new-place in
-    let words-place = c .before .before .words-place in
-    let area-sound = c .before .before .before .before .before .before .area-sound in
-    let if1 = c .before .before .before .before .before .if1 in
-    let shared-slice-known = c .before .before .before .before .before .before .before .shared-slice-known in
-    tabled _ (ranks .ensures) (new-place .ensures .0) (words-place .ensures .0) (sound-holds _ (sym (area-sound .ensures) ∙ not-false _ (if1 .left)) (λ i. shared-slice-known .given i .fits))
-
-returns-2 : tie.Need-returns-2
-returns-2 c =
-    let area-sound = c .before .before .before .before .before .before .before .before .area-sound in
-    let if1 = c .before .before .before .before .before .before .before .if1 in
-    let all-heard = c .before .all-heard in
-    refused-heard _ (sym (area-sound .ensures) ∙ not-false _ (if1 .left)) (sym (all-heard .ensures) ∙ not-true _ (c .if2 .taken))
+part-new-end c = omega (arith, complete _ (c .before .before .before .before .early-refusal .ensures) (λ i. c .before .before .before .before .before .shared-slice-known .given i .fits) (c .before .before .before .if1 .left) .header .long, c .before .before .ranks .ensures, c .words-place .ensures .1)
 
 join-sound-requires : tie.Need-join-sound-requires
-join-sound-requires c κs =
-    let area-sound = c .before .before .before .before .before .before .before .before .area-sound in
-    let if1 = c .before .before .before .before .before .before .before .if1 in
-    let shared-slice-known = c .before .before .before .before .before .before .before .before .before .shared-slice-known in
-    let ranks = c .before .before .before .before .before .before .ranks in
-    let new-place = c .before .before .before .before .before .new-place in
-    let words-place = c .before .before .before .before .words-place in
-    let all-heard = c .before .all-heard in
-    record { header = sound-holds _ (sym (area-sound .ensures) ∙ not-false _ (if1 .left)) (λ i. shared-slice-known .given i .fits); isNew = (tabled _ (ranks .ensures) (new-place .ensures .0) (words-place .ensures .0) (sound-holds _ (sym (area-sound .ensures) ∙ not-false _ (if1 .left)) (λ i. shared-slice-known .given i .fits))) .isNew; sound = sym (area-sound .ensures) ∙ not-false _ (if1 .left); all = sym (all-heard .ensures) ∙ not-false _ (c .if2 .left) }
+join-sound-requires c κs = complete-new _ (c .before .before .before .before .before .early-refusal .ensures) (λ i. c .before .before .before .before .before .before .shared-slice-known .given i .fits) (c .before .before .before .before .if1 .left) (c .before .before .before .ranks .ensures) (c .before .before .new-place .ensures .0) (c .before .words-place .ensures .0)
+
+returns-2 : tie.Need-returns-2
+returns-2 c = refused-join _ (complete _ (c .before .before .before .before .before .before .before .early-refusal .ensures) (λ i. c .before .before .before .before .before .before .before .before .shared-slice-known .given i .fits) (c .before .before .before .before .before .before .if1 .left) .sound) (complete _ (c .before .before .before .before .before .before .before .early-refusal .ensures) (λ i. c .before .before .before .before .before .before .before .before .shared-slice-known .given i .fits) (c .before .before .before .before .before .before .if1 .left) .all) (λ i. c .before .before .before .before .before .before .before .before .shared-slice-known .given i .fits) (sym (c .before .join-sound .ensures) ∙ not-true _ (c .if2 .taken))
 
 returns-3 : tie.Need-returns-3
-returns-3 c =
-    let area-sound = c .before .before .before .before .before .before .before .before .before .before .area-sound in
-    let shared-slice-known = c .before .before .before .before .before .before .before .before .before .before .before .shared-slice-known in
-    let if1 = c .before .before .before .before .before .before .before .before .before .if1 in
-    let all-heard = c .before .before .before .all-heard in
-    let if2 = c .before .before .if2 in
-    let join-sound = c .before .join-sound in
-    refused-join _ (sym (area-sound .ensures) ∙ not-false _ (if1 .left)) (sym (all-heard .ensures) ∙ not-false _ (if2 .left)) (λ i. shared-slice-known .given i .fits) (sym (join-sound .ensures) ∙ not-true _ (c .if3 .taken))
-
-returns-4 : tie.Need-returns-4
-returns-4 c =
-    let area-sound = c .before .before .before .before .before .before .before .before .before .before .area-sound in
-    let shared-slice-known = c .before .before .before .before .before .before .before .before .before .before .before .shared-slice-known in
-    let if1 = c .before .before .before .before .before .before .before .before .before .if1 in
-    let all-heard = c .before .before .before .all-heard in
-    let if2 = c .before .before .if2 in
-    let join-sound = c .before .join-sound in
-    not-refused _ (sym (area-sound .ensures) ∙ not-false _ (if1 .left)) (sym (all-heard .ensures) ∙ not-false _ (if2 .left)) (λ i. shared-slice-known .given i .fits) (sym (join-sound .ensures) ∙ not-false _ (c .if3 .left))
+returns-3 c = not-refused _ (complete _ (c .before .before .before .before .before .before .before .early-refusal .ensures) (λ i. c .before .before .before .before .before .before .before .before .shared-slice-known .given i .fits) (c .before .before .before .before .before .before .if1 .left) .sound) (complete _ (c .before .before .before .before .before .before .before .early-refusal .ensures) (λ i. c .before .before .before .before .before .before .before .before .shared-slice-known .given i .fits) (c .before .before .before .before .before .before .if1 .left) .all) (λ i. c .before .before .before .before .before .before .before .before .shared-slice-known .given i .fits) (sym (c .before .join-sound .ensures) ∙ not-false _ (c .if2 .left))
 
 pub refusal-spec : {M : Type 1} → statement M
 refusal-spec =
     tie.close
     (tie.spec
-    area-sound-requires
+    early-refusal-requires
     returns
     ranks-requires
     new-place-requires
     words-place-requires
-    sub-old
-    part-old-start
-    part-old-end
     sub-new
     part-new-start
     part-new-end
-    all-heard-requires
-    returns-2
     join-sound-requires
-    returns-3
-    returns-4)
+    returns-2
+    returns-3)

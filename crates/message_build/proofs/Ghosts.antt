@@ -6,25 +6,65 @@ use mathlib.Core.Bool.{Bool, true, false, cond, _||_}
 use mathlib.Core.List.{List}
 use lib.Dec.{leb, ltb, eqb}
 use lib.ListN.{length, getD}
-use borrow.Author.Tests.{leb-true, ltb-true, eqb-true, eqb-false}
+use borrow.Author.Tests.{leb-true, ltb-true, lt-ltb, eqb-true, eqb-false}
 use Rattle.encoding.specs.Below.{anyBelow, leastBelow, countBelow, sumBelow}
+use Rattle.encoding.specs.Numbers.{u32At}
 use Rattle.encoding.specs.Pieces.{piece, splice}
-use Rattle.encoding.proofs.Below.{either, tests, and-fst, and-snd, sum-more, least-lt}
+use Rattle.encoding.proofs.Below.{either, tests, and-fst, and-snd, count-same, count-initial, sum-more, least-lt}
 use Rattle.bits.specs.Bits.{bitOf, inSet}
-use Rattle.bits.proofs.Bits.{set-count}
+use Rattle.bits.proofs.Bits.{count-add, set-count}
 use Rattle.records.specs.Record.{coreSize, numberOf}
 use Rattle.part.specs.Layout.{treePlace, ghostPlace}
 use Rattle.part.specs.Cut.{renamed}
-use Rattle.part.specs.Means.{isLocal, ghostIs, held, heldCore, inRange, Ascending, smaller, ghostCore, ghostHas}
+use Rattle.part.specs.Means.{isLocal, ghostIs, held, heldCore, inRange, Ascending, numberAt, smaller, ghostCore, ghostHas}
 use Rattle.part.specs.Part.{partFirst, partCount, partGhostCount, storedTree, storedGhost, globalNumber, globalTree, partHolds, partCore}
-use Rattle.part.proofs.Search.{search-past, search-other, search-found}
-use Rattle.message_build.specs.Means.{RecordRoom, Searchable, GhostRoom}
+use Rattle.part.proofs.Search.{Between, number-there, search-past, search-other, search-found}
+use Rattle.message_build.specs.Means.{RecordRoom, Searchable, Past, GhostRoom}
 
 -- ---- one record, found by its number
 
 range-both : (first end k : ℕ) → inRange first end k ≡ true → (first ≤ k) × (k < end)
 unfolding inRange
 range-both first end k e = (leb-true first k (and-fst (leb first k) (ltb k end) e), ltb-true k end (and-snd (leb first k) (ltb k end) e))
+
+-- the records from the first that isn't known to be smaller
+module _ (bs : List ℕ) (at count low number : ℕ) (asc : Ascending bs at count) where
+  pub past-between : Past bs at count low number → Between bs at count number low count
+  past-between p = record { order = p .within; bound = omega arith; below = p .below; above = λ i h l. absurd (omega arith) }
+
+  module _ (so-far : Between bs at count number low count) {here : ℕ} (is-here : here ≡ at + coreSize * low) where
+    number-behind : (i : ℕ) → numberAt bs here i ≡ numberAt bs at (low + i)
+    unfolding numberAt
+    number-behind i =
+        let e : here + coreSize * i ≡ at + coreSize * (low + i) = omega arith in
+        ap (u32At bs) e
+
+    pub rest-ascending : Ascending bs here (count - low)
+    rest-ascending =
+        record {
+          fits = omega (arith, asc .fits, so-far .order);
+          ascends = λ i j h l. rw (number-behind i, number-behind j) (asc .ascends (low + i) (low + j) (omega arith) (omega arith));
+        }
+
+    pub rest-found : {p : ℕ} → p ≡ smaller bs here (count - low) number → p ≤ count - low → (low + p ≡ smaller bs at count number) × (low + p ≤ count)
+    unfolding smaller
+    rest-found {p} e h =
+        let f : ℕ → Bool = λ i. ltb (numberAt bs at i) number in
+        let s : low + (count - low) ≡ count = omega (arith, so-far .order) in
+        let a : countBelow low f ≡ low = count-initial low f low (omega arith) (λ i l. lt-ltb (numberAt bs at i) number (so-far .below i l)) (λ i l q. absurd (omega arith)) in
+        let b : countBelow (count - low) (λ i. f (low + i)) ≡ p =
+        count-same (count - low) (λ i. f (low + i)) (λ i. ltb (numberAt bs here i) number) (λ i l. ap (λ (x : ℕ). ltb x number) (sym (number-behind i))) ∙ sym e in
+        (sym (ap (λ (n : ℕ). countBelow n f) (sym s) ∙ count-add low (count - low) f ∙ ap₂ (λ (x y : ℕ). x + y) a b), omega (arith, so-far .order))
+
+pub past-none : (bs : List ℕ) (at count number : ℕ) → Past bs at count 0 number
+past-none bs at count number = record { within = omega arith; below = λ i h. absurd (omega arith) }
+
+pub past-at : {bs : List ℕ} {at place count from k : ℕ} → at ≡ place → Past bs place count from k → Past bs at count from k
+past-at e p = rw e p
+
+-- for a larger number
+pub past-on : {bs : List ℕ} {at count from k next : ℕ} → Past bs at count from k → k < next → Past bs at count from next
+past-on p h = record { within = p .within; below = λ i l. omega (arith, p .below i l) }
 
 -- a number that some ghost has is found
 module _ (part : List ℕ) (n g k : ℕ) (known : Ascending part (ghostPlace n 0) g) (some : anyBelow g (ghostHas (ghostCore part n) k) ≡ true)
@@ -35,12 +75,18 @@ module _ (part : List ℕ) (n g k : ℕ) (known : Ascending part (ghostPlace n 0
   found-below : p < g
   found-below = either (ltb p g) (λ t. ltb-true p g t) (λ t. absurd (omega (arith, least-less, search-past part n g known from k position (omega tests))))
 
-  pub found-is : p ≡ leastBelow g (ghostHas (ghostCore part n) k)
-  found-is =
+  found-number : numberOf (piece part (ghostPlace n p) coreSize) ≡ k
+  found-number =
       let v : ℕ = numberOf (piece part (ghostPlace n p) coreSize) in
-      either (eqb v k)
-      (λ t. search-found part n g known from k position refl refl found-below (eqb-true v k t))
-      (λ t. absurd (omega (arith, least-less, search-other part n g known from k position refl refl (eqb-false v k t))))
+      either (eqb v k) (λ t. eqb-true v k t) (λ t. absurd (omega (arith, least-less, search-other part n g known from k position refl refl (eqb-false v k t))))
+
+  pub found-is : p ≡ leastBelow g (ghostHas (ghostCore part n) k)
+  found-is = search-found part n g known from k position refl refl found-below found-number
+
+  -- those before it are smaller
+  pub found-past : Past part (ghostPlace n 0) g p k
+  unfolding ghostCore
+  found-past = record { within = omega (arith, found-below); below = λ i l. omega (arith, known .ascends i p l found-below, number-there part n g p, found-number) }
 
 -- as the code looks a record up
 module _ (part : List ℕ) (k : ℕ) where
@@ -91,6 +137,9 @@ module _ (part out : List ℕ) (count ghosts faces first k to : ℕ) (room : Gho
 
     pub ghost-source : {there : ℕ} → there ≡ ghostPlace count p → there + coreSize ≤ length part
     ghost-source e = omega (arith, room .known .opened .long, found-below part count ghosts k (room .known .ascending) some from position)
+
+    pub ghost-past : Past part (ghostPlace count 0) ghosts p k
+    ghost-past = found-past part count ghosts k (room .known .ascending) some from position
 
     pub ghost-copied : {there : ℕ} {last : List ℕ} → there ≡ ghostPlace count p → last ≡ splice out to (piece part there coreSize) → last ≡ splice out to (partCore part k)
     ghost-copied e w =

@@ -17,7 +17,7 @@ use Rattle.records.specs.Record.{coreSize, treeSize}
 use Rattle.records.specs.Links.{rowsOf, withRows}
 use Rattle.part.specs.Layout.{ghostPlace, partSize}
 use Rattle.part.specs.Part.{partDimension, partFirst, partCount, partGhostCount, globalNumber, partHolds, partCore}
-use Rattle.part.specs.Means.{Ascending, rowsWith}
+use Rattle.part.specs.Means.{Ascending, numberAt, rowsWith}
 use Rattle.message.specs.Build.{partMessage}
 use Rattle.message.specs.Layout.{messageHeader, messageSize}
 use Rattle.message_ghosts.specs.Means.{SendingRange, Marks}
@@ -65,6 +65,11 @@ pub record TreesRoom (part out : List ℕ) (count ghosts faces first low n : ℕ
   pub room : messageHeader + treeSize * n ≤ length out
 
 -- ---- ghosts
+
+-- of count core records from byte `at`, the first `from` have smaller numbers
+pub record Past (bs : List ℕ) (at count from number : ℕ) : Type 0 where
+  pub within : from ≤ count
+  pub below : (i : ℕ) → i < from → numberAt bs at i < number
 
 -- a record that the part holds, and room for its core
 pub record GhostRoom (part out : List ℕ) (count ghosts faces first k to : ℕ) : Type 0 where

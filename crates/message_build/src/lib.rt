@@ -56,18 +56,5 @@ pub fn build_message(
     let sent = pattern::range::sent(old, new, sender as usize, receiver as usize);
     let low = sent.first;
     let n = sent.count;
-    let mut marks = [0u64; 16384];
-    let words = length::mark_words(part);
-    write::build_range(
-        part,
-        old,
-        new,
-        sender,
-        receiver,
-        low,
-        n,
-        epoch,
-        &mut marks[..words],
-        &mut *out,
-    )
+    write::build_sent(part, old, new, sender, receiver, low, n, epoch, &mut *out)
 }

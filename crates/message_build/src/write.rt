@@ -1,20 +1,23 @@
 // Writing a message: the header, the trees, the ghosts.
 ghost use mathlib.Core.Path.{_≡_};
 ghost use mathlib.Core.List.{_++_};
-ghost use Prim.Native.Nat.{_*_};
+ghost use Prim.Native.Nat.{_*_, _≤_};
 ghost use lib.ListN.{length};
 ghost use Rattle.encoding.specs.Pieces.{piece, splice};
 ghost use Rattle.records.specs.Record.{coreSize, treeSize};
 ghost use Rattle.part.specs.Cut.{renamed};
+ghost use Rattle.part.specs.Layout.{ghostPlace};
+ghost use Rattle.part.specs.Means.{Ascending, smaller};
 ghost use Rattle.part.specs.Part.{globalNumber, partCore};
 ghost use Rattle.bits.specs.Bits.{inSet};
 ghost use Rattle.message.specs.Build.{partRecord, partMessage};
 ghost use Rattle.message.specs.Layout.{messageHeader};
 ghost use Rattle.message_ghosts.specs.Means.{Room, SendingRange};
 ghost use Rattle.positions.specs.Means.{coresBelow};
-ghost use Rattle.message_build.specs.Means.{builtRange, RecordRoom, globalLinks, recordsFrom, TreesRoom, GhostRoom, GhostsRoom, RecordsRoom, MessageRoom};
+ghost use Rattle.message_build.specs.Means.{builtRange, RecordRoom, globalLinks, recordsFrom, TreesRoom, Past, GhostRoom, GhostsRoom, RecordsRoom, MessageRoom};
 use crate::index::global_rows;
 use crate::length::going;
+use crate::length::mark_words;
 use encoding::answer::Length;
 use part::layout::ghost_at;
 use part::layout::tree_at;
@@ -100,27 +103,49 @@ fn write_trees(
     }
 }
 
-// Writes the core of the record with the number, a tree of the part or one of its ghosts.
+// The position of the number among `count` core records that ascend from byte `at`, of which those before `from` are smaller: the next few are asked in turn, the rest is searched by halves.
+fn find_from(part: &[u8], at: usize, count: u32, from: u32, number: GlobalIndex) -> u32
+    requires { ⌜ Ascending (now part) at count × Past (now part) at count from (number .0) ⌝ }
+    ensures { λ r. ⌜ (r ≡ smaller (now (part .entry)) at count (number .0)) × (r ≤ count) ⌝ }
+{
+    let k = number.0;
+    let mut low = from;
+    while low < count {
+        let here = at + 40 * (low as usize);
+        if 16 <= low - from {
+            return low + find_ghost(part, here, count - low, GlobalIndex(k));
+        }
+        if k <= encoding::bytes::read_u32(part, here) {
+            return low;
+        }
+        low += 1;
+    }
+    low
+}
+
+// Writes the core of the record with the number, a tree of the part or one of its ghosts. The ghosts before `from` are smaller; answers from where on to search for a larger number.
 fn write_ghost(
     part: &[u8],
     count: u32,
     ghosts: u32,
     faces: u32,
     first: u32,
+    from: u32,
     number: GlobalIndex,
     out: &mut [u8],
     to: usize,
-)
-    requires { ⌜ GhostRoom (now part) (now out) count ghosts faces first (number .0) to ⌝ }
-    ensures { λ u. ⌜ now (out .exit) ≡ splice (now (out .entry)) to (partCore (now (part .entry)) (number .0)) ⌝ }
+) -> u32
+    requires { ⌜ GhostRoom (now part) (now out) count ghosts faces first (number .0) to × Past (now part) (ghostPlace count 0) ghosts from (number .0) ⌝ }
+    ensures { λ r. ⌜ (now (out .exit) ≡ splice (now (out .entry)) to (partCore (now (part .entry)) (number .0))) × Past (now (part .entry)) (ghostPlace count 0) ghosts r (number .0) ⌝ }
 {
     if in_range(first, first + count, number) {
         let tree = to_local(number, GlobalIndex(first));
         write_core(part, count, ghosts, faces, tree_at(tree), &mut *out, to);
-        return;
+        return from;
     }
-    let position = find_ghost(part, ghost_at(count, 0), ghosts, number);
+    let position = find_from(part, ghost_at(count, 0), ghosts, from, number);
     encoding::record::copy40(part, ghost_at(count, position), &mut *out, to);
+    position
 }
 
 // Writes the cores of a set from byte `at` on, ascending.
@@ -139,14 +164,16 @@ fn write_ghosts(
 {
     let end = 64 * (marks.len() as u32);
     let mut to = at;
+    let mut from = 0;
     let mut k = bits::set::next_member(marks, 0);
     while k < end {
-        write_ghost(
+        from = write_ghost(
             part,
             count,
             ghosts,
             faces,
             first,
+            from,
             GlobalIndex(k),
             &mut *out,
             to,
@@ -223,4 +250,69 @@ pub fn build_range(
         refusal: 0,
         length: size as u64,
     }
+}
+
+// The same, with words for as many trees as there can be.
+fn build_of_many(
+    part: &[u8],
+    old: &[u8],
+    new: &[u8],
+    p: u32,
+    q: u32,
+    low: u32,
+    n: u32,
+    epoch: u32,
+    out: &mut [u8],
+) -> Length
+    requires { ⌜ SendingRange (now part) (now old) (now new) p q low n ⌝ }
+    ensures { λ r. ⌜ (r, now (out .exit)) ≡ builtRange (partMessage (now (part .entry)) (now (old .entry)) (now (new .entry)) p q epoch) (now (out .entry)) ⌝ }
+{
+    let mut marks = [0u64; 16384];
+    let words = mark_words(part);
+    build_range(
+        part,
+        old,
+        new,
+        p,
+        q,
+        low,
+        n,
+        epoch,
+        &mut marks[..words],
+        &mut *out,
+    )
+}
+
+// The same. To clear the words for all trees takes longer than to write a small message: up to 65,536 trees have fewer words.
+pub fn build_sent(
+    part: &[u8],
+    old: &[u8],
+    new: &[u8],
+    p: u32,
+    q: u32,
+    low: u32,
+    n: u32,
+    epoch: u32,
+    out: &mut [u8],
+) -> Length
+    requires { ⌜ SendingRange (now part) (now old) (now new) p q low n ⌝ }
+    ensures { λ r. ⌜ (r, now (out .exit)) ≡ builtRange (partMessage (now (part .entry)) (now (old .entry)) (now (new .entry)) p q epoch) (now (out .entry)) ⌝ }
+{
+    let words = mark_words(part);
+    if words <= 1024 {
+        let mut marks = [0u64; 1024];
+        return build_range(
+            part,
+            old,
+            new,
+            p,
+            q,
+            low,
+            n,
+            epoch,
+            &mut marks[..words],
+            &mut *out,
+        );
+    }
+    build_of_many(part, old, new, p, q, low, n, epoch, &mut *out)
 }

@@ -1,8 +1,8 @@
-use Rattle.part.proofs.Search.{ascending-at}
-use Rattle.encoding.proofs.Pieces.{splice-of}
-use Rattle.part.proofs.Ranges.{range-first}
-use Rattle.message_build.proofs.Ghosts.{core-local, local-room, ghost-source, ghost-copied}
 use Rattle.message_build.proofs.Trees.{place-is}
+use Rattle.message_build.proofs.Ghosts.{core-local, local-room, past-at, ghost-source, ghost-past, ghost-copied}
+use Rattle.part.proofs.Ranges.{range-first}
+use Rattle.encoding.proofs.Pieces.{splice-of}
+use Rattle.part.proofs.Search.{ascending-at}
 use borrow.Author.Needs.{needs}
 use Rattle.message_build.proofs.write.write_ghost.Statement.{statement}
 use Rattle.message_build.proofs.write.write_ghost.Tie as tie
@@ -26,7 +26,7 @@ write-core-requires c κs =
     let if1 = c .before .before .before .if1 in
     let to-local = c .before .before .to-local in
     let tree-at = c .before .tree-at in
-    local-room _ _ _ _ _ _ _ _ pre (in-range .ensures) (if1 .taken) (place-is _ _ _ (to-local .ensures) (tree-at .ensures))
+    local-room _ _ _ _ _ _ _ _ (pre .0) (in-range .ensures) (if1 .taken) (place-is _ _ _ (to-local .ensures) (tree-at .ensures))
 
 same-length : tie.Need-same-length
 same-length c = search needs
@@ -39,13 +39,15 @@ returns c =
     let pre = c .before .before .before .before .before .before .before .before .before .before .pre in
     let in-range = c .before .before .before .before .before .before .before .in-range in
     let if1 = c .before .before .before .before .before .before .if1 in
-    splice-of _ _ (write-core .ensures) (rw (place-is _ _ _ (to-local .ensures) (tree-at .ensures)) (core-local _ _ _ _ _ _ (pre .known) (in-range .ensures) (if1 .taken)))
+    (splice-of _ _ (write-core .ensures) (rw (place-is _ _ _ (to-local .ensures) (tree-at .ensures)) (core-local _ _ _ _ _ _ (pre .0 .known) (in-range .ensures) (if1 .taken))), pre .1)
 
 ghost-at-requires : tie.Need-ghost-at-requires
 ghost-at-requires c κs = search needs
 
-find-ghost-requires : tie.Need-find-ghost-requires
-find-ghost-requires c κs = ascending-at _ _ _ (c .before .before .before .before .before .pre .known .ascending) (c .ghost-at .ensures)
+find-from-requires : tie.Need-find-from-requires
+find-from-requires c κs =
+    let pre = c .before .before .before .before .before .pre in
+    (ascending-at _ _ _ (pre .0 .known .ascending) (c .ghost-at .ensures), past-at (c .ghost-at .ensures) (pre .1))
 
 ghost-at-requires-2 : tie.Need-ghost-at-requires-2
 ghost-at-requires-2 c κs = search needs
@@ -56,9 +58,9 @@ copy40-requires c κs =
     let in-range = c .before .before .before .before .before .in-range in
     let if1 = c .before .before .before .before .if1 in
     let ghost-at = c .before .before .before .ghost-at in
-    let find-ghost = c .before .before .find-ghost in
+    let find-from = c .before .before .find-from in
     let ghost-at2 = c .before .ghost-at2 in
-    (ghost-source _ _ _ _ _ _ _ _ pre (in-range .ensures) (if1 .left) (ghost-at .ensures) (find-ghost .ensures .0) (ghost-at2 .ensures), search needs)
+    (ghost-source _ _ _ _ _ _ _ _ (pre .0) (in-range .ensures) (if1 .left) (ghost-at .ensures) (find-from .ensures .0) (ghost-at2 .ensures), search needs)
 
 same-length-2 : tie.Need-same-length-2
 same-length-2 c = search needs
@@ -69,10 +71,10 @@ returns-2 c =
     let in-range = c .before .before .before .before .before .before .before .before .in-range in
     let if1 = c .before .before .before .before .before .before .before .if1 in
     let ghost-at = c .before .before .before .before .before .before .ghost-at in
-    let find-ghost = c .before .before .before .before .before .find-ghost in
+    let find-from = c .before .before .before .before .before .find-from in
     let ghost-at2 = c .before .before .before .before .ghost-at2 in
     let copy40 = c .before .before .copy40 in
-    ghost-copied _ _ _ _ _ _ _ _ pre (in-range .ensures) (if1 .left) (ghost-at .ensures) (find-ghost .ensures .0) (ghost-at2 .ensures) (copy40 .ensures)
+    (ghost-copied _ _ _ _ _ _ _ _ (pre .0) (in-range .ensures) (if1 .left) (ghost-at .ensures) (find-from .ensures .0) (ghost-at2 .ensures) (copy40 .ensures), ghost-past _ _ _ _ _ _ _ _ (pre .0) (in-range .ensures) (if1 .left) (ghost-at .ensures) (find-from .ensures .0))
 
 pub write-ghost-spec : {M : Type 1} → statement M
 write-ghost-spec =
@@ -86,7 +88,7 @@ write-ghost-spec =
     same-length
     returns
     ghost-at-requires
-    find-ghost-requires
+    find-from-requires
     ghost-at-requires-2
     copy40-requires
     same-length-2

@@ -239,7 +239,7 @@ fn ghost_wrong(part: &[u8], e: Extent, j: u32) -> Wrong
     Wrong { kind: 17, face: 0 }
 }
 
-// ---- the check of one record, as part_check::sound makes it. It stands here again since a second caller of that one keeps the compiler from inlining it there.
+// ---- the fast check of one record, by the dimension as in part_check::sound. It stands here again since a second caller of that one keeps the compiler from inlining it there, and since a ghost is looked up among those in order.
 
 fn tree_face_right(part: &[u8], e: Extent, i: u32, face: u32) -> bool
     requires { ⌜ Known (now part) e × (i < e .count) × (face < 6) ⌝ }

@@ -24,7 +24,7 @@ fn mark_numbers(bs: &[u8], at: usize, count: u32, marks: &mut [u64])
 }
 
 // For each of the first `words` words, how many members are in the words behind it.
-fn count_behind(marks: &[u64], words: usize, behind: &mut [u32])
+pub fn count_behind(marks: &[u64], words: usize, behind: &mut [u32])
     requires { ⌜ Countable (now marks) words (now behind) ⌝ }
     ensures { λ u. ⌜ Counted (now (marks .entry)) words (now (behind .entry)) 0 (now (behind .exit)) ⌝ }
 {

@@ -1,15 +1,15 @@
 -- What the functions that check a column file find.
 use Prim.Native.Nat.{ℕ, _+_, _-_, _*_, _≤_, _<_}
 use native.Mathlib.Omega.{arith}
-use mathlib.Core.Path.{_≡_, refl, sym, ap, _∙_}
+use mathlib.Core.Path.{_≡_, sym, _∙_}
 use mathlib.Core.Bool.{Bool, true, false, not, _&&_}
 use mathlib.Core.List.{List}
 use lib.Dec.{ltb, eqb}
-use lib.ListN.{length, getD}
-use borrow.Author.Tests.{ltb-true, lt-ltb, le-ltb, eq-eqb, ne-eqb, eqb-true}
+use lib.ListN.{getD}
+use borrow.Author.Tests.{lt-ltb, le-ltb, eq-eqb, ne-eqb, eqb-true}
 use Rattle.encoding.specs.Below.{allBelow, anyBelow, leastBelow}
 use Rattle.encoding.specs.Numbers.{u32At}
-use Rattle.encoding.proofs.Below.{either, tests, iff-eq, and-fst, and-snd, and-intro, below-suc, all-at, all-intro, any-none, least-is, least-none, least-lt}
+use Rattle.encoding.proofs.Below.{either, iff-eq, and-fst, and-snd, and-intro, all-at, all-intro, least-none, least-lt}
 use Rattle.records.specs.Shape.{faceCount}
 use Rattle.records.specs.Record.{coreSize, numberOf, shapeOf, neighbourOf}
 use Rattle.records.specs.Means.{faceForm}
@@ -17,7 +17,7 @@ use Rattle.mesh.specs.Link.{orientationOk}
 use Rattle.mesh.specs.Means.{linkByDimension}
 use Rattle.part.specs.Means.{inRange, neighbourIn, ghostHas}
 use Rattle.part_check.specs.Means.{treeTo, treeFace, treeNumbered, ghostBehind, ghostNumbered, numbersSound, ghostTo, ghostFace, PartLaid}
-use Rattle.part_check.proofs.Judging.{ghosts-ascend, ghosts-few}
+use Rattle.part_check.proofs.Judging.{ghosts-few}
 use Rattle.columns_check.specs.Columns.{spaced}
 use Rattle.columns_check.specs.Means.{treeColumn, ghostColumn, headOk, sideOk, treeHead, ghostHead, treeSide, ghostSide, facesSound, columnsFound, FileNumbered}
 

@@ -1,7 +1,7 @@
 -- The ghosts of a column file by their numbers: the laws of the index of records, over the cores one behind the other.
 use Prim.Native.Nat.{ℕ, _+_, _*_, _≤_, _<_}
 use native.Mathlib.Omega.{arith}
-use mathlib.Core.Path.{_≡_, refl, sym, ap, _∙_}
+use mathlib.Core.Path.{_≡_, sym, ap, _∙_}
 use mathlib.Core.List.{List}
 use lib.Dec.{eqb}
 use lib.ListN.{length, getD}
@@ -11,7 +11,7 @@ use Rattle.encoding.proofs.Below.{least-same}
 use Rattle.encoding.proofs.Numbers.{four-bytes}
 use Rattle.records.specs.Record.{coreSize, numberOf}
 use Rattle.part.specs.Means.{numberAt, ghostHas}
-use Rattle.positions.specs.Means.{hasNumber, someHas, positionOf, memberPosition, Markable, Added, Numbered, Indexed}
+use Rattle.positions.specs.Means.{hasNumber, positionOf, memberPosition, Markable, Numbered, Indexed}
 use Rattle.positions.proofs.Positions.{index-position}
 use Rattle.part_check.proofs.Judging.{ghosts-ascend, ghost-below}
 use Rattle.columns_check.specs.Columns.{spaced, rows}

@@ -24,7 +24,7 @@ ghost use lib.ListN.{length};
 ghost use Rattle.encoding.specs.Below.{allBelow, anyBelow};
 ghost use Rattle.records.specs.Record.{coreSize};
 ghost use Rattle.mesh.specs.Means.{linkByDimension};
-ghost use Rattle.part.specs.Means.{neighbourIn, ghostHas, RankKnown};
+ghost use Rattle.part.specs.Means.{neighbourIn, RankKnown};
 ghost use Rattle.positions.specs.Means.{someHas, Added, Blank, Indexed};
 ghost use Rattle.part_check.specs.Means.{treeNumbered, ghostNumbered, ghostFace, PartLaid};
 ghost use Rattle.columns_check.specs.Columns.{spaced, columnsSound};

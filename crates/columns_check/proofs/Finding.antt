@@ -1,15 +1,15 @@
 -- What the functions that check a column file find.
 use Prim.Native.Nat.{ℕ, _+_, _-_, _*_, _≤_, _<_}
 use native.Mathlib.Omega.{arith}
-use mathlib.Core.Path.{_≡_, refl, sym, ap, _∙_}
+use mathlib.Core.Path.{_≡_, sym, _∙_}
 use mathlib.Core.Bool.{Bool, true, false, not, _&&_}
 use mathlib.Core.List.{List}
 use lib.Dec.{ltb, eqb}
-use lib.ListN.{length, getD}
-use borrow.Author.Tests.{ltb-true, lt-ltb, le-ltb, eq-eqb, ne-eqb, eqb-true}
+use lib.ListN.{getD}
+use borrow.Author.Tests.{lt-ltb, le-ltb, eq-eqb, ne-eqb, eqb-true}
 use Rattle.encoding.specs.Below.{allBelow, anyBelow, leastBelow}
 use Rattle.encoding.specs.Numbers.{u32At}
-use Rattle.encoding.proofs.Below.{either, tests, iff-eq, and-fst, and-snd, and-intro, below-suc, all-at, all-intro, any-none, least-is, least-none, least-lt}
+use Rattle.encoding.proofs.Below.{either, iff-eq, and-fst, and-snd, and-intro, all-at, all-intro, least-none, least-lt}
 use Rattle.records.specs.Shape.{faceCount}
 use Rattle.records.specs.Record.{coreSize, numberOf, shapeOf, neighbourOf}
 use Rattle.records.specs.Means.{faceForm}
@@ -17,7 +17,7 @@ use Rattle.mesh.specs.Link.{orientationOk}
 use Rattle.mesh.specs.Means.{linkByDimension}
 use Rattle.part.specs.Means.{inRange, neighbourIn, ghostHas}
 use Rattle.part_check.specs.Means.{treeTo, treeFace, treeNumbered, ghostBehind, ghostNumbered, numbersSound, ghostTo, ghostFace, PartLaid}
-use Rattle.part_check.proofs.Judging.{ghosts-ascend, ghosts-few}
+use Rattle.part_check.proofs.Judging.{ghosts-few}
 use Rattle.columns_check.specs.Columns.{spaced}
 use Rattle.columns_check.specs.Means.{treeColumn, ghostColumn, headOk, sideOk, treeHead, ghostHead, treeSide, ghostSide, facesSound, columnsFound, FileNumbered}
 
@@ -90,76 +90,7 @@ pub heads-both : (file : List ℕ) (D first n g K j : ℕ) {a b : Bool} {shape f
 unfolding ghostHead ghostColumn shapeOf
 heads-both file D first n g K j p s c q = rw (p, q, c, s)
 
--- the search by halves: ghosts below low have a smaller number, those from high on do not
-pub record Between (file : List ℕ) (n g k low high : ℕ) : Type 0 where
-  pub order : low ≤ high
-  pub bound : high ≤ g
-  pub below : (i : ℕ) → i < low → numberOf (ghostColumn file n g i) < k
-  pub above : (i : ℕ) → high ≤ i → i < g → k ≤ numberOf (ghostColumn file n g i)
-
-module _ (file : List ℕ) (first n g K k : ℕ) (known : FileNumbered file first n g K) where
-  ascends : (i j : ℕ) → i < j → j < g → numberOf (ghostColumn file n g i) < numberOf (ghostColumn file n g j)
-  ascends = ghosts-ascend first n g K (treeColumn file n) (ghostColumn file n g) (known .numbers)
-
-  pub between-start : Between file n g k 0 g
-  between-start = record { order = omega arith; bound = omega arith; below = λ i h. absurd (omega arith); above = λ i h l. absurd (omega arith) }
-
-  module _ {low high mid v : ℕ} (so-far : Between file n g k low high) (lo : low ≤ mid) (hi : mid < high) (read : v ≡ u32At (spaced file (32 + 64 * n + mid) g coreSize) 0) where
-    is-number : v ≡ numberOf (ghostColumn file n g mid)
-    unfolding ghostColumn numberOf
-    is-number = read
-
-    pub between-above : v < k → Between file n g k (mid + 1) high
-    between-above h =
-        record {
-          order = omega arith;
-          bound = so-far .bound;
-          below = λ i l.
-              below-suc i mid (omega arith)
-              (λ q. omega (arith, ascends i mid q (omega (arith, so-far .bound)), is-number))
-              (λ q. omega (arith, is-number, ap (λ (x : ℕ). numberOf (ghostColumn file n g x)) q));
-          above = so-far .above;
-        }
-
-    pub between-below : k ≤ v → Between file n g k low mid
-    between-below h =
-        record {
-          order = lo;
-          bound = omega (arith, so-far .bound);
-          below = so-far .below;
-          above = λ i l m.
-              either (ltb mid i) (λ p. omega (arith, ascends mid i (ltb-true mid i p) m, is-number))
-              (λ p. let q : i ≡ mid = omega tests in omega (arith, is-number, ap (λ (x : ℕ). numberOf (ghostColumn file n g x)) q));
-        }
-
-  module _ {low high : ℕ} (so-far : Between file n g k low high) (met : high ≤ low) where
-    -- none but the one at low can have the number
-    none-else : (m : ℕ) → m < g → numberOf (ghostColumn file n g m) ≡ k → m ≡ low
-    none-else m h e =
-        either (ltb m low) (λ p. absurd (omega (arith, so-far .below m (ltb-true m low p))))
-        (λ p. either (ltb low m) (λ q. absurd (omega (tests, ascends low m (ltb-true low m q) h, so-far .above low met (omega tests)))) (λ q. omega tests))
-
-    none-with : ((m : ℕ) → m < g → numberOf (ghostColumn file n g m) ≡ k → ⊥) → g ≡ leastBelow g (ghostHas (ghostColumn file n g) k)
-    unfolding ghostHas
-    none-with h =
-        sym (least-none g (ghostHas (ghostColumn file n g) k) (any-none g (ghostHas (ghostColumn file n g) k) (λ m l. ne-eqb (numberOf (ghostColumn file n g m)) k (h m l))))
-
-    pub search-past : g ≤ low → g ≡ leastBelow g (ghostHas (ghostColumn file n g) k)
-    search-past h = none-with (λ m l e. omega (arith, none-else m l e))
-
-    module _ {v : ℕ} (read : v ≡ u32At (spaced file (32 + 64 * n + low) g coreSize) 0) where
-      low-number : v ≡ numberOf (ghostColumn file n g low)
-      unfolding ghostColumn numberOf
-      low-number = read
-
-      pub search-other : (v ≡ k → ⊥) → g ≡ leastBelow g (ghostHas (ghostColumn file n g) k)
-      search-other h = none-with (λ m l e. h (low-number ∙ ap (λ (x : ℕ). numberOf (ghostColumn file n g x)) (sym (none-else m l e)) ∙ e))
-
-      pub search-found : low < g → v ≡ k → low ≡ leastBelow g (ghostHas (ghostColumn file n g) k)
-      unfolding ghostHas
-      search-found h e =
-          sym (least-is g (ghostHas (ghostColumn file n g) k) low h (eq-eqb (numberOf (ghostColumn file n g low)) k (sym low-number ∙ e)) (λ j l. ne-eqb (numberOf (ghostColumn file n g j)) k (λ s. omega (arith, so-far .below j l))))
-
+module _ (file : List ℕ) (first n g K : ℕ) (known : FileNumbered file first n g K) where
   -- the local index of a ghost has 32 bits
   pub index-word : (j : ℕ) → j < g → n + j < 4294967296
   index-word j h = omega (arith, ghosts-few first n g K (treeColumn file n) (ghostColumn file n g) (known .numbers), known .laid .within, known .laid .most)

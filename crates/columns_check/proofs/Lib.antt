@@ -5,4 +5,5 @@ pub mod Runs
 pub mod Finding
 pub mod Judging
 pub mod Turned
+pub mod Held
 pub mod Accepting

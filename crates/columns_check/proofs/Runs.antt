@@ -2,14 +2,14 @@
 use Prim.Native.Nat.{ℕ, _+_, _*_, _%_, _^_, _≤_, _<_}
 use native.Mathlib.Omega.{arith}
 use native.Mathlib.Nat.{mod-eq-of-lt}
-use mathlib.Core.Path.{_≡_, refl, sym, ap, subst, _∙_}
-use mathlib.Core.Bool.{Bool, true, false, cond, _&&_}
+use mathlib.Core.Path.{_≡_, sym, ap, subst, _∙_}
+use mathlib.Core.Bool.{Bool, true, cond, _&&_}
 use mathlib.Core.List.{List}
 use lib.Dec.{ltb, eqb}
 use lib.ListN.{length, getD}
 use borrow.Author.Tests.{ltb-true, lt-ltb, eq-eqb, eqb-true}
 use Rattle.encoding.specs.Below.{allBelow}
-use Rattle.encoding.specs.Numbers.{leAt, u32At}
+use Rattle.encoding.specs.Numbers.{u32At}
 use Rattle.encoding.proofs.Below.{either, tests, iff-eq, and-fst, and-snd, and-intro, all-add, all-intro}
 use Rattle.encoding.proofs.Numbers.{four-bytes}
 use Rattle.records.specs.Shape.{faceCount, facesIn}

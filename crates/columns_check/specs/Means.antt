@@ -11,7 +11,7 @@ use Rattle.records.specs.Record.{coreSize, numberOf, shapeOf, zerosOk, regionOk
 use Rattle.records.specs.Means.{faceForm}
 use Rattle.part.specs.Means.{neighbourIn}
 use Rattle.part_check.specs.Means.{treeNumbered, ghostNumbered, numbersSound, treeFace, ghostFace, PartLaid}
-use Rattle.columns_check.specs.Columns.{spaced}
+use Rattle.columns_check.specs.Columns.{spaced, rows}
 
 -- the core of tree i of n, and of ghost j of g, in a column file
 unfoldable pub treeColumn : List ℕ → ℕ → ℕ → List ℕ
@@ -19,6 +19,10 @@ treeColumn file n i = spaced file (32 + i) n coreSize
 
 unfoldable pub ghostColumn : List ℕ → ℕ → ℕ → ℕ → List ℕ
 ghostColumn file n g j = spaced file (32 + 64 * n + j) g coreSize
+
+-- the cores of all g ghosts, one behind the other
+unfoldable pub ghostRows : List ℕ → ℕ → ℕ → List ℕ
+ghostRows file n g = rows file (32 + 64 * n) coreSize g g
 
 -- a record has a shape of the dimension, and its bytes outside number and faces are in form
 unfoldable pub headOk : ℕ → List ℕ → Bool

@@ -21,13 +21,14 @@ use records::shape::face_count;
 ghost use mathlib.Core.Path.{_≡_};
 ghost use Prim.Native.Nat.{_+_, _*_, _≤_, _<_};
 ghost use lib.ListN.{length};
-ghost use Rattle.encoding.specs.Below.{allBelow, anyBelow, leastBelow};
+ghost use Rattle.encoding.specs.Below.{allBelow, anyBelow};
 ghost use Rattle.records.specs.Record.{coreSize};
 ghost use Rattle.mesh.specs.Means.{linkByDimension};
-ghost use Rattle.part.specs.Means.{neighbourIn, ghostHas, RankKnown};
+ghost use Rattle.part.specs.Means.{neighbourIn, RankKnown};
+ghost use Rattle.positions.specs.Means.{someHas, Added, Blank, Indexed};
 ghost use Rattle.part_check.specs.Means.{treeNumbered, ghostNumbered, ghostFace, PartLaid};
 ghost use Rattle.columns_check.specs.Columns.{spaced, columnsSound};
-ghost use Rattle.columns_check.specs.Means.{treeColumn, ghostColumn, treeHead, ghostHead, treeSide, ghostSide, facesSound, columnsFound, FileNumbered};
+ghost use Rattle.columns_check.specs.Means.{treeColumn, ghostColumn, treeHead, ghostHead, treeSide, ghostSide, facesSound, columnsFound, FileNumbered, ghostRows};
 
 // ---- trees
 
@@ -190,36 +191,35 @@ fn ghost_heads(file: &[u8], first: u32, count: u32, ghosts: u32, dimension: u32,
     true
 }
 
-// The position of the ghost with the number, by halves, or how many ghosts there are.
-fn ghost_with(
+// Makes the ghosts' numbers members.
+fn mark_ghosts(file: &[u8], first: u32, count: u32, ghosts: u32, trees: u32, marks: &mut [u64])
+    requires { ⌜ FileNumbered (now file) first count ghosts trees × (trees ≤ 64 * length (now marks)) ⌝ }
+    ensures { λ u. ⌜ Added (now (marks .entry)) (someHas (ghostRows (now (file .entry)) count ghosts) 0 ghosts) (now (marks .exit)) ⌝ }
+{
+    let mut j = 0;
+    while j < ghosts {
+        let k = word(file, 32 + 64 * (count as usize) + (j as usize), ghosts, 0);
+        bits::set::add_member(&mut *marks, k);
+        j += 1;
+    }
+}
+
+// Makes the index of the ghosts' positions by their numbers.
+fn index_ghosts(
     file: &[u8],
     first: u32,
     count: u32,
     ghosts: u32,
     trees: u32,
-    number: GlobalIndex,
-) -> u32
-    requires { ⌜ FileNumbered (now file) first count ghosts trees ⌝ }
-    ensures { λ r. ⌜ r ≡ leastBelow ghosts (ghostHas (ghostColumn (now (file .entry)) count ghosts) (number .0)) ⌝ }
+    marks: &mut [u64],
+    behind: &mut [u32],
+)
+    requires { ⌜ FileNumbered (now file) first count ghosts trees × (trees ≤ 64 * length (now marks)) × Blank (now marks) (now behind) ⌝ }
+    ensures { λ u. ⌜ Indexed (ghostRows (now (file .entry)) count ghosts) 0 ghosts (now (marks .exit)) (now (behind .exit)) ⌝ }
 {
-    let k = number.0;
-    let mut low = 0;
-    let mut high = ghosts;
-    while low < high {
-        let mid = low + (high - low) / 2;
-        if word(file, 32 + 64 * (count as usize) + (mid as usize), ghosts, 0) < k {
-            low = mid + 1;
-        } else {
-            high = mid;
-        }
-    }
-    if ghosts <= low {
-        return ghosts;
-    }
-    if word(file, 32 + 64 * (count as usize) + (low as usize), ghosts, 0) != k {
-        return ghosts;
-    }
-    low
+    mark_ghosts(file, first, count, ghosts, trees, &mut *marks);
+    let words = ((trees + 63) / 64) as usize;
+    positions::index::count_behind(&*marks, words, &mut *behind);
 }
 
 // The neighbour is a tree of the range, another ghost, or not held.
@@ -230,10 +230,12 @@ fn ghost_face(
     ghosts: u32,
     dimension: u32,
     trees: u32,
+    marks: &[u64],
+    behind: &[u32],
     j: u32,
     face: u32,
 ) -> bool
-    requires { ⌜ FileNumbered (now file) first count ghosts trees × (j < ghosts) × (face < 6) ⌝ }
+    requires { ⌜ FileNumbered (now file) first count ghosts trees × (j < ghosts) × (face < 6) × Indexed (ghostRows (now file) count ghosts) 0 ghosts (now marks) (now behind) ⌝ }
     ensures { λ r. ⌜ r ≡ ghostFace (linkByDimension dimension) first count ghosts (treeColumn (now (file .entry)) count) (ghostColumn (now (file .entry)) count ghosts) trees j face ⌝ }
 {
     let base = 32 + 64 * (count as usize);
@@ -253,7 +255,7 @@ fn ghost_face(
             count,
         );
     }
-    let position = ghost_with(file, first, count, ghosts, trees, GlobalIndex(k));
+    let position = positions::index::find(marks, behind, ghosts, GlobalIndex(k));
     if position < ghosts {
         let number = word(file, at, ghosts, 0);
         return link_ok(
@@ -277,10 +279,12 @@ fn ghost_side(
     ghosts: u32,
     dimension: u32,
     trees: u32,
+    marks: &[u64],
+    behind: &[u32],
     j: u32,
     face: u32,
 ) -> bool
-    requires { ⌜ FileNumbered (now file) first count ghosts trees × (j < ghosts) × (face < 6) ⌝ }
+    requires { ⌜ FileNumbered (now file) first count ghosts trees × (j < ghosts) × (face < 6) × Indexed (ghostRows (now file) count ghosts) 0 ghosts (now marks) (now behind) ⌝ }
     ensures { λ r. ⌜ r ≡ ghostSide (linkByDimension dimension) first count ghosts (treeColumn (now (file .entry)) count) (ghostColumn (now (file .entry)) count ghosts) dimension trees face j ⌝ }
 {
     let at = 32 + 64 * (count as usize) + (j as usize);
@@ -291,7 +295,18 @@ fn ghost_side(
     if face_count(byte(file, at, ghosts, 4)) <= face {
         return true;
     }
-    ghost_face(file, first, count, ghosts, dimension, trees, j, face)
+    ghost_face(
+        file,
+        first,
+        count,
+        ghosts,
+        dimension,
+        trees,
+        marks,
+        behind,
+        j,
+        face,
+    )
 }
 
 fn ghost_sides(
@@ -301,14 +316,27 @@ fn ghost_sides(
     ghosts: u32,
     dimension: u32,
     trees: u32,
+    marks: &[u64],
+    behind: &[u32],
     face: u32,
 ) -> bool
-    requires { ⌜ FileNumbered (now file) first count ghosts trees × (face < 6) ⌝ }
+    requires { ⌜ FileNumbered (now file) first count ghosts trees × (face < 6) × Indexed (ghostRows (now file) count ghosts) 0 ghosts (now marks) (now behind) ⌝ }
     ensures { λ r. ⌜ r ≡ allBelow ghosts (ghostSide (linkByDimension dimension) first count ghosts (treeColumn (now (file .entry)) count) (ghostColumn (now (file .entry)) count ghosts) dimension trees face) ⌝ }
 {
     let mut j = 0;
     while j < ghosts {
-        if !ghost_side(file, first, count, ghosts, dimension, trees, j, face) {
+        if !ghost_side(
+            file,
+            first,
+            count,
+            ghosts,
+            dimension,
+            trees,
+            marks,
+            behind,
+            j,
+            face,
+        ) {
             return false;
         }
         j += 1;
@@ -318,19 +346,95 @@ fn ghost_sides(
 
 // ---- the whole
 
-fn faces_sound(file: &[u8], first: u32, count: u32, ghosts: u32, dimension: u32, trees: u32) -> bool
-    requires { ⌜ FileNumbered (now file) first count ghosts trees ⌝ }
+fn faces_sound(
+    file: &[u8],
+    first: u32,
+    count: u32,
+    ghosts: u32,
+    dimension: u32,
+    trees: u32,
+    marks: &[u64],
+    behind: &[u32],
+) -> bool
+    requires { ⌜ FileNumbered (now file) first count ghosts trees × Indexed (ghostRows (now file) count ghosts) 0 ghosts (now marks) (now behind) ⌝ }
     ensures { λ r. ⌜ r ≡ allBelow 6 (facesSound (linkByDimension dimension) first count ghosts (treeColumn (now (file .entry)) count) (ghostColumn (now (file .entry)) count ghosts) dimension trees) ⌝ }
 {
     let mut face = 0;
     while face < 6 {
         if !(tree_sides(file, first, count, ghosts, dimension, trees, face)
-            & ghost_sides(file, first, count, ghosts, dimension, trees, face)) {
+            & ghost_sides(
+                file,
+                first,
+                count,
+                ghosts,
+                dimension,
+                trees,
+                marks,
+                behind,
+                face,
+            )) {
             return false;
         }
         face += 1;
     }
     true
+}
+
+// The same, with an index for as many trees as there can be.
+fn faces_of_many(
+    file: &[u8],
+    first: u32,
+    count: u32,
+    ghosts: u32,
+    dimension: u32,
+    trees: u32,
+) -> bool
+    requires { ⌜ FileNumbered (now file) first count ghosts trees ⌝ }
+    ensures { λ r. ⌜ r ≡ allBelow 6 (facesSound (linkByDimension dimension) first count ghosts (treeColumn (now (file .entry)) count) (ghostColumn (now (file .entry)) count ghosts) dimension trees) ⌝ }
+{
+    let mut marks = [0u64; 16384];
+    let mut behind = [0u32; 16384];
+    index_ghosts(file, first, count, ghosts, trees, &mut marks, &mut behind);
+    faces_sound(
+        file,
+        first,
+        count,
+        ghosts,
+        dimension,
+        trees,
+        &marks,
+        &behind,
+    )
+}
+
+// The same. To clear the words for all trees takes longer than to check a small part: up to 65,536 trees have fewer words.
+fn all_faces_sound(
+    file: &[u8],
+    first: u32,
+    count: u32,
+    ghosts: u32,
+    dimension: u32,
+    trees: u32,
+) -> bool
+    requires { ⌜ FileNumbered (now file) first count ghosts trees ⌝ }
+    ensures { λ r. ⌜ r ≡ allBelow 6 (facesSound (linkByDimension dimension) first count ghosts (treeColumn (now (file .entry)) count) (ghostColumn (now (file .entry)) count ghosts) dimension trees) ⌝ }
+{
+    if trees <= 65536 {
+        let mut marks = [0u64; 1024];
+        let mut behind = [0u32; 1024];
+        index_ghosts(file, first, count, ghosts, trees, &mut marks, &mut behind);
+        return faces_sound(
+            file,
+            first,
+            count,
+            ghosts,
+            dimension,
+            trees,
+            &marks,
+            &behind,
+        );
+    }
+    faces_of_many(file, first, count, ghosts, dimension, trees)
 }
 
 fn records_sound(
@@ -349,7 +453,7 @@ fn records_sound(
         return false;
     }
     ghost_heads(file, first, count, ghosts, dimension, trees)
-        & faces_sound(file, first, count, ghosts, dimension, trees)
+        & all_faces_sound(file, first, count, ghosts, dimension, trees)
 }
 
 // Whether the file is that of a sound part for a valid table and a rank of it.

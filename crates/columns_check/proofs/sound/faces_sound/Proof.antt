@@ -13,10 +13,10 @@ use Rattle.columns_check.proofs.sound.faces_sound.Statement.{statement}
 use Rattle.columns_check.proofs.sound.faces_sound.Tie as tie
 
 abbrev Inv-loop : tie.InvT-loop
-Inv-loop file first count ghosts dimension trees face₀ face = (face ≤ 6) × (allBelow face (facesSound (linkByDimension dimension) first count ghosts (treeColumn file count) (ghostColumn file count ghosts) dimension trees) ≡ true)
+Inv-loop file first count ghosts dimension trees marks behind face₀ face = (face ≤ 6) × (allBelow face (facesSound (linkByDimension dimension) first count ghosts (treeColumn file count) (ghostColumn file count ghosts) dimension trees) ≡ true)
 
 abbrev μ-loop : tie.MeasureT-loop
-μ-loop file first count ghosts dimension trees face₀ face = 6 - face
+μ-loop file first count ghosts dimension trees marks behind face₀ face = 6 - face
 
 loop-holds : tie.Need-loop-holds Inv-loop μ-loop
 unfolding allBelow

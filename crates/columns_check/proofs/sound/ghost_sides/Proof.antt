@@ -12,10 +12,10 @@ use Rattle.columns_check.proofs.sound.ghost_sides.Statement.{statement}
 use Rattle.columns_check.proofs.sound.ghost_sides.Tie as tie
 
 abbrev Inv-loop : tie.InvT-loop
-Inv-loop file first count ghosts dimension trees face j₀ j = (j ≤ ghosts) × (allBelow j (ghostSide (linkByDimension dimension) first count ghosts (treeColumn file count) (ghostColumn file count ghosts) dimension trees face) ≡ true)
+Inv-loop file first count ghosts dimension trees marks behind face j₀ j = (j ≤ ghosts) × (allBelow j (ghostSide (linkByDimension dimension) first count ghosts (treeColumn file count) (ghostColumn file count ghosts) dimension trees face) ≡ true)
 
 abbrev μ-loop : tie.MeasureT-loop
-μ-loop file first count ghosts dimension trees face j₀ j = ghosts - j
+μ-loop file first count ghosts dimension trees marks behind face j₀ j = ghosts - j
 
 loop-holds : tie.Need-loop-holds Inv-loop μ-loop
 unfolding allBelow

@@ -1,23 +1,27 @@
 -- What the functions over an area find is what the definitions say.
-use Prim.Native.Nat.{ℕ, _+_, _-_, _*_, _≤_, _<_}
+use Prim.Native.Nat.{ℕ, zero, suc, _+_, _-_, _*_, _≤_, _<_}
+use native.Mathlib.Nat.{add-zero, add-suc}
 use native.Mathlib.Omega.{arith}
 use mathlib.Core.Path.{_≡_, refl, sym, ap, ap₂, _∙_}
+use mathlib.Core.Logic.{_⊎_, inl, inr, ⊎-elim}
 use mathlib.Core.Bool.{Bool, true, false, not, _&&_, and-assoc}
 use mathlib.Core.List.{List}
 use lib.Dec.{leb, ltb, eqb}
 use lib.ListN.{length, take, drop}
-use borrow.Author.Tests.{leb-true, lt-ltb, le-ltb, ne-eqb}
+use borrow.Author.Tests.{leb-true, ltb-true, lt-ltb, le-ltb, ne-eqb}
 use Rattle.encoding.specs.Below.{allBelow, sumBelow}
 use Rattle.encoding.specs.Numbers.{u64At}
 use Rattle.encoding.specs.Pieces.{piece}
 use Rattle.encoding.specs.Words.{allZero}
-use Rattle.encoding.proofs.Below.{either, and-snd, all-intro, all-more, all-same, all-fails, all-to, sum-more}
+use Rattle.encoding.proofs.Below.{either, tests, and-snd, all-at, all-intro, all-more, all-same, all-fails, all-to, sum-more, sum-same, sum-none}
 use Rattle.offsets.specs.Limits.{maxTrees}
-use Rattle.offsets.specs.Table.{firstTree, endTree}
+use Rattle.offsets.specs.Table.{ranks, firstTree, endTree}
 use Rattle.offsets.proofs.Tables.{trees-high}
 use Rattle.pattern.specs.Sender.{sentFirst, sentCount}
-use Rattle.pattern.specs.Sets.{sendsTo}
-use Rattle.pattern.proofs.Sets.{gets-sends}
+use Rattle.pattern.specs.Sets.{sendsTo, getsFrom}
+use Rattle.pattern.specs.Means.{exchangesTree, WindowOf}
+use Rattle.pattern.proofs.Senders.{sent-count}
+use Rattle.pattern.proofs.Sets.{gets-sends, gets-from}
 use Rattle.records.specs.Record.{coreSize, treeSize, numberOf, inForm}
 use Rattle.records.specs.Shape.{facesIn}
 use Rattle.message.specs.Layout.{afterLast}
@@ -26,7 +30,7 @@ use Rattle.area.specs.Area.{areaDimension, areaK, areaP, areaRank, areaCount, a
 use Rattle.area.specs.Means.{HeaderHolds, Tabled, fromFirst, fromCount, fromPlace, coreAt}
 use Rattle.area_check.specs.Means.{wordSound, slotHeld, rangeSound, rangeFilled, ghostHeldAt}
 use Rattle.area.proofs.Headers.{ghosts-place-is}
-use Rattle.area.proofs.Ranges.{range-trees, from-within}
+use Rattle.area.proofs.Ranges.{rank-below, range-trees, from-within}
 use Rattle.area.proofs.Soundness.{filled-fits}
 use Rattle.area.proofs.Tabled.{word-silent}
 use Rattle.area_check.proofs.Slots.{rows, ranges-slots, ranges-filled, filled-few-of, ghost-held-is, ghosts-split}
@@ -157,10 +161,6 @@ pub record Ranges (a : List ℕ) (P filled s : ℕ) : Type 0 where
   pub counted : filled ≡ sumBelow s (rangeFilled a)
 
 module _ (a : List ℕ) where
-  pub ranges-start : (P : ℕ) → Ranges a P 0 0
-  unfolding allBelow sumBelow
-  ranges-start P = record { some = omega arith; sound = refl; counted = refl }
-
   pub ranges-step : {P filled s : ℕ} {r : Bool} {more : ℕ} → Ranges a P filled s → s < P → r ≡ rangeSound a s → more ≡ rangeFilled a s → r ≡ true → Ranges a P (filled + more) (s + 1)
   ranges-step {P} {filled} {s} R l e q ok =
       record {
@@ -169,25 +169,71 @@ module _ (a : List ℕ) where
         counted = rw (R .counted, q) (sym (sum-more s (rangeFilled a)));
       }
 
-module _ {a : List ℕ} (H : HeaderHolds a) {P : ℕ} (is-P : P ≡ areaP a) where
+-- numbers that are 0 from m on add nothing
+sum-rest : (m d : ℕ) (g : ℕ → ℕ) → ((i : ℕ) → m ≤ i → i < m + d → g i ≡ 0) → sumBelow (m + d) g ≡ sumBelow m g
+unfolding sumBelow
+sum-rest m zero g z = rw add-zero
+sum-rest m (suc d) g z = rw (add-suc, z (m + d) (omega arith) (omega arith), sum-rest m d g (λ i h l. z i h (omega arith))) (omega arith)
+
+sum-past : (m n : ℕ) (g : ℕ → ℕ) → m ≤ n → ((i : ℕ) → m ≤ i → i < n → g i ≡ 0) → sumBelow n g ≡ sumBelow m g
+sum-past m n g h z =
+    let e : n ≡ m + (n - m) = omega arith in
+    ap (λ (x : ℕ). sumBelow x g) e ∙ sum-rest m (n - m) g (λ i l u. z i l (omega arith))
+
+-- only ranks in a window have trees to send
+module _ {a old new : List ℕ} (t : Tabled a old new) {rank first end : ℕ} (is-rank : rank ≡ areaRank a) (w : WindowOf old new rank false first end) where
+  abbrev H : HeaderHolds a
+  H = t .header
+
+  pub window-within : end ≤ areaP a
+  window-within = omega (arith, w .within, ap ranks (t .isOld), H .ranksAre)
+
+  -- none outside it is due
+  pub not-due : (s : ℕ) → s < areaP a → ((s < first) ⊎ (end ≤ s)) → getsFrom (areaOld a) (areaNew a) (areaRank a) s ≡ false
+  unfolding exchangesTree
+  not-due s l h =
+      let n : ranks old ≡ areaP a = ap ranks (t .isOld) ∙ H .ranksAre in
+      let e : getsFrom old new rank s ≡ false = ⊎-elim (λ b. w .before s b) (λ b. w .after s b (omega arith)) h in
+      rw (t .isOld, t .isNew, is-rank) at e
+
+  none-sent : (s : ℕ) → s < areaP a → ((s < first) ⊎ (end ≤ s)) → (true ≡ rangeSound a s) × (0 ≡ rangeFilled a s)
+  none-sent s l h =
+      let p : s < ranks (areaOld a) = omega (arith, H .ranksAre) in
+      let c = sent-count (areaOld a) (areaNew a) (H .tables) s (areaRank a) p (rank-below a H) in
+      let g = sym (gets-from (areaOld a) (areaNew a) (H .tables) s (areaRank a) p (rank-below a H)) ∙ not-due s l h in
+      let z : fromCount a s ≡ 0 = omega (tests, c, g) in
+      range-none t l is-rank refl refl (count-is t l is-rank refl refl ∙ z)
+
+  pub ranges-start : Ranges a end 0 first
+  ranges-start =
+      record {
+        some = w .ordered;
+        sound = all-intro first (rangeSound a) (λ i h. sym (none-sent i (omega (arith, w .ordered, window-within)) (inl h) .0));
+        counted = sym (sum-same first (rangeFilled a) (λ i. 0) (λ i h. sym (none-sent i (omega (arith, w .ordered, window-within)) (inl h) .1)) ∙ sum-none first);
+      }
+
   -- no sum of them is above n
-  pub ranges-fit : {filled s more : ℕ} → Ranges a P filled s → s < P → more ≡ rangeFilled a s → filled + more ≤ maxTrees
+  pub ranges-fit : {filled s more : ℕ} → Ranges a end filled s → s < end → more ≡ rangeFilled a s → filled + more ≤ maxTrees
   ranges-fit {filled} {s} {more} R l e =
       let q : filled + more ≡ sumBelow (s + 1) (rangeFilled a) = rw (R .counted, e) (sym (sum-more s (rangeFilled a))) in
-      omega (arith, q, filled-few-of a H (s + 1) (omega arith), H .countHigh)
+      omega (arith, q, filled-few-of a H (s + 1) (omega (arith, window-within)), H .countHigh)
 
-  pub ranges-fail : {s : ℕ} {r : Bool} → s < P → r ≡ rangeSound a s → r ≡ false → false ≡ (allBelow (areaCount a) (treeSlotSound a) && leb (areaGhosts a) (filledBound a))
+  pub ranges-fail : {s : ℕ} {r : Bool} → s < end → r ≡ rangeSound a s → r ≡ false → false ≡ (allBelow (areaCount a) (treeSlotSound a) && leb (areaGhosts a) (filledBound a))
   ranges-fail {s} l e f =
-      let t : allBelow (areaCount a) (treeSlotSound a) ≡ false = sym (ranges-slots a H) ∙ all-fails (areaP a) (rangeSound a) s (omega arith) (sym e ∙ f) in
+      let t : allBelow (areaCount a) (treeSlotSound a) ≡ false = sym (ranges-slots a H) ∙ all-fails (areaP a) (rangeSound a) s (omega (arith, window-within)) (sym e ∙ f) in
       rw t
 
-  pub ranges-read : {filled s : ℕ} → Ranges a P filled s → P ≤ s → {g d b : ℕ} → g ≡ areaGhosts a → d ≡ areaDimension a → b ≡ ghostBound (facesIn d) filled
+  pub ranges-read : {filled s : ℕ} → Ranges a end filled s → end ≤ s → {g d b : ℕ} → g ≡ areaGhosts a → d ≡ areaDimension a → b ≡ ghostBound (facesIn d) filled
       → leb g b ≡ (allBelow (areaCount a) (treeSlotSound a) && leb (areaGhosts a) (filledBound a))
   unfolding filledBound
   ranges-read {filled} {s} R m e q z =
-      let i : s ≡ areaP a = omega (arith, R .some) in
-      let t : allBelow (areaCount a) (treeSlotSound a) ≡ true = sym (ranges-slots a H) ∙ (rw i at (R .sound)) in
-      let n : filled ≡ filledSlots a = R .counted ∙ (ap (λ (x : ℕ). sumBelow x (rangeFilled a)) i ∙ ranges-filled a H) in
+      let i : s ≡ end = omega (arith, R .some) in
+      let all : allBelow (areaP a) (rangeSound a) ≡ true =
+      all-intro (areaP a) (rangeSound a) (λ j l. either (ltb j s) (λ p. all-at s (rangeSound a) (R .sound) j (ltb-true j s p)) (λ p. sym (none-sent j l (inr (omega tests)) .0))) in
+      let t : allBelow (areaCount a) (treeSlotSound a) ≡ true = sym (ranges-slots a H) ∙ all in
+      let more : sumBelow (areaP a) (rangeFilled a) ≡ sumBelow end (rangeFilled a) =
+      sum-past end (areaP a) (rangeFilled a) window-within (λ j h l. sym (none-sent j l (inr h) .1)) in
+      let n : filled ≡ filledSlots a = R .counted ∙ ap (λ (x : ℕ). sumBelow x (rangeFilled a)) i ∙ sym more ∙ ranges-filled a H in
       rw (t, z, e, q, n)
 
 -- ---- the ghost slots

@@ -142,15 +142,16 @@ fn range_sound(area: &[u8], old: &[u8], new: &[u8], s: usize) -> SenderSlots
     }
 }
 
-// Every tree slot is sound, and there are at most F ghosts for each that is filled.
+// Every tree slot is sound, and there are at most F ghosts for each that is filled. Only ranks in the window have trees to send.
 fn ranges_sound(area: &[u8], old: &[u8], new: &[u8]) -> bool
     requires { ⌜ Tabled (now area) (now old) (now new) ⌝ }
     ensures { λ r. ⌜ r ≡ (allBelow (areaCount (now (area .entry))) (treeSlotSound (now (area .entry))) && leb (areaGhosts (now (area .entry))) (filledBound (now (area .entry)))) ⌝ }
 {
-    let ranks = ranks(area);
+    let window = pattern::window::window_of(old, new, rank(area), false);
+    let end = window.end;
     let mut filled = 0;
-    let mut s = 0;
-    while s < ranks {
+    let mut s = window.first;
+    while s < end {
         let slots = range_sound(area, old, new, s);
         if !slots.sound {
             return false;

@@ -2,14 +2,18 @@
 use Prim.Native.Nat.{ℕ, _-_, _≤_, _<_}
 use native.Mathlib.Omega.{arith}
 use mathlib.Core.Path.{_≡_, refl, sym, _∙_}
+use mathlib.Core.Logic.{_⊎_, inl, inr}
 use mathlib.Core.Bool.{Bool, true, false}
 use mathlib.Core.List.{List}
+use lib.Dec.{ltb}
 use lib.ListN.{take, drop}
+use borrow.Author.Tests.{ltb-true}
 use Rattle.encoding.specs.Below.{allBelow}
 use Rattle.encoding.specs.Pieces.{Bytes}
 use Rattle.encoding.specs.Refusal.{firstFailed}
-use Rattle.encoding.proofs.Below.{either, all-fails, all-to}
+use Rattle.encoding.proofs.Below.{either, tests, all-at, all-intro, all-fails}
 use Rattle.pattern.specs.Sets.{sendsTo, getsFrom}
+use Rattle.pattern.specs.Means.{WindowOf}
 use Rattle.pattern.proofs.Sets.{gets-sends}
 use Rattle.part.specs.Part.{partSound}
 use Rattle.area.specs.Layout.{newPlace, wordsPlace}
@@ -18,6 +22,7 @@ use Rattle.area.specs.Close.{allHeard, joinedPart, closeChecks}
 use Rattle.area.specs.Means.{Tabled}
 use Rattle.area.proofs.Headers.{tabled}
 use Rattle.area.proofs.Soundness.{sound-holds}
+use Rattle.area_check.proofs.Checking.{window-within, not-due}
 use Rattle.close_check.specs.Means.{senderHeard, joinSound, Complete, earlyRefusal}
 use Rattle.close_check.proofs.Reading.{join-sound-part}
 
@@ -37,14 +42,23 @@ module _ {a old new : List ℕ} (t : Tabled a old new) (s : ℕ) (l : s < areaP 
   unfolding senderHeard
   sender-due e p = rw (due-is, e, p)
 
-module _ (a : List ℕ) {P s : ℕ} (is-P : P ≡ areaP a) where
-  pub heard-fails : s < P → senderHeard a s ≡ false → false ≡ allHeard a
-  unfolding allHeard senderHeard
-  heard-fails h e = sym (all-fails (areaP a) (senderHeard a) s (omega arith) e)
+module _ {a old new : List ℕ} (t : Tabled a old new) {rank first end : ℕ} (is-rank : rank ≡ areaRank a) (w : WindowOf old new rank false first end) where
+  -- a rank outside the window isn't due
+  sender-outside : (s : ℕ) → s < areaP a → ((s < first) ⊎ (end ≤ s)) → senderHeard a s ≡ true
+  unfolding senderHeard
+  sender-outside s l h = rw (not-due t is-rank w s l h)
 
-  pub heard-passes : s ≤ P → P ≤ s → allBelow s (senderHeard a) ≡ true → true ≡ allHeard a
+  pub heard-start : allBelow first (senderHeard a) ≡ true
+  heard-start = all-intro first (senderHeard a) (λ s h. sender-outside s (omega (arith, w .ordered, window-within t is-rank w)) (inl h))
+
+  pub heard-fails : {s : ℕ} → s < end → senderHeard a s ≡ false → false ≡ allHeard a
   unfolding allHeard senderHeard
-  heard-passes h k e = sym (all-to (areaP a) (senderHeard a) s (omega arith) (omega arith) e)
+  heard-fails {s} h e = sym (all-fails (areaP a) (senderHeard a) s (omega (arith, window-within t is-rank w)) e)
+
+  pub heard-passes : {s : ℕ} → s ≤ end → end ≤ s → allBelow s (senderHeard a) ≡ true → true ≡ allHeard a
+  unfolding allHeard senderHeard
+  heard-passes {s} h k e =
+      sym (all-intro (areaP a) (senderHeard a) (λ j l. either (ltb j s) (λ p. all-at s (senderHeard a) e j (ltb-true j s p)) (λ p. sender-outside j l (inr (omega tests)))))
 
 -- ---- the refusal
 

@@ -17,13 +17,15 @@ fn sender_heard(area: &[u8], old: &[u8], new: &[u8], s: usize) -> bool
     area::read::heard(area, s)
 }
 
+// Only ranks in the window can be due.
 pub fn all_heard(area: &[u8], old: &[u8], new: &[u8]) -> bool
     requires { ⌜ Tabled (now area) (now old) (now new) ⌝ }
     ensures { λ r. ⌜ r ≡ allHeard (now (area .entry)) ⌝ }
 {
-    let ranks = area::read::ranks(area);
-    let mut s = 0;
-    while s < ranks {
+    let window = pattern::window::window_of(old, new, area::read::rank(area), false);
+    let end = window.end;
+    let mut s = window.first;
+    while s < end {
         if !sender_heard(area, old, new, s) {
             return false;
         }

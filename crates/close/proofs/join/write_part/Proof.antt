@@ -1,6 +1,5 @@
 use Rattle.close.proofs.Joining.{trees-room, ghosts-room, join-written}
 use mathlib.Core.Path.{ap, _∙_}
-use native.Mathlib.Omega.{arith}
 use Rattle.records.specs.Shape.{facesIn}
 use borrow.Author.Needs.{needs}
 use Rattle.close.proofs.join.write_part.Statement.{statement}

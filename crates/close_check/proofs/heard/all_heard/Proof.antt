@@ -1,38 +1,38 @@
-use Prim.Native.Nat.{_≤_, _-_}
-use mathlib.Core.Path.{_≡_, sym, _∙_}
-use mathlib.Core.Bool.{true}
-use native.Mathlib.Omega.{arith}
-use borrow.Author.Tests.{not-true, not-false}
-use Rattle.encoding.specs.Below.{allBelow}
-use Rattle.encoding.proofs.Below.{all-more}
-use Rattle.close_check.proofs.Checks.{heard-fails, heard-passes}
 use Rattle.close_check.specs.Means.{senderHeard}
+use Rattle.close_check.proofs.Checks.{heard-start, heard-fails, heard-passes}
+use Rattle.area_check.proofs.Checking.{window-within}
+use Rattle.area.proofs.Tabled.{tabled-rank}
+use Rattle.encoding.proofs.Below.{all-more}
+use Rattle.encoding.specs.Below.{allBelow}
+use borrow.Author.Tests.{not-true, not-false}
+use native.Mathlib.Omega.{arith}
+use mathlib.Core.Bool.{true}
+use mathlib.Core.Path.{_≡_, sym, _∙_}
+use Prim.Native.Nat.{_≤_, _-_}
 use borrow.Author.Needs.{needs}
 use Rattle.close_check.proofs.heard.all_heard.Statement.{statement}
 use Rattle.close_check.proofs.heard.all_heard.Tie as tie
 
 abbrev Inv-loop : tie.InvT-loop
-Inv-loop area old new ranks s₀ s = (s ≤ ranks) × (allBelow s (senderHeard area) ≡ true)
+Inv-loop area old new end s₀ s = (s ≤ end) × (allBelow s (senderHeard area) ≡ true)
 
 abbrev μ-loop : tie.MeasureT-loop
-μ-loop area old new ranks s₀ s = ranks - s
+μ-loop area old new end s₀ s = end - s
 
-ranks-requires : tie.Need-ranks-requires Inv-loop μ-loop
-ranks-requires c κs = search needs
+rank-requires : tie.Need-rank-requires Inv-loop μ-loop
+rank-requires c κs = search needs
+
+window-of-requires : tie.Need-window-of-requires Inv-loop μ-loop
+window-of-requires c κs = tabled-rank (c .before .before .before .before .pre) (c .rank .ensures)
 
 loop-holds : tie.Need-loop-holds Inv-loop μ-loop
-unfolding allBelow
-loop-holds c = search needs
+loop-holds c = (c .window-of .ensures .0 .ordered, heard-start (c .before .before .before .before .before .pre) (c .before .rank .ensures) (c .window-of .ensures .0))
 
 sender-heard-requires : tie.Need-sender-heard-requires Inv-loop μ-loop
-sender-heard-requires c κs = search needs
+sender-heard-requires c κs = (c .before .before .before .before .before .before .before .pre, omega (arith, window-within (c .before .before .before .before .before .before .before .pre) (c .before .before .before .rank .ensures) (c .before .before .window-of .ensures .0)))
 
 returns : tie.Need-returns Inv-loop μ-loop
-returns c =
-    let ranks = c .before .before .before .before .ranks in
-    let loop-test = c .before .before .loop-test in
-    let sender-heard = c .before .sender-heard in
-    heard-fails _ (ranks .ensures) (loop-test .taken) (sym (sender-heard .ensures) ∙ not-true _ (c .if1 .taken))
+returns c = heard-fails (c .before .before .before .before .before .before .before .before .before .pre) (c .before .before .before .before .before .rank .ensures) (c .before .before .before .before .window-of .ensures .0) (c .before .before .loop-test .taken) (sym (c .before .sender-heard .ensures) ∙ not-true _ (c .if1 .taken))
 
 add-s : tie.Need-add-s Inv-loop μ-loop
 add-s c = search needs
@@ -44,7 +44,7 @@ loop-again : tie.Need-loop-again Inv-loop μ-loop
 loop-again c = (omega arith, all-more _ _ (c .before .before .before .loop .inv .1) (sym (c .before .sender-heard .ensures) ∙ not-false _ (c .if1 .left)))
 
 returns-2 : tie.Need-returns-2 Inv-loop μ-loop
-returns-2 c = heard-passes _ (c .before .before .ranks .ensures) (c .before .loop .inv .0) (omega arith) (c .before .loop .inv .1)
+returns-2 c = heard-passes (c .before .before .before .before .before .before .before .pre) (c .before .before .before .rank .ensures) (c .before .before .window-of .ensures .0) (c .before .loop .inv .0) (c .loop-test .left) (c .before .loop .inv .1)
 
 pub all-heard-spec : {M : Type 1} → statement M
 all-heard-spec =
@@ -52,7 +52,8 @@ all-heard-spec =
     (tie.spec
     Inv-loop
     μ-loop
-    ranks-requires
+    rank-requires
+    window-of-requires
     loop-holds
     sender-heard-requires
     returns

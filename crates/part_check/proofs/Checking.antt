@@ -1,19 +1,19 @@
 -- What the functions that check a part find is what the definitions say.
-use Prim.Native.Nat.{ℕ, _+_, _-_, _≤_, _<_}
+use Prim.Native.Nat.{ℕ, _+_, _-_, _%_, _≤_, _<_}
 use native.Mathlib.Numerals.{add-one}
 use native.Mathlib.Omega.{arith}
 use mathlib.Core.Path.{_≡_, refl, sym, ap, _∙_}
 use mathlib.Core.Bool.{Bool, true, false, not, _&&_, _||_, and-false}
 use mathlib.Core.List.{List}
-use lib.Dec.{ltb, eqb}
+use lib.Dec.{leb, ltb, eqb}
 use lib.ListN.{length}
-use borrow.Author.Tests.{ltb-true, lt-ltb, le-ltb, eq-eqb, ne-eqb, eqb-true}
+use borrow.Author.Tests.{ltb-true, leb-true, leb-false, lt-ltb, le-ltb, eq-eqb, ne-eqb, eqb-true}
 use Rattle.encoding.specs.Below.{allBelow, anyBelow, leastBelow}
 use Rattle.encoding.specs.Numbers.{u32At}
 use Rattle.encoding.specs.Pieces.{piece, Bytes}
-use Rattle.encoding.proofs.Below.{either, clash, iff-eq, all-at, all-fails, all-and, and-fst, and-snd, and-intro, least-none, least-lt, least-same}
+use Rattle.encoding.proofs.Below.{tests, either, clash, iff-eq, all-at, all-fails, all-and, and-fst, and-snd, and-intro, least-none, least-lt, least-same}
 use Rattle.records.specs.Shape.{dimensionOf, faceCount}
-use Rattle.records.specs.Record.{coreSize, numberOf, shapeOf, neighbourOf, inForm}
+use Rattle.records.specs.Record.{coreSize, numberOf, shapeOf, neighbourOf, toItself, boundaryOk, inForm}
 use Rattle.mesh.specs.Link.{orientationOk}
 use Rattle.mesh.specs.Mesh.{dimensionOk}
 use Rattle.offsets.specs.Table.{ranks, entry, trees, firstTree, endTree, treeCount}
@@ -25,9 +25,10 @@ use Rattle.part.specs.Means.{viewSound, inRange, neighbourIn, numberAt, Ascendi
 use Rattle.part.proofs.Sound.{part-sound-is}
 use Rattle.part.specs.Part.{partDimension, partK, partFirst, partCount, partGhostCount, storedTree, storedGhost, globalNumber, globalTree, partHeaderSound, partSound}
 use Rattle.mesh.specs.Means.{linkByDimension}
-use Rattle.part_check.specs.Means.{treeTo, treeFace, treeStored, treeNumbered, ghostBehind, ghostNumbered, numbersSound, ghostTo, ghostFace, treeChecked, ghostStored, recordsSound, PartLaid, PartNumbered, Leads}
+use Rattle.part_check.specs.Means.{plainForm, unusedFrom, treeTo, treeFace, treeFits, treeStored, treeNumbered, ghostBehind, ghostNumbered, numbersSound, ghostTo, ghostFace, ghostFits, treeChecked, ghostStored, recordsSound, PartLaid, PartNumbered, Leads}
 use Rattle.part.proofs.Global.{global-alike, global-neighbour}
 use Rattle.part_check.proofs.Judging.{ghosts-ascend, ghosts-few, lookedUp, Seen, view-is}
+use Rattle.part_check.proofs.Faces.{form-faces, form-faces-met}
 use Rattle.part_check.proofs.ByDimension.{records-by-dimension}
 use Rattle.part.proofs.Ranges.{range-last}
 use Rattle.part.proofs.Search.{number-there}
@@ -61,6 +62,32 @@ module _ (part : List ℕ) (i : ℕ) {at : ℕ} (here : at ≡ treePlace i) wher
       unfolding treeFace treeTo storedTree
       face-none h l = rw (← here, ← read, le-ltb j n h, le-ltb (j - n) g l)
 
+      -- and the form of the face
+      pub fits-here : {b r : Bool} → b ≡ boundaryOk i (piece part at coreSize) f → r ≡ treeFace (linkByDimension D) n g (storedTree part) (ghostCore part n) i f
+          → (b && r) ≡ treeFits (linkByDimension D) n g (storedTree part) (ghostCore part n) i f
+      unfolding treeFits storedTree
+      fits-here p q = rw (← here, p, q)
+
+      pub fits-away : {r : Bool} → i < n → n ≤ j → r ≡ treeFace (linkByDimension D) n g (storedTree part) (ghostCore part n) i f → r ≡ treeFits (linkByDimension D) n g (storedTree part) (ghostCore part n) i f
+      unfolding treeFits boundaryOk toItself storedTree
+      fits-away l h q = rw (← here, ← read, ne-eqb j i (λ e. omega arith), q)
+
+      pub fits-none : false ≡ treeFace (linkByDimension D) n g (storedTree part) (ghostCore part n) i f → false ≡ treeFits (linkByDimension D) n g (storedTree part) (ghostCore part n) i f
+      unfolding treeFits
+      fits-none q = rw (← q, and-false)
+
+    tree-here : piece part at coreSize ≡ storedTree part i
+    unfolding storedTree
+    tree-here = rw here
+
+    pub tree-stored : {p u d : Bool} {shape dimension used faces : ℕ} → shape ≡ shapeOf (piece part at coreSize) → p ≡ plainForm (piece part at coreSize) → used ≡ faceCount shape
+        → u ≡ allBelow 6 (unusedFrom used (piece part at coreSize)) → dimension ≡ dimensionOf shape → faces ≡ faceCount shape → d ≡ allBelow faces (treeFits (linkByDimension D) n g (storedTree part) (ghostCore part n) i)
+        → (p && u && eqb dimension D && d) ≡ treeStored (linkByDimension D) n g (storedTree part) (ghostCore part n) D i
+    unfolding treeStored treeFits
+    tree-stored e p w u r s t =
+        rw (p, u, w, r, t, s, e, tree-here)
+        (form-faces i (storedTree part i) (treeFace (linkByDimension D) n g (storedTree part) (ghostCore part n) i) (eqb (dimensionOf (shapeOf (storedTree part i))) D))
+
     pub tree-read : {a d : Bool} {shape dimension faces : ℕ} → shape ≡ shapeOf (piece part at coreSize) → a ≡ inForm i (piece part at coreSize) → dimension ≡ dimensionOf shape → faces ≡ faceCount shape
         → d ≡ allBelow faces (treeFace (linkByDimension D) n g (storedTree part) (ghostCore part n) i) → (a && eqb dimension D && d) ≡ treeStored (linkByDimension D) n g (storedTree part) (ghostCore part n) D i
     unfolding treeStored storedTree
@@ -68,15 +95,22 @@ module _ (part : List ℕ) (i : ℕ) {at : ℕ} (here : at ≡ treePlace i) wher
 
 -- ---- ghosts
 
+-- one comparison of numbers of 32 bits
+pub within-is : (first n k : ℕ) {p : ℕ} → first + n ≤ 4294967296 → k < 4294967296 → p ≡ (0 + k + (4294967296 - first)) % 4294967296 → ltb p n ≡ inRange first (first + n) k
+unfolding inRange
+within-is first n k {p} h l e =
+    either (leb first k)
+    (λ q.
+    let b : first ≤ k = leb-true first k q in
+    let d : p ≡ k - first = omega (arith, e) in
+    rw (q, d) (iff-eq (ltb (k - first) n) (ltb k (first + n)) (λ t. lt-ltb k (first + n) (omega tests)) (λ t. lt-ltb (k - first) n (omega tests))))
+    (λ q.
+    let b : k < first = leb-false first k q in
+    let d : p ≡ k + (4294967296 - first) = omega (arith, e) in
+    rw (q, le-ltb p n (omega (arith, d))))
+
 pub links-fail : (n : ℕ) (f : ℕ → Bool) (b : Bool) (i : ℕ) → i < n → f i ≡ false → false ≡ (allBelow n f && b)
 links-fail n f b i h e = ap (λ (x : Bool). x && b) (sym (all-fails n f i h e))
-
-and-swap : (x a b : Bool) → (x && (a && b)) ≡ (x && b && a)
-and-swap true true true = refl
-and-swap true true false = refl
-and-swap true false true = refl
-and-swap true false false = refl
-and-swap false a b = refl
 
 module _ (part : List ℕ) (n j : ℕ) where
   pub behind-none : j ≡ 0 → true ≡ ghostBehind (ghostCore part n) j
@@ -92,15 +126,30 @@ module _ (part : List ℕ) (n j : ℕ) where
     unfolding ghostNumbered ghostCore
     ghost-numbered-is first K p q = rw (← here, ← number, p, q)
 
-    pub ghost-read : {a d : Bool} {shape dimension faces : ℕ} (first g D K : ℕ) → shape ≡ shapeOf (piece part at coreSize) → faces ≡ faceCount shape → a ≡ inForm v (piece part at coreSize) → dimension ≡ dimensionOf shape
-        → d ≡ (allBelow faces (ghostFace (linkByDimension D) first n g (storedTree part) (ghostCore part n) K j) && anyBelow faces (neighbourIn first (first + n) (ghostCore part n j)))
-        → (a && eqb dimension D && d) ≡ ghostStored (linkByDimension D) first n g (storedTree part) (ghostCore part n) D K j
-    unfolding ghostStored ghostCore
-    ghost-read first g D K e s p r t =
-        rw (← here, p, r, t, ← here, s, e, number)
-        (and-swap (inForm (numberOf (piece part at coreSize)) (piece part at coreSize) && eqb (dimensionOf (shapeOf (piece part at coreSize))) D)
-        (allBelow (faceCount (shapeOf (piece part at coreSize))) (ghostFace (linkByDimension D) first n g (storedTree part) (ghostCore part n) K j))
-        (anyBelow (faceCount (shapeOf (piece part at coreSize))) (neighbourIn first (first + n) (piece part at coreSize))))
+  module _ {at : ℕ} (here : at ≡ ghostPlace n j) where
+    ghost-here : piece part at coreSize ≡ ghostCore part n j
+    unfolding ghostCore
+    ghost-here = rw here
+
+    pub ghost-stored : {p u d : Bool} {shape dimension faces : ℕ} (first g D K : ℕ) → shape ≡ shapeOf (piece part at coreSize) → faces ≡ faceCount shape → p ≡ plainForm (piece part at coreSize)
+        → u ≡ allBelow 6 (unusedFrom faces (piece part at coreSize)) → dimension ≡ dimensionOf shape
+        → d ≡ (allBelow faces (ghostFits (linkByDimension D) first n g (storedTree part) (ghostCore part n) K j) && anyBelow faces (neighbourIn first (first + n) (ghostCore part n j)))
+        → (p && u && eqb dimension D && d) ≡ ghostStored (linkByDimension D) first n g (storedTree part) (ghostCore part n) D K j
+    unfolding ghostStored ghostFits
+    ghost-stored first g D K e s p u r t =
+        rw (p, u, r, t, s, e, ghost-here)
+        (form-faces-met (numberOf (ghostCore part n j)) (ghostCore part n j) (ghostFace (linkByDimension D) first n g (storedTree part) (ghostCore part n) K j) (eqb (dimensionOf (shapeOf (ghostCore part n j))) D)
+        (anyBelow (faceCount (shapeOf (ghostCore part n j))) (neighbourIn first (first + n) (ghostCore part n j))))
+
+  -- one face of a ghost: its form, then its link
+  module _ (first g D K f : ℕ) {at v : ℕ} (here : at ≡ ghostPlace n j) (number : v ≡ numberOf (piece part at coreSize)) {b : Bool} (edge : b ≡ boundaryOk v (piece part at coreSize) f) where
+    pub fits-not : b ≡ false → ghostFits (linkByDimension D) first n g (storedTree part) (ghostCore part n) K j f ≡ false
+    unfolding ghostFits ghostCore
+    fits-not h = rw (← here, ← number, ← edge, h)
+
+    pub fits-link : {r : Bool} → b ≡ true → r ≡ ghostFace (linkByDimension D) first n g (storedTree part) (ghostCore part n) K j f → ghostFits (linkByDimension D) first n g (storedTree part) (ghostCore part n) K j f ≡ r
+    unfolding ghostFits ghostCore
+    fits-link h q = rw (← here, ← number, ← edge, h, q)
 
   -- the faces of a ghost that were looked at, and whether one led into the range
   module _ (first f : ℕ) {m : Bool} (met : m ≡ anyBelow f (neighbourIn first (first + n) (ghostCore part n j))) where

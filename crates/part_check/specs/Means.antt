@@ -8,12 +8,20 @@ use lib.ListN.{length}
 use Rattle.encoding.specs.Below.{allBelow, anyBelow, leastBelow}
 use Rattle.encoding.specs.Pieces.{piece}
 use Rattle.offsets.specs.Limits.{maxTrees}
-use Rattle.records.specs.Shape.{dimensionOf, faceCount}
-use Rattle.records.specs.Record.{coreSize, numberOf, shapeOf, neighbourOf, inForm}
+use Rattle.records.specs.Shape.{dimensionOf, faceCount, shapeOk}
+use Rattle.records.specs.Record.{coreSize, numberOf, shapeOf, neighbourOf, regionOk, zerosOk, unusedOk, boundaryOk, inForm}
 use Rattle.mesh.specs.Link.{orientationOk}
 use Rattle.part.specs.Layout.{partSize}
 use Rattle.part.specs.Part.{storedTree}
 use Rattle.part.specs.Means.{inRange, neighbourIn, ghostCore, ghostHas}
+
+-- a record in form, its faces apart
+unfoldable pub plainForm : List ℕ → Bool
+plainForm r = shapeOk (shapeOf r) && zerosOk r && regionOk r
+
+-- the faces from n on are marked unused
+unfoldable pub unusedFrom : ℕ → List ℕ → ℕ → Bool
+unusedFrom n r f = cond (ltb f n) true (unusedOk r f)
 
 -- the trees of a part as they stand, their neighbours as local indices; by either rule of a link
 module _ (link : ℕ → List ℕ → ℕ → List ℕ → Bool) (n g : ℕ) (tree ghostly : ℕ → List ℕ) where
@@ -25,6 +33,10 @@ module _ (link : ℕ → List ℕ → ℕ → List ℕ → Bool) (n g : ℕ) (tr
 
   unfoldable pub treeFace : ℕ → ℕ → Bool
   treeFace i f = treeTo i f (neighbourOf (tree i) f)
+
+  -- and the face is in form
+  unfoldable pub treeFits : ℕ → ℕ → Bool
+  treeFits i f = boundaryOk i (tree i) f && treeFace i f
 
   -- tree i, its number apart
   unfoldable pub treeStored : ℕ → ℕ → Bool
@@ -59,6 +71,10 @@ module _ (link : ℕ → List ℕ → ℕ → List ℕ → Bool) (first n g : �
 
   unfoldable pub ghostFace : ℕ → ℕ → ℕ → Bool
   ghostFace K j f = ghostTo K j f (neighbourOf (ghostly j) f)
+
+  -- and the face is in form
+  unfoldable pub ghostFits : ℕ → ℕ → ℕ → Bool
+  ghostFits K j f = boundaryOk (numberOf (ghostly j)) (ghostly j) f && ghostFace K j f
 
   -- ghost j, its number apart
   unfoldable pub ghostStored : ℕ → ℕ → ℕ → Bool

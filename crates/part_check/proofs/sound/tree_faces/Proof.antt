@@ -1,6 +1,6 @@
 use Rattle.mesh.specs.Means.{linkByDimension}
 use Rattle.part.specs.Means.{ghostCore}
-use Rattle.part_check.specs.Means.{treeFace}
+use Rattle.part_check.specs.Means.{treeFits}
 use Rattle.part.specs.Part.{storedTree}
 use Rattle.encoding.proofs.Below.{all-more, all-fails, all-to}
 use Rattle.encoding.specs.Below.{allBelow}
@@ -14,7 +14,7 @@ use Rattle.part_check.proofs.sound.tree_faces.Statement.{statement}
 use Rattle.part_check.proofs.sound.tree_faces.Tie as tie
 
 abbrev Inv-loop : tie.InvT-loop
-Inv-loop part count ghosts dimension tree faces face₀ face = (face ≤ faces) × (allBelow face (treeFace (linkByDimension dimension) count ghosts (storedTree part) (ghostCore part count) (tree .0)) ≡ true)
+Inv-loop part count ghosts dimension tree faces face₀ face = (face ≤ faces) × (allBelow face (treeFits (linkByDimension dimension) count ghosts (storedTree part) (ghostCore part count) (tree .0)) ≡ true)
 
 abbrev μ-loop : tie.MeasureT-loop
 μ-loop part count ghosts dimension tree faces face₀ face = faces - face

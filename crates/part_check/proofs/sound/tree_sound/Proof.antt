@@ -1,4 +1,4 @@
-use Rattle.part_check.proofs.Checking.{tree-read}
+use Rattle.part_check.proofs.Checking.{tree-stored}
 use Rattle.part_check.specs.Means.{treeChecked}
 use mathlib.Core.Bool.{_&&_}
 use mathlib.Core.Path.{ap₂}
@@ -15,14 +15,20 @@ shape-of-requires c κs = search needs
 tree-numbered-requires : tie.Need-tree-numbered-requires
 tree-numbered-requires c κs = search needs
 
-in-form-requires : tie.Need-in-form-requires
-in-form-requires c κs = search needs
+plain-requires : tie.Need-plain-requires
+plain-requires c κs = search needs
+
+face-count-requires : tie.Need-face-count-requires
+face-count-requires c κs = search needs
+
+unused-from-requires : tie.Need-unused-from-requires
+unused-from-requires c κs = search needs
 
 dimension-of-requires : tie.Need-dimension-of-requires
 dimension-of-requires c κs = search needs
 
-face-count-requires : tie.Need-face-count-requires
-face-count-requires c κs = search needs
+face-count-requires-2 : tie.Need-face-count-requires-2
+face-count-requires-2 c κs = search needs
 
 tree-faces-requires : tie.Need-tree-faces-requires
 tree-faces-requires c κs = search needs
@@ -30,13 +36,16 @@ tree-faces-requires c κs = search needs
 returns : tie.Need-returns
 unfolding treeChecked
 returns c =
-    let tree-at = c .before .before .before .before .before .before .tree-at in
-    let shape-of = c .before .before .before .before .before .shape-of in
-    let tree-numbered = c .before .before .before .before .tree-numbered in
-    let in-form = c .before .before .before .in-form in
+    let tree-at = c .before .before .before .before .before .before .before .before .tree-at in
+    let shape-of = c .before .before .before .before .before .before .before .shape-of in
+    let tree-numbered = c .before .before .before .before .before .before .tree-numbered in
+    let plain = c .before .before .before .before .before .plain in
+    let face-count = c .before .before .before .before .face-count in
+    let unused-from = c .before .before .before .unused-from in
     let dimension-of = c .before .before .dimension-of in
-    let face-count = c .before .face-count in
-    ap₂ _&&_ (tree-numbered .ensures) (tree-read _ _ (tree-at .ensures) _ _ _ (shape-of .ensures) (in-form .ensures) (dimension-of .ensures) (face-count .ensures .0) (c .tree-faces .ensures))
+    let face-count2 = c .before .face-count2 in
+    ap₂ _&&_ (tree-numbered .ensures)
+    (tree-stored _ _ (tree-at .ensures) _ _ _ (shape-of .ensures) (plain .ensures) (face-count .ensures .0) (unused-from .ensures) (dimension-of .ensures) (face-count2 .ensures .0) (c .tree-faces .ensures))
 
 pub tree-sound-spec : {M : Type 1} → statement M
 tree-sound-spec =
@@ -45,8 +54,10 @@ tree-sound-spec =
     tree-at-requires
     shape-of-requires
     tree-numbered-requires
-    in-form-requires
-    dimension-of-requires
+    plain-requires
     face-count-requires
+    unused-from-requires
+    dimension-of-requires
+    face-count-requires-2
     tree-faces-requires
     returns)

@@ -1,0 +1,108 @@
+-- A record's form and a test of each of its faces, with the faces looked at once.
+use Prim.Native.Nat.{ℕ, _+_, _≤_, _<_}
+use mathlib.Core.Path.{_≡_, refl, sym, ap, _∙_}
+use mathlib.Core.Bool.{Bool, true, false, _&&_}
+use mathlib.Core.List.{List}
+use lib.Dec.{ltb, eqb}
+use borrow.Author.Tests.{lt-ltb, le-ltb}
+use Rattle.encoding.specs.Below.{allBelow}
+use Rattle.encoding.specs.Pieces.{piece}
+use Rattle.encoding.specs.Words.{zeroAt}
+use Rattle.encoding.proofs.Below.{tests, either, and-fst, and-snd, and-intro, iff-eq, all-at, all-intro, all-and}
+use Rattle.records.specs.Shape.{faceCount, shapeOk}
+use Rattle.records.specs.Record.{coreSize, unused, regionLimit, shapeOf, neighbourOf, codeOf, regionOf, regionOk, zerosOk, unusedOk, boundaryOk, inForm}
+use Rattle.records.proofs.Forms.{zeros-at, form-shape, form-zeros, form-region, form-used, form-unused, form-intro}
+use Rattle.part_check.specs.Means.{plainForm, unusedFrom}
+
+-- ---- what the functions read
+
+pub plain-read : (part : List ℕ) (at : ℕ) {a : Bool} {shape region : ℕ} → shape ≡ shapeOf (piece part at coreSize) → a ≡ shapeOk shape → region ≡ regionOf (piece part at coreSize)
+    → (a && (zeroAt part (at + 5) && zeroAt part (at + 6) && zeroAt part (at + 7)) && ltb region regionLimit) ≡ plainForm (piece part at coreSize)
+unfolding plainForm regionOk
+plain-read part at e p q = rw (p, e, q, zeros-at part at)
+
+module _ (n : ℕ) (r : List ℕ) where
+  pub unused-start : allBelow n (unusedFrom n r) ≡ true
+  unfolding unusedFrom
+  unused-start = all-intro n (unusedFrom n r) (λ f h. rw (lt-ltb f n h))
+
+  pub unused-read : (f : ℕ) {k code : ℕ} → n ≤ f → k ≡ neighbourOf r f → code ≡ codeOf r f → (eqb k unused && eqb code 0) ≡ unusedFrom n r f
+  unfolding unusedFrom unusedOk
+  unused-read f h p q = rw (le-ltb f n h, p, q)
+
+  unused-is : (f : ℕ) → n ≤ f → unusedFrom n r f ≡ true → unusedOk r f ≡ true
+  unfolding unusedFrom
+  unused-is f h e = rw (le-ltb f n h) at e
+
+-- ---- the form, face by face
+
+and-right : (a b c : Bool) → (a && (b && c)) ≡ (a && b && c)
+and-right true b c = refl
+and-right false b c = refl
+
+and-swap : (x a b : Bool) → (x && (a && b)) ≡ (x && b && a)
+and-swap true true true = refl
+and-swap true true false = refl
+and-swap true false true = refl
+and-swap true false false = refl
+and-swap false a b = refl
+
+and-form : (p u e b t : Bool) → (p && u && e && (b && t)) ≡ (p && u && b && e && t)
+and-form true true true true t = refl
+and-form true true true false t = refl
+and-form true true false true t = refl
+and-form true true false false t = refl
+and-form true false e b t = refl
+and-form false u e b t = refl
+
+module _ (own : ℕ) (r : List ℕ) where
+  abbrev faces : ℕ
+  faces = faceCount (shapeOf r)
+
+  abbrev rest : Bool
+  rest = allBelow 6 (unusedFrom faces r)
+
+  abbrev edges : Bool
+  edges = allBelow faces (boundaryOk own r)
+
+  form-to : (plainForm r && rest && edges) ≡ true → inForm own r ≡ true
+  unfolding plainForm
+  form-to e =
+      let both : (plainForm r && rest) ≡ true = and-fst (plainForm r && rest) edges e in
+      let plain : (shapeOk (shapeOf r) && zerosOk r && regionOk r) ≡ true = and-fst (plainForm r) rest both in
+      let two : (shapeOk (shapeOf r) && zerosOk r) ≡ true = and-fst (shapeOk (shapeOf r) && zerosOk r) (regionOk r) plain in
+      form-intro own r (and-fst (shapeOk (shapeOf r)) (zerosOk r) two) (and-snd (shapeOk (shapeOf r)) (zerosOk r) two) (and-snd (shapeOk (shapeOf r) && zerosOk r) (regionOk r) plain)
+      (all-at faces (boundaryOk own r) (and-snd (plainForm r && rest) edges e))
+      (λ f h l. unused-is faces r f h (all-at 6 (unusedFrom faces r) (and-snd (plainForm r) rest both) f l))
+
+  rest-unused : inForm own r ≡ true → (f : ℕ) → f < 6 → unusedFrom faces r f ≡ true
+  unfolding unusedFrom
+  rest-unused e f l = either (ltb f faces) (λ p. rw p) (λ p. rw p (form-unused own r e f (omega tests) l))
+
+  form-from : inForm own r ≡ true → (plainForm r && rest && edges) ≡ true
+  unfolding plainForm
+  form-from e =
+      and-intro (plainForm r && rest) edges
+      (and-intro (plainForm r) rest
+      (and-intro (shapeOk (shapeOf r) && zerosOk r) (regionOk r) (and-intro (shapeOk (shapeOf r)) (zerosOk r) (form-shape own r e) (form-zeros own r e)) (form-region own r e))
+      (all-intro 6 (unusedFrom faces r) (rest-unused e)))
+      (all-intro faces (boundaryOk own r) (form-used own r e))
+
+  form-parts : (plainForm r && rest && edges) ≡ inForm own r
+  form-parts = iff-eq (plainForm r && rest && edges) (inForm own r) form-to form-from
+
+  -- the form and a test of each face that the shape has
+  module _ (test : ℕ → Bool) where
+    pub form-faces : (e : Bool) → (plainForm r && rest && e && allBelow faces (λ f. boundaryOk own r f && test f)) ≡ (inForm own r && e && allBelow faces test)
+    form-faces e =
+        ap (λ (x : Bool). plainForm r && rest && e && x) (all-and faces (boundaryOk own r) test)
+        ∙ (and-form (plainForm r) rest e edges (allBelow faces test)
+        ∙ ap (λ (x : Bool). x && e && allBelow faces test) form-parts)
+
+    -- and one of all
+    pub form-faces-met : (e m : Bool) → (plainForm r && rest && e && (allBelow faces (λ f. boundaryOk own r f && test f) && m)) ≡ (inForm own r && e && m && allBelow faces test)
+    form-faces-met e m =
+        and-right (plainForm r && rest && e) (allBelow faces (λ f. boundaryOk own r f && test f)) m
+        ∙ (ap (λ (x : Bool). x && m) (form-faces e)
+        ∙ (sym (and-right (inForm own r && e) (allBelow faces test) m)
+        ∙ and-swap (inForm own r && e) (allBelow faces test) m))

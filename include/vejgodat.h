@@ -262,9 +262,9 @@
  *    that it only reads may overlap: the same table may be given as old and as
  *    new.
  *  - Nobody else writes a buffer of a call while the call runs.
- *  - The thread has stack left. A call that cuts or checks a part or closes an
- *    area takes sets of trees there, of 208 KiB at most, and so does
- *    \ref vejgodat_part_length; \ref vejgodat_deliver and
+ *  - The thread has stack left. A call that cuts or checks a part, stored by
+ *    columns too, or closes an area takes sets of trees there, of 208 KiB at most,
+ *    and so does \ref vejgodat_part_length; \ref vejgodat_deliver and
  *    \ref vejgodat_deliver_all take 137 KiB; those that build messages check a
  *    part too, and take 336 KiB at most; every other call takes less than 1 KiB.
  *    \ref VEJGODAT_STACK_BYTES are enough for any. A thread made with a stack
@@ -1877,7 +1877,7 @@ vejgodat_length     vejgodat_part_to_columns (const uint8_t * part,
  * and the rank, a length that isn't the header's included;
  * \ref VEJGODAT_BUFFER (22) if \a out_len is below \a columns_len.
  * Cost: that of the checks of \ref vejgodat_check_part, made on the columns, and
- * one pass over the bytes; for links between ghosts a search by halves.
+ * one pass over the bytes.
  *
  * \param [in] columns    Any bytes. Not changed.
  * \param [in] columns_len  The number of its bytes.

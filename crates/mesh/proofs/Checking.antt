@@ -4,9 +4,9 @@ use native.Mathlib.Omega.{arith}
 use mathlib.Core.Path.{_≡_, sym, ap, _∙_}
 use mathlib.Core.Bool.{Bool, true, false, cond, _&&_, and-true, and-false}
 use mathlib.Core.List.{List}
-use lib.Dec.{eqb, ltb}
+use lib.Dec.{eqb, ltb, leb}
 use lib.ListN.{length}
-use borrow.Author.Tests.{lt-ltb, le-ltb, ne-eqb}
+use borrow.Author.Tests.{leb-true, lt-ltb, le-ltb, ne-eqb}
 use Rattle.encoding.specs.Below.{allBelow, countBelow, sumBelow}
 use Rattle.encoding.specs.Pieces.{piece}
 use Rattle.encoding.proofs.Below.{clash, all-intro, all-fails, all-to, count-more, sum-more}
@@ -14,8 +14,9 @@ use Rattle.offsets.specs.Limits.{treeCountOk}
 use Rattle.records.specs.Shape.{shapeOk, dimensionOf, faceCount, facesIn}
 use Rattle.records.specs.Record.{coreSize, treeSize, numberOf, shapeOf, neighbourOf, codeOf, zerosOk, regionOk, unusedOk, boundaryOk, inForm}
 use Rattle.mesh.specs.Mesh.{meshHeader, meshDimension, meshTrees, dimensionOk, meshCore, headerSound, meshSound}
-use Rattle.mesh.specs.Means.{cornersFit, cornersByDimension, answeredThere, answeredByDimension, linkByDimension, faceByDimension, treeByDimension, leadsUp, leadsDown, linksUp, linksDown, aloneByDimension, faceFromAbove, unusedFrom, treeFromAbove, treesFromAbove, SeenAs}
+use Rattle.mesh.specs.Means.{cornersFit, cornersByDimension, answeredThere, answeredByDimension, linkByDimension, faceByDimension, treeByDimension, leadsUp, leadsDown, linksUp, linksDown, aloneByDimension, leadsInside, listedLink, downSound, listedSound, faceFromAbove, unusedFrom, treeFromAbove, treesFromAbove, SeenAs}
 use Rattle.mesh.proofs.FromAbove.{trees-from-above}
+use Rattle.mesh.proofs.Packing.{faces-both}
 
 -- ---- one link: its code, and what it says
 
@@ -44,6 +45,21 @@ pub seen-all : {ups downs : ℕ} (n face : ℕ) (f p q : ℕ → Bool) → face 
 seen-all n face f p q h k six a u v =
     let e : face ≡ n = omega arith in
     record { tested = sym (all-to n f face h k a); upward = λ t. rw (sym e) (u .0); downward = λ t. rw (sym e) (v .0); few = (omega (arith, u .1), omega (arith, v .1)) }
+
+-- both passes over the faces
+module _ (core : ℕ → List ℕ) (d k K n : ℕ) (tree : k < K) where
+  pub faces-outside : allBelow n (leadsInside core K k) ≡ false → allBelow n (faceFromAbove core d K k) ≡ false
+  faces-outside e = rw (faces-both core d k K tree n, e)
+
+  pub faces-off : allBelow n (listedSound core d k) ≡ false → allBelow n (faceFromAbove core d K k) ≡ false
+  faces-off e = rw (faces-both core d k K tree n, e, and-false)
+
+  pub faces-seen : {up down ups downs : ℕ} {ok : Bool} → allBelow n (listedSound core d k) ≡ true → SeenAs (allBelow n (leadsInside core K k)) up down ok ups downs → ok ≡ true
+      → SeenAs (allBelow n (faceFromAbove core d K k)) up down true ups downs
+  faces-seen e s passes =
+      let inside : allBelow n (leadsInside core K k) ≡ true = sym (s .tested) ∙ passes in
+      let both : allBelow n (faceFromAbove core d K k) ≡ true = rw (faces-both core d k K tree n, inside, e) in
+      record { tested = sym both; upward = λ t. s .upward passes; downward = λ t. s .downward passes; few = s .few }
 
 -- one more number that may count
 pub count-next : {n r : ℕ} {b : Bool} (i : ℕ) (f : ℕ → Bool) → r ≡ cond b 1 0 → b ≡ f i → n ≡ countBelow i f → n + r ≡ countBelow (i + 1) f
@@ -101,6 +117,32 @@ module _ (m : List ℕ) where
     unfolding leadsDown meshCore
     leads-down n f e = rw (← here, e)
 
+    pub listed-read : (n f : ℕ) → n ≡ neighbourOf (piece m at coreSize) f → leb n k ≡ listedLink (meshCore m) k f
+    unfolding listedLink meshCore
+    listed-read n f e = rw (← here, e)
+
+    pub listed-low : (n f : ℕ) → n ≡ neighbourOf (piece m at coreSize) f → listedLink (meshCore m) k f ≡ true → n ≤ k
+    listed-low n f e h = leb-true n k (listed-read n f e ∙ h)
+
+    -- the neighbour isn't below K, or is
+    pub inside-not : (K n f : ℕ) → n ≡ neighbourOf (piece m at coreSize) f → K ≤ n → leadsInside (meshCore m) K k f ≡ false
+    unfolding leadsInside meshCore
+    inside-not K n f e h = rw (← here, ← e, le-ltb n K h)
+
+    pub inside-is : (K n f : ℕ) → n ≡ neighbourOf (piece m at coreSize) f → n < K → leadsInside (meshCore m) K k f ≡ true
+    unfolding leadsInside meshCore
+    inside-is K n f e h = rw (← here, ← e, lt-ltb n K h)
+
+    -- a link that doesn't lead up
+    pub down-off : {b : Bool} (d f : ℕ) → b ≡ boundaryOk k (piece m at coreSize) f → b ≡ false → false ≡ downSound (meshCore m) d k f
+    unfolding downSound meshCore
+    down-off d f b q = rw (← here, ← b, q)
+
+    pub down-read : {b r : Bool} (d n to f : ℕ) → n ≡ neighbourOf (piece m at coreSize) f → to ≡ meshHeader + treeSize * n → b ≡ boundaryOk k (piece m at coreSize) f → b ≡ true
+        → r ≡ linkByDimension d k (piece m at coreSize) f (piece m to coreSize) → r ≡ downSound (meshCore m) d k f
+    unfolding downSound meshCore
+    down-read d n to f e there b q p = rw (← here, ← e, ← b, q, ← there, p)
+
   module _ (d K k : ℕ) {at : ℕ} (here : at ≡ meshHeader + treeSize * k) where
     -- the neighbour isn't below K
     pub face-outside : (n f : ℕ) → n ≡ neighbourOf (piece m at coreSize) f → K ≤ n → faceByDimension (meshCore m) d K k f ≡ false
@@ -122,21 +164,6 @@ module _ (m : List ℕ) where
     here-is : meshCore m k ≡ piece m at coreSize
     unfolding meshCore
     here-is = rw here
-
-    -- a link up
-    pub face-up : (n f : ℕ) → n ≡ neighbourOf (piece m at coreSize) f → k < n → ltb n K ≡ faceFromAbove (meshCore m) d K k f
-    unfolding faceFromAbove leadsUp meshCore
-    face-up n f e h = rw (← here, ← e, lt-ltb k n h)
-
-    -- a link down, or of the tree to itself
-    pub face-off : {b : Bool} (n f : ℕ) → n ≡ neighbourOf (piece m at coreSize) f → n ≤ k → b ≡ boundaryOk k (piece m at coreSize) f → b ≡ false → false ≡ faceFromAbove (meshCore m) d K k f
-    unfolding faceFromAbove leadsUp meshCore
-    face-off n f e h b q = rw (← here, ← e, le-ltb k n h, ← b, q)
-
-    pub face-down : {b r : Bool} (n to f : ℕ) → n ≡ neighbourOf (piece m at coreSize) f → n ≤ k → to ≡ meshHeader + treeSize * n → b ≡ boundaryOk k (piece m at coreSize) f → b ≡ true
-        → r ≡ linkByDimension d k (piece m at coreSize) f (piece m to coreSize) → r ≡ faceFromAbove (meshCore m) d K k f
-    unfolding faceFromAbove leadsUp meshCore
-    face-down n to f e h there b q p = rw (← here, ← e, le-ltb k n h, ← b, q, ← there, p)
 
     pub tree-not-alone : aloneByDimension d k (piece m at coreSize) ≡ false → treeFromAbove (meshCore m) d K k ≡ false
     unfolding treeFromAbove

@@ -3,5 +3,6 @@ pub mod Counting
 pub mod Soundness
 pub mod ByDimension
 pub mod FromAbove
+pub mod Packing
 pub mod Checking
 pub mod Examples

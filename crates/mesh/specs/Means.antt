@@ -1,9 +1,9 @@
 -- Means, no part of what is promised: the rule of a link between two records, and the same read by the dimension. In proofs/ByDimension.antt: where all records have the dimension, the two say the same.
-use Prim.Native.Nat.{ℕ, _+_, _/_, _%_, _≤_}
+use Prim.Native.Nat.{ℕ, zero, suc, _+_, _*_, _/_, _%_, _≤_}
 use mathlib.Core.Path.{_≡_}
 use mathlib.Core.Bool.{Bool, true, cond, _&&_}
 use mathlib.Core.List.{List}
-use lib.Dec.{ltb, eqb}
+use lib.Dec.{ltb, leb, eqb}
 use Rattle.encoding.specs.Below.{allBelow, countBelow, sumBelow}
 use Rattle.records.specs.Shape.{shapeOk, dimensionOf, faceCount, facesIn, corners}
 use Rattle.records.specs.Record.{numberOf, shapeOf, neighbourOf, codeOf, regionOk, zerosOk, unusedOk, boundaryOk, inForm}
@@ -63,6 +63,24 @@ aloneByDimension d k r = shapeOk (shapeOf r) && zerosOk r && regionOk r && eqb (
 unfoldable pub faceFromAbove : (ℕ → List ℕ) → ℕ → ℕ → ℕ → ℕ → Bool
 faceFromAbove core d K k f =
     cond (leadsUp core k f) (ltb (neighbourOf (core k) f) K) (boundaryOk k (core k) f && linkByDimension d k (core k) f (core (neighbourOf (core k) f)))
+
+-- the two halves of that, so that links down can be listed first: each link leads to a tree, each that doesn't lead up obeys the rules
+unfoldable pub leadsInside : (ℕ → List ℕ) → ℕ → ℕ → ℕ → Bool
+leadsInside core K k f = ltb (neighbourOf (core k) f) K
+
+unfoldable pub downSound : (ℕ → List ℕ) → ℕ → ℕ → ℕ → Bool
+downSound core d k f = boundaryOk k (core k) f && linkByDimension d k (core k) f (core (neighbourOf (core k) f))
+
+unfoldable pub listedSound : (ℕ → List ℕ) → ℕ → ℕ → ℕ → Bool
+listedSound core d k f = cond (leadsUp core k f) true (downSound core d k f)
+
+unfoldable pub listedLink : (ℕ → List ℕ) → ℕ → ℕ → Bool
+listedLink core k f = leb (neighbourOf (core k) f) k
+
+-- the numbers below n that pass p, each one more than itself, as digits to base 8
+unfoldable pub packed : ℕ → (ℕ → Bool) → ℕ
+packed zero p = 0
+packed (suc f) p = cond (p f) (8 * packed f p + (f + 1)) (packed f p)
 
 -- a face that a shape with c faces doesn't have
 unfoldable pub unusedFrom : ℕ → List ℕ → ℕ → Bool

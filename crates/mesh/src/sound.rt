@@ -7,14 +7,14 @@ use crate::link::answered_there;
 use crate::link::corners_fit;
 use crate::link::parted;
 ghost use mathlib.Core.Path.{_≡_};
-ghost use mathlib.Core.Bool.{false, cond};
+ghost use mathlib.Core.Bool.{true, false, cond};
 ghost use Prim.Native.Nat.{_+_, _*_, _≤_, _<_};
 ghost use lib.ListN.{length};
 ghost use Rattle.encoding.specs.Below.{allBelow, countBelow};
 ghost use Rattle.encoding.specs.Pieces.{piece};
 ghost use Rattle.records.specs.Record.{coreSize, treeSize};
 ghost use Rattle.mesh.specs.Mesh.{meshHeader, meshCore, meshSound};
-ghost use Rattle.mesh.specs.Means.{linkByDimension, leadsUp, leadsDown, linksUp, linksDown, aloneByDimension, faceFromAbove, unusedFrom, treeFromAbove, treesFromAbove, SeenAs};
+ghost use Rattle.mesh.specs.Means.{packed, linkByDimension, leadsInside, listedLink, downSound, listedSound, leadsUp, leadsDown, linksUp, linksDown, aloneByDimension, faceFromAbove, unusedFrom, treeFromAbove, treesFromAbove, SeenAs};
 
 // What the faces of a tree show: whether each passes, and how many links lead up and down.
 pub struct Seen {
@@ -62,42 +62,100 @@ fn link_down(mesh: &[u8], dimension: u32, k: u32, at: usize, face: u32, to: usiz
     )
 }
 
-// The record of a neighbour with a higher number is not read.
+// A link that doesn't lead up.
 fn face_sound(mesh: &[u8], dimension: u32, trees: u32, k: u32, face: u32) -> bool
-    requires { ⌜ (length (now mesh) ≡ meshHeader + treeSize * trees) × (k < trees) × (face < 6) ⌝ }
-    ensures { λ r. ⌜ r ≡ faceFromAbove (meshCore (now (mesh .entry))) dimension trees k face ⌝ }
+    requires { ⌜ (length (now mesh) ≡ meshHeader + treeSize * trees) × (k < trees) × (face < 6) × (listedLink (meshCore (now mesh)) k face ≡ true) ⌝ }
+    ensures { λ r. ⌜ r ≡ downSound (meshCore (now (mesh .entry))) dimension k face ⌝ }
 {
     let at = tree_at(k);
     let n = records::read::neighbour_of(mesh, at, face);
-    if k < n {
-        return n < trees;
-    }
     if !records::form::boundary_ok(mesh, at, k, face) {
         return false;
     }
     link_down(mesh, dimension, k, at, face, tree_at(n))
 }
 
-fn faces_sound(mesh: &[u8], dimension: u32, trees: u32, k: u32, faces: u32) -> Seen
-    requires { ⌜ (length (now mesh) ≡ meshHeader + treeSize * trees) × (k < trees) × (faces ≤ 6) ⌝ }
-    ensures { λ r. ⌜ SeenAs (allBelow faces (faceFromAbove (meshCore (now (mesh .entry))) dimension trees k)) (countBelow faces (leadsUp (meshCore (now (mesh .entry))) k)) (countBelow faces (leadsDown (meshCore (now (mesh .entry))) k)) (r .ok) (r .ups) (r .downs) ⌝ }
+// The links of a tree, sorted: those that don't lead up as digits to base 8, and how many lead up and down.
+pub struct Links {
+    pub ok: bool,
+    pub list: u32,
+    pub ups: u64,
+    pub downs: u64,
+}
+
+fn pushed(list: u32, face: u32, listed: bool) -> u32
+    requires { ⌜ (list ≤ 5349) × (face < 6) ⌝ }
+    ensures { λ r. ⌜ r ≡ cond listed (8 * list + (face + 1)) list ⌝ }
 {
+    if listed {
+        return 8 * list + (face + 1);
+    }
+    list
+}
+
+// No branch hangs on where a link leads: with random links it would be guessed wrong every second time.
+fn sorted(mesh: &[u8], trees: u32, k: u32, faces: u32) -> Links
+    requires { ⌜ (length (now mesh) ≡ meshHeader + treeSize * trees) × (k < trees) × (faces ≤ 6) ⌝ }
+    ensures { λ r. ⌜ (SeenAs (allBelow faces (leadsInside (meshCore (now (mesh .entry))) trees k)) (countBelow faces (leadsUp (meshCore (now (mesh .entry))) k)) (countBelow faces (leadsDown (meshCore (now (mesh .entry))) k)) (r .ok) (r .ups) (r .downs)) × (r .ok ≡ true → r .list ≡ packed faces (listedLink (meshCore (now (mesh .entry))) k)) ⌝ }
+{
+    let at = tree_at(k);
     let mut face = 0;
+    let mut list = 0;
     let mut ups = 0;
     let mut downs = 0;
     while face < faces {
-        if !face_sound(mesh, dimension, trees, k, face) {
-            return refused();
+        let n = records::read::neighbour_of(mesh, at, face);
+        if trees <= n {
+            return Links {
+                ok: false,
+                list: 0,
+                ups: 0,
+                downs: 0,
+            };
         }
-        let n = records::read::neighbour_of(mesh, tree_at(k), face);
+        list = pushed(list, face, n <= k);
         ups += one(k < n);
         downs += one(n < k);
         face += 1;
     }
-    Seen {
+    Links {
         ok: true,
+        list,
         ups,
         downs,
+    }
+}
+
+// The faces of a list, the last first.
+fn listed_sound(mesh: &[u8], dimension: u32, trees: u32, k: u32, faces: u32, list: u32) -> bool
+    requires { ⌜ (length (now mesh) ≡ meshHeader + treeSize * trees) × (k < trees) × (faces ≤ 6) × (list ≡ packed faces (listedLink (meshCore (now mesh)) k)) ⌝ }
+    ensures { λ r. ⌜ r ≡ allBelow faces (listedSound (meshCore (now (mesh .entry))) dimension k) ⌝ }
+{
+    let mut left = list;
+    while 0 < left {
+        if !face_sound(mesh, dimension, trees, k, left % 8 - 1) {
+            return false;
+        }
+        left = left / 8;
+    }
+    true
+}
+
+fn faces_sound(mesh: &[u8], dimension: u32, trees: u32, k: u32, faces: u32) -> Seen
+    requires { ⌜ (length (now mesh) ≡ meshHeader + treeSize * trees) × (k < trees) × (faces ≤ 6) ⌝ }
+    ensures { λ r. ⌜ SeenAs (allBelow faces (faceFromAbove (meshCore (now (mesh .entry))) dimension trees k)) (countBelow faces (leadsUp (meshCore (now (mesh .entry))) k)) (countBelow faces (leadsDown (meshCore (now (mesh .entry))) k)) (r .ok) (r .ups) (r .downs) ⌝ }
+{
+    let links = sorted(mesh, trees, k, faces);
+    if !links.ok {
+        return refused();
+    }
+    if !listed_sound(mesh, dimension, trees, k, faces, links.list) {
+        return refused();
+    }
+    Seen {
+        ok: true,
+        ups: links.ups,
+        downs: links.downs,
     }
 }
 

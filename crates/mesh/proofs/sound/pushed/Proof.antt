@@ -1,0 +1,21 @@
+use borrow.Author.Needs.{needs}
+use Rattle.mesh.proofs.sound.pushed.Statement.{statement}
+use Rattle.mesh.proofs.sound.pushed.Tie as tie
+
+mul-result : tie.Need-mul-result
+mul-result c = search needs
+
+add-result : tie.Need-add-result
+add-result c = search needs
+
+add-result-2 : tie.Need-add-result-2
+add-result-2 c = search needs
+
+returns : tie.Need-returns
+returns c = rw (c .if1 .taken)
+
+returns-2 : tie.Need-returns-2
+returns-2 c = search needs
+
+pub pushed-spec : {M : Type 1} → statement M
+pushed-spec = tie.close (tie.spec mul-result add-result add-result-2 returns returns-2)

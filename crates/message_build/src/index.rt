@@ -48,3 +48,18 @@ pub fn global_rows(part: &[u8], count: u32, ghosts: u32, rows: [[u32; 3]; 6]) ->
         global_row(part, count, ghosts, rows[5]),
     ]
 }
+
+// The same for the trees, most of the records: the one caller of a function takes it in, and the rows stay in registers.
+pub fn tree_rows(part: &[u8], count: u32, ghosts: u32, rows: [[u32; 3]; 6]) -> [[u32; 3]; 6]
+    requires { ⌜ Opened (now part) count ghosts ⌝ }
+    ensures { λ r. ⌜ r ≡ rowsWith (globalNumber (now (part .entry))) rows ⌝ }
+{
+    [
+        global_row(part, count, ghosts, rows[0]),
+        global_row(part, count, ghosts, rows[1]),
+        global_row(part, count, ghosts, rows[2]),
+        global_row(part, count, ghosts, rows[3]),
+        global_row(part, count, ghosts, rows[4]),
+        global_row(part, count, ghosts, rows[5]),
+    ]
+}

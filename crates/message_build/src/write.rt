@@ -16,6 +16,7 @@ ghost use Rattle.message_ghosts.specs.Means.{Room, SendingRange};
 ghost use Rattle.positions.specs.Means.{coresBelow};
 ghost use Rattle.message_build.specs.Means.{builtRange, RecordRoom, globalLinks, recordsFrom, TreesRoom, Past, GhostRoom, GhostsRoom, RecordsRoom, MessageRoom};
 use crate::index::global_rows;
+use crate::index::tree_rows;
 use crate::length::going;
 use crate::length::mark_words;
 use encoding::answer::Length;
@@ -57,8 +58,10 @@ fn write_tree(
     requires { ⌜ RecordRoom (now part) (now out) count ghosts faces treeSize from to ⌝ }
     ensures { λ u. ⌜ now (out .exit) ≡ splice (now (out .entry)) to (renamed (globalNumber (now (part .entry))) faces (piece (now (part .entry)) from treeSize)) ⌝ }
 {
+    let rows = records::links::rows_of(part, from, faces);
+    let global = tree_rows(part, count, ghosts, rows);
     encoding::record::copy64(part, from, &mut *out, to);
-    put_links(part, count, ghosts, faces, from, &mut *out, to);
+    records::links::put_rows(&mut *out, to, global, faces);
 }
 
 // Writes its core alone.

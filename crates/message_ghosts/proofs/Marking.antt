@@ -5,7 +5,7 @@ use native.Mathlib.Omega.{arith}
 use mathlib.Core.Path.{_≡_, refl, sym, ap, _∙_}
 use mathlib.Core.Bool.{Bool, true, false, _&&_, _||_, or-comm, or-false, or-assoc}
 use mathlib.Core.List.{List, _++_, append-nil}
-use lib.Dec.{eqb}
+use lib.Dec.{leb, ltb, eqb}
 use lib.ListN.{length, drop, set, replicate, length-set, length-replicate}
 use lib.Seq.{drop-length}
 use borrow.Author.Fill.{fill-none, fill-more}
@@ -15,7 +15,7 @@ use Rattle.encoding.specs.Pieces.{piece, Bytes}
 use Rattle.encoding.proofs.Below.{either}
 use Rattle.bits.specs.Bits.{inSet, withMember}
 use Rattle.bits.proofs.Bits.{in-none, in-with, with-length}
-use Rattle.offsets.specs.Table.{trees, firstTree, treeCount}
+use Rattle.offsets.specs.Table.{trees, firstTree, treeCount, holds}
 use Rattle.offsets.proofs.Tables.{trees-high, count-add}
 use Rattle.pattern.specs.Sender.{Tables, sentFirst, sentCount}
 use Rattle.pattern.proofs.Senders.{holds-true}
@@ -26,7 +26,7 @@ use Rattle.records.proofs.Shapes.{count-six}
 use Rattle.part.specs.Layout.{partHeader, treePlace}
 use Rattle.part.specs.Part.{partFirst, partCount, partCore}
 use Rattle.part_theorems.proofs.SoundParts.{part-header, part-length}
-use Rattle.message_ghosts.specs.Means.{numberIn, Room, Marks, Added, Sending, AtRecord, AtTree, recordPlace, recordIn, goes, goesAcross, goesBeside, goesFrom}
+use Rattle.message_ghosts.specs.Means.{numberIn, Room, Marks, Added, Sending, AtRecord, AtTree, Receives, recordPlace, recordIn, goes, goesAcross, goesBeside, goesFrom}
 use Rattle.message_ghosts.proofs.Going.{sent-held, goes-with}
 use Rattle.message_ghosts.proofs.Records.{held-below, place-fits, tree-number, number-held, shape-is, tree-next}
 
@@ -53,6 +53,11 @@ added-both a b c f g h x y e =
     }
 
 -- ---- one face
+
+-- what is in q's new range doesn't go
+pub held-stays : (part old new : List ℕ) (p q low n : ℕ) {first end : ℕ} → Receives new q first end → (leb first n && ltb n end) ≡ true → false ≡ goes part old new p q low n
+unfolding goes holds
+held-stays part old new p q low n r e = rw (← r .isFirst, ← r .isEnd, e)
 
 module _ (part old new : List ℕ) (p q count i : ℕ) (a : AtTree part old new p q count i) where
   abbrev t : ℕ

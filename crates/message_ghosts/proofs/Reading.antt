@@ -1,10 +1,13 @@
 -- What the code reads is what the definitions say.
 use Prim.Native.Nat.{ℕ, _+_, _-_, _≤_, _<_}
+use native.Mathlib.Numerals.{add-one}
+use native.Mathlib.Omega.{arith}
 use mathlib.Core.Path.{_≡_, sym, ap, _∙_}
-use mathlib.Core.Bool.{Bool}
+use mathlib.Core.Bool.{Bool, _||_}
 use mathlib.Core.List.{List}
 use lib.ListN.{length}
 use borrow.Author.Tests.{lt-ltb, le-ltb}
+use Rattle.encoding.specs.Below.{anyBelow}
 use Rattle.encoding.specs.Pieces.{piece}
 use Rattle.offsets.specs.Table.{tableLength}
 use Rattle.pattern.specs.Means.{RankOf}
@@ -13,7 +16,7 @@ use Rattle.records.specs.Shape.{faceCount}
 use Rattle.records.specs.Record.{coreSize, numberOf, shapeOf, neighbourOf}
 use Rattle.part.specs.Layout.{treePlace, ghostPlace}
 use Rattle.part.specs.Part.{partCore}
-use Rattle.message_ghosts.specs.Means.{numberIn, AtRecord, AtFace, Beside, recordPlace, recordIn, acrossAt, sentBefore}
+use Rattle.message_ghosts.specs.Means.{numberIn, AtRecord, AtFace, Beside, recordPlace, recordIn, acrossAt, sentBefore, besideBefore}
 use Rattle.message_ghosts.proofs.Records.{shape-is, across-is, at-face}
 
 -- ---- records by their local index
@@ -60,6 +63,16 @@ module _ {old new : List ℕ} {q : ℕ} (r : RankOf old new q) where
 pub neighbour-before : (part old new : List ℕ) (q low count j faces f : ℕ) → Beside part old new q count j faces → f < faces → {h : ℕ} {b : Bool}
     → h ≡ acrossAt part count j f → b ≡ sentBefore old new q low h → sentBefore old new q low (neighbourOf (partCore part (numberIn part count j)) f) ≡ b
 neighbour-before part old new q low count j faces f k l d c = sym (c ∙ ap (sentBefore old new q low) (d ∙ k .across f l))
+
+module _ (part old new : List ℕ) (q low g : ℕ) where
+  -- one face more
+  pub beside-more : (n : ℕ) {a b : Bool} → a ≡ besideBefore part old new q low g n → sentBefore old new q low (neighbourOf (partCore part g) n) ≡ b → (a || b) ≡ besideBefore part old new q low g (n + 1)
+  unfolding besideBefore anyBelow
+  beside-more n e d = rw (add-one n, e, d)
+
+  -- all faces
+  pub beside-end : (n faces : ℕ) {a : Bool} → n ≤ faces → faces ≤ n → a ≡ besideBefore part old new q low g n → a ≡ besideBefore part old new q low g faces
+  beside-end n faces h l e = let d : faces ≡ n = omega arith in rw d e
 
 -- ---- a record that may go
 

@@ -8,7 +8,7 @@ use lib.ListN.{length}
 use Rattle.encoding.specs.Below.{anyBelow}
 use Rattle.encoding.specs.Pieces.{piece, Bytes}
 use Rattle.bits.specs.Bits.{inSet}
-use Rattle.offsets.specs.Table.{trees, holds}
+use Rattle.offsets.specs.Table.{trees, firstTree, endTree, holds}
 use Rattle.pattern.specs.Means.{RankOf, PairOf}
 use Rattle.pattern.specs.Sender.{sentFirst, sentCount}
 use Rattle.records.specs.Shape.{faceCount}
@@ -67,6 +67,11 @@ pub record AtRecord (part old new : List ℕ) (p q count j : ℕ) : Type 0 where
 pub record AtTree (part old new : List ℕ) (p q count i : ℕ) : Type 0 where
   pub known : Known part old new p q count
   pub within : i < count
+
+-- the range of q under the new table
+pub record Receives (new : List ℕ) (q first end : ℕ) : Type 0 where
+  pub isFirst : first ≡ firstTree new q
+  pub isEnd : end ≡ endTree new q
 
 -- ---- the records of a part by their local index: trees first, then ghosts
 

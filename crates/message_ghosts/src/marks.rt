@@ -5,14 +5,14 @@ ghost use lib.ListN.{length, replicate};
 ghost use Rattle.records.specs.Shape.{faceCount};
 ghost use Rattle.records.specs.Record.{shapeOf};
 ghost use Rattle.part.specs.Part.{partFirst, partCore};
-ghost use Rattle.message_ghosts.specs.Means.{Room, Marks, Added, SendingRange, AtTree, goesAcross, goesBeside};
+ghost use Rattle.message_ghosts.specs.Means.{Room, Marks, Added, SendingRange, AtTree, Receives, goesAcross, goesBeside};
 use crate::read::number_at;
 use crate::rule::goes;
 use records::index::GlobalIndex;
 use records::index::LocalIndex;
 use records::index::to_local;
 
-// Marks what is across a face of a tree, if it goes.
+// Marks what is across a face of a tree, if it goes: not if it is from `first` to before `end`, q's new range, as most are.
 fn mark_face(
     part: &[u8],
     old: &[u8],
@@ -21,16 +21,22 @@ fn mark_face(
     q: usize,
     count: u32,
     low: u32,
+    first: u64,
+    end: u64,
     tree: LocalIndex,
     face: u32,
     marks: &mut [u64],
 )
-    requires { ⌜ AtTree (now part) (now old) (now new) p q count (tree .0) × (face < faceCount (shapeOf (partCore (now part) (partFirst (now part) + tree .0)))) × Room (now old) (now marks) ⌝ }
+    requires { ⌜ AtTree (now part) (now old) (now new) p q count (tree .0) × Receives (now new) q first end × (face < faceCount (shapeOf (partCore (now part) (partFirst (now part) + tree .0)))) × Room (now old) (now marks) ⌝ }
     ensures { λ u. ⌜ Added (now (marks .entry)) (now (marks .exit)) (goesAcross (now (part .entry)) (now (old .entry)) (now (new .entry)) p q low (partFirst (now (part .entry)) + tree .0) face) ⌝ }
 {
     let j = records::read::neighbour_of(part, part::layout::tree_at(tree), face);
     let number = number_at(part, count, LocalIndex(j));
     let k = number.0;
+    let h = k as u64;
+    if (first <= h) & (h < end) {
+        return;
+    }
     if goes(
         part,
         old,
@@ -55,10 +61,12 @@ fn mark_tree(
     q: usize,
     count: u32,
     low: u32,
+    first: u64,
+    end: u64,
     tree: LocalIndex,
     marks: &mut [u64],
 )
-    requires { ⌜ AtTree (now part) (now old) (now new) p q count (tree .0) × Room (now old) (now marks) ⌝ }
+    requires { ⌜ AtTree (now part) (now old) (now new) p q count (tree .0) × Receives (now new) q first end × Room (now old) (now marks) ⌝ }
     ensures { λ u. ⌜ Added (now (marks .entry)) (now (marks .exit)) (goesBeside (now (part .entry)) (now (old .entry)) (now (new .entry)) p q low (partFirst (now (part .entry)) + tree .0) (faceCount (shapeOf (partCore (now (part .entry)) (partFirst (now (part .entry)) + tree .0))))) ⌝ }
 {
     let i = tree.0;
@@ -76,6 +84,8 @@ fn mark_tree(
             q,
             count,
             low,
+            first,
+            end,
             LocalIndex(i),
             face,
             &mut *marks,
@@ -114,10 +124,25 @@ pub fn mark_ghosts(
     let to = q as usize;
     let own = part::layout::first_tree(part);
     let count = part::layout::tree_count(part);
+    let first = offsets::table::first_tree(new, to);
+    let end = offsets::table::end_tree(new, to);
     let mut i = 0;
     while i < n {
-        let tree = to_local(GlobalIndex(low + i), own);
-        mark_tree(part, old, new, from, to, count, low, tree, &mut *marks);
+        let k = low + i;
+        let tree = to_local(GlobalIndex(k), own);
+        mark_tree(
+            part,
+            old,
+            new,
+            from,
+            to,
+            count,
+            low,
+            first,
+            end,
+            tree,
+            &mut *marks,
+        );
         i += 1;
     }
 }

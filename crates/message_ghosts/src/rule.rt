@@ -17,7 +17,7 @@ fn sent_before(old: &[u8], new: &[u8], q: usize, low: u32, tree: GlobalIndex) ->
     holds(new, q, h as u64) & (holds(old, q, h as u64) | (h < low))
 }
 
-// Whether a record with so many faces is beside such a tree.
+// Whether a record with so many faces is beside such a tree. All faces are asked: on meshes whose links lead far, an end at the first is often foretold wrongly.
 fn beside_before(
     part: &[u8],
     old: &[u8],
@@ -32,14 +32,13 @@ fn beside_before(
     ensures { λ r. ⌜ r ≡ besideBefore (now (part .entry)) (now (old .entry)) (now (new .entry)) q low (numberIn (now (part .entry)) count (local .0)) faces ⌝ }
 {
     let j = local.0;
+    let mut found = false;
     let mut face = 0;
     while face < faces {
-        if sent_before(old, new, q, low, across(part, count, LocalIndex(j), face)) {
-            return true;
-        }
+        found = found | sent_before(old, new, q, low, across(part, count, LocalIndex(j), face));
         face += 1;
     }
-    false
+    found
 }
 
 // Whether a record, with its number, goes: q hasn't it, and no other sender of a neighbour comes before p.

@@ -1,21 +1,18 @@
-use Rattle.message_ghosts.proofs.Reading.{neighbour-before}
+use Rattle.message_ghosts.proofs.Reading.{neighbour-before, beside-more, beside-end}
 use Rattle.message_ghosts.specs.Means.{numberIn, besideBefore}
-use Rattle.part.proofs.Ranges.{none-next, none-to}
-use Rattle.encoding.proofs.Below.{any-intro}
 use Rattle.encoding.specs.Below.{anyBelow}
 use native.Mathlib.Omega.{arith}
-use mathlib.Core.Bool.{false}
-use mathlib.Core.Path.{_≡_, refl, sym, _∙_}
+use mathlib.Core.Path.{_≡_, refl}
 use Prim.Native.Nat.{_≤_, _-_}
 use borrow.Author.Needs.{needs}
 use Rattle.message_ghosts.proofs.rule.beside_before.Statement.{statement}
 use Rattle.message_ghosts.proofs.rule.beside_before.Tie as tie
 
 abbrev Inv-loop : tie.InvT-loop
-Inv-loop part old new q count low faces j face₀ face = (face ≤ faces) × (besideBefore part old new q low (numberIn part count j) face ≡ false)
+Inv-loop part old new q count low faces j found₀ face₀ found face = (face ≤ faces) × (found ≡ besideBefore part old new q low (numberIn part count j) face)
 
 abbrev μ-loop : tie.MeasureT-loop
-μ-loop part old new q count low faces j face₀ face = faces - face
+μ-loop part old new q count low faces j found₀ face₀ found face = faces - face
 
 loop-holds : tie.Need-loop-holds Inv-loop μ-loop
 unfolding besideBefore anyBelow
@@ -27,15 +24,6 @@ across-requires c κs = c .before .before .before .before .before .pre .there _ 
 sent-before-requires : tie.Need-sent-before-requires Inv-loop μ-loop
 sent-before-requires c κs = c .before .before .before .before .before .before .pre .receiver
 
-returns : tie.Need-returns Inv-loop μ-loop
-unfolding besideBefore
-returns c =
-    let loop-test = c .before .before .before .loop-test in
-    let pre = c .before .before .before .before .before .before .before .before .pre in
-    let across = c .before .before .across in
-    let sent-before = c .before .sent-before in
-    sym (any-intro _ _ _ (loop-test .taken) (neighbour-before _ _ _ _ _ _ _ _ _ pre (loop-test .taken) (across .ensures) (sent-before .ensures) ∙ c .if1 .taken))
-
 add-face : tie.Need-add-face Inv-loop μ-loop
 add-face c = search needs
 
@@ -43,18 +31,15 @@ loop-less : tie.Need-loop-less Inv-loop μ-loop
 loop-less c = search needs
 
 loop-again : tie.Need-loop-again Inv-loop μ-loop
-unfolding besideBefore
 loop-again c =
-    let loop = c .before .before .before .before .loop in
-    let pre = c .before .before .before .before .before .before .before .before .pre in
-    let loop-test = c .before .before .before .loop-test in
-    let across = c .before .before .across in
-    let sent-before = c .before .sent-before in
-    (omega arith, none-next _ _ (loop .inv .1) (neighbour-before _ _ _ _ _ _ _ _ _ pre (loop-test .taken) (across .ensures) (sent-before .ensures) ∙ c .if1 .left))
+    let loop = c .before .before .before .loop in
+    let pre = c .before .before .before .before .before .before .before .pre in
+    let loop-test = c .before .before .loop-test in
+    let across = c .before .across in
+    (omega arith, beside-more _ _ _ _ _ _ _ (loop .inv .1) (neighbour-before _ _ _ _ _ _ _ _ _ pre (loop-test .taken) (across .ensures) (c .sent-before .ensures)))
 
-returns-2 : tie.Need-returns-2 Inv-loop μ-loop
-unfolding besideBefore
-returns-2 c = none-to _ _ _ (c .before .loop .inv .0) (omega arith) (c .before .loop .inv .1)
+returns : tie.Need-returns Inv-loop μ-loop
+returns c = beside-end _ _ _ _ _ _ _ _ (c .before .loop .inv .0) (omega arith) (c .before .loop .inv .1)
 
 pub beside-before-spec : {M : Type 1} → statement M
 beside-before-spec =
@@ -65,8 +50,7 @@ beside-before-spec =
     loop-holds
     across-requires
     sent-before-requires
-    returns
     add-face
     loop-less
     loop-again
-    returns-2)
+    returns)

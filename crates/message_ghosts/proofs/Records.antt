@@ -22,7 +22,7 @@ use Rattle.part.specs.Layout.{treePlace, ghostPlace}
 use Rattle.part.specs.Part.{noTree, partDimension, partK, partFirst, partCount, partGhostCount, storedTree, storedGhost, globalNumber, globalTree, partHolds, partCore, partSound}
 use Rattle.part_theorems.proofs.Renamed.{renamed-number, renamed-shape, renamed-neighbour}
 use Rattle.part_theorems.proofs.SoundParts.{part-header, part-length, part-tree, part-number, part-held, part-core-tree, part-core-ghost, part-ghost-held, part-below}
-use Rattle.message_ghosts.specs.Means.{numberIn, Known, recordPlace, recordIn, acrossAt, AtFace}
+use Rattle.message_ghosts.specs.Means.{numberIn, Known, recordPlace, recordIn, acrossAt, AtFace, Numbered}
 
 -- a number that is read has 32 bits
 number-small : (r : List ℕ) → Bytes r → numberOf r < 4294967296
@@ -102,6 +102,11 @@ module _ (part old new : List ℕ) (p q count : ℕ) (k : Known part old new p q
   tree-number i h =
       tree-same i h ∙ sym (renamed-number (globalNumber part) (facesIn (partDimension part)) (storedTree part i) (stored-long i h))
       ∙ ap numberOf (sym (tree-core i h)) ∙ part-number part old p sound (first + i) (tree-held i h)
+
+  -- so they are numbered from the first on
+  pub numbered : {own : ℕ} → own ≡ partFirst part → Numbered part own count
+  numbered e =
+      record { number = λ i h. rw e (tree-number i h); small = λ i h. rw e (omega (arith, held-below (first + i) (tree-held i h) .1)) }
 
   -- ---- ghosts
 

@@ -92,6 +92,11 @@ module _ (part : List ℕ) (n : ℕ) where
   unfoldable pub acrossAt : ℕ → ℕ → ℕ
   acrossAt j f = cond {A = ℕ} (ltb j n) (numberIn (neighbourOf (recordIn j) f)) (neighbourOf (recordIn j) f)
 
+-- the trees are numbered from own on
+pub record Numbered (part : List ℕ) (own n : ℕ) : Type 0 where
+  pub number : (i : ℕ) → i < n → numberIn part n i ≡ own + i
+  pub small : (i : ℕ) → i < n → own + i < 4294967296
+
 -- the record is there, and so is the one that it stores the local index of
 pub record AtFace (part : List ℕ) (n j f : ℕ) : Type 0 where
   pub face : f < 6

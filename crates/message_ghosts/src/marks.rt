@@ -5,7 +5,7 @@ ghost use lib.ListN.{length, replicate};
 ghost use Rattle.records.specs.Shape.{faceCount};
 ghost use Rattle.records.specs.Record.{shapeOf};
 ghost use Rattle.part.specs.Part.{partFirst, partCore};
-ghost use Rattle.message_ghosts.specs.Means.{Room, Marks, Added, SendingRange, AtTree, Receives, goesAcross, goesBeside};
+ghost use Rattle.message_ghosts.specs.Means.{Room, Marks, Added, SendingRange, AtTree, Receives, Numbered, goesAcross, goesBeside};
 use crate::read::number_at;
 use crate::rule::goes;
 use records::index::GlobalIndex;
@@ -19,6 +19,7 @@ fn mark_face(
     new: &[u8],
     p: usize,
     q: usize,
+    own: u32,
     count: u32,
     low: u32,
     first: u64,
@@ -27,11 +28,11 @@ fn mark_face(
     face: u32,
     marks: &mut [u64],
 )
-    requires { ⌜ AtTree (now part) (now old) (now new) p q count (tree .0) × Receives (now new) q first end × (face < faceCount (shapeOf (partCore (now part) (partFirst (now part) + tree .0)))) × Room (now old) (now marks) ⌝ }
+    requires { ⌜ AtTree (now part) (now old) (now new) p q count (tree .0) × Receives (now new) q first end × (face < faceCount (shapeOf (partCore (now part) (partFirst (now part) + tree .0)))) × Room (now old) (now marks) × Numbered (now part) own count ⌝ }
     ensures { λ u. ⌜ Added (now (marks .entry)) (now (marks .exit)) (goesAcross (now (part .entry)) (now (old .entry)) (now (new .entry)) p q low (partFirst (now (part .entry)) + tree .0) face) ⌝ }
 {
     let j = records::read::neighbour_of(part, part::layout::tree_at(tree), face);
-    let number = number_at(part, count, LocalIndex(j));
+    let number = number_at(part, own, count, LocalIndex(j));
     let k = number.0;
     let h = k as u64;
     if (first <= h) & (h < end) {
@@ -43,6 +44,7 @@ fn mark_face(
         new,
         p,
         q,
+        own,
         count,
         low,
         LocalIndex(j),
@@ -59,6 +61,7 @@ fn mark_tree(
     new: &[u8],
     p: usize,
     q: usize,
+    own: u32,
     count: u32,
     low: u32,
     first: u64,
@@ -66,7 +69,7 @@ fn mark_tree(
     tree: LocalIndex,
     marks: &mut [u64],
 )
-    requires { ⌜ AtTree (now part) (now old) (now new) p q count (tree .0) × Receives (now new) q first end × Room (now old) (now marks) ⌝ }
+    requires { ⌜ AtTree (now part) (now old) (now new) p q count (tree .0) × Receives (now new) q first end × Room (now old) (now marks) × Numbered (now part) own count ⌝ }
     ensures { λ u. ⌜ Added (now (marks .entry)) (now (marks .exit)) (goesBeside (now (part .entry)) (now (old .entry)) (now (new .entry)) p q low (partFirst (now (part .entry)) + tree .0) (faceCount (shapeOf (partCore (now (part .entry)) (partFirst (now (part .entry)) + tree .0))))) ⌝ }
 {
     let i = tree.0;
@@ -82,6 +85,7 @@ fn mark_tree(
             new,
             p,
             q,
+            own,
             count,
             low,
             first,
@@ -136,6 +140,7 @@ pub fn mark_ghosts(
             new,
             from,
             to,
+            own.0,
             count,
             low,
             first,

@@ -5,7 +5,7 @@ ghost use mathlib.Core.Path.{_≡_};
 ghost use Prim.Native.Nat.{_+_, _≤_};
 ghost use lib.ListN.{length};
 ghost use Rattle.records.specs.Record.{coreSize};
-ghost use Rattle.message_ghosts.specs.Means.{numberIn, recordPlace, acrossAt, AtFace};
+ghost use Rattle.message_ghosts.specs.Means.{numberIn, recordPlace, acrossAt, AtFace, Numbered};
 
 // Where a record of a part with `count` trees begins.
 pub fn record_at(count: u32, local: LocalIndex) -> usize
@@ -18,23 +18,28 @@ pub fn record_at(count: u32, local: LocalIndex) -> usize
     part::layout::ghost_at(count, j - count)
 }
 
-// Its number.
-pub fn number_at(part: &[u8], count: u32, local: LocalIndex) -> GlobalIndex
-    requires { ⌜ recordPlace count (local .0) + coreSize ≤ length (now part) ⌝ }
+// Its number: the trees are numbered from `own` on.
+pub fn number_at(part: &[u8], own: u32, count: u32, local: LocalIndex) -> GlobalIndex
+    requires { ⌜ (recordPlace count (local .0) + coreSize ≤ length (now part)) × Numbered (now part) own count ⌝ }
     ensures { λ r. ⌜ r .0 ≡ numberIn (now (part .entry)) count (local .0) ⌝ }
 {
-    GlobalIndex(records::read::number_of(part, record_at(count, local)))
+    let j = local.0;
+    if j < count {
+        let k = own + j;
+        return GlobalIndex(k);
+    }
+    GlobalIndex(records::read::number_of(part, record_at(count, LocalIndex(j))))
 }
 
 // The number of the neighbour across a face: a tree stores a local index, a ghost the number.
-pub fn across(part: &[u8], count: u32, local: LocalIndex, face: u32) -> GlobalIndex
-    requires { ⌜ AtFace (now part) count (local .0) face ⌝ }
+pub fn across(part: &[u8], own: u32, count: u32, local: LocalIndex, face: u32) -> GlobalIndex
+    requires { ⌜ AtFace (now part) count (local .0) face × Numbered (now part) own count ⌝ }
     ensures { λ r. ⌜ r .0 ≡ acrossAt (now (part .entry)) count (local .0) face ⌝ }
 {
     let j = local.0;
     let next = records::read::neighbour_of(part, record_at(count, LocalIndex(j)), face);
     if j < count {
-        return number_at(part, count, LocalIndex(next));
+        return number_at(part, own, count, LocalIndex(next));
     }
     GlobalIndex(next)
 }

@@ -6,7 +6,7 @@ use records::index::GlobalIndex;
 use records::index::LocalIndex;
 ghost use mathlib.Core.Path.{_≡_};
 ghost use Rattle.pattern.specs.Means.{RankOf};
-ghost use Rattle.message_ghosts.specs.Means.{numberIn, AtRecord, Beside, sentBefore, besideBefore, goes as goesTo};
+ghost use Rattle.message_ghosts.specs.Means.{numberIn, AtRecord, Beside, Numbered, sentBefore, besideBefore, goes as goesTo};
 
 // Whether q gets the tree from itself or from a rank below the one whose first tree for q is `low`: to one rank, the sender never falls from tree to tree.
 fn sent_before(old: &[u8], new: &[u8], q: usize, low: u32, tree: GlobalIndex) -> bool
@@ -23,19 +23,27 @@ fn beside_before(
     old: &[u8],
     new: &[u8],
     q: usize,
+    own: u32,
     count: u32,
     low: u32,
     local: LocalIndex,
     faces: u32,
 ) -> bool
-    requires { ⌜ Beside (now part) (now old) (now new) q count (local .0) faces ⌝ }
+    requires { ⌜ Beside (now part) (now old) (now new) q count (local .0) faces × Numbered (now part) own count ⌝ }
     ensures { λ r. ⌜ r ≡ besideBefore (now (part .entry)) (now (old .entry)) (now (new .entry)) q low (numberIn (now (part .entry)) count (local .0)) faces ⌝ }
 {
     let j = local.0;
     let mut found = false;
     let mut face = 0;
     while face < faces {
-        found = found | sent_before(old, new, q, low, across(part, count, LocalIndex(j), face));
+        found = found
+            | sent_before(
+                old,
+                new,
+                q,
+                low,
+                across(part, own, count, LocalIndex(j), face),
+            );
         face += 1;
     }
     found
@@ -48,12 +56,13 @@ pub fn goes(
     new: &[u8],
     p: usize,
     q: usize,
+    own: u32,
     count: u32,
     low: u32,
     local: LocalIndex,
     number: GlobalIndex,
 ) -> bool
-    requires { ⌜ AtRecord (now part) (now old) (now new) p q count (local .0) × (number .0 ≡ numberIn (now part) count (local .0)) ⌝ }
+    requires { ⌜ AtRecord (now part) (now old) (now new) p q count (local .0) × (number .0 ≡ numberIn (now part) count (local .0)) × Numbered (now part) own count ⌝ }
     ensures { λ r. ⌜ r ≡ goesTo (now (part .entry)) (now (old .entry)) (now (new .entry)) p q low (number .0) ⌝ }
 {
     let j = local.0;
@@ -68,5 +77,5 @@ pub fn goes(
         part,
         record_at(count, LocalIndex(j)),
     ));
-    !beside_before(part, old, new, q, count, low, LocalIndex(j), faces)
+    !beside_before(part, old, new, q, own, count, low, LocalIndex(j), faces)
 }

@@ -17,7 +17,7 @@ number-at-requires : tie.Need-number-at-requires
 number-at-requires c κs =
     let pre = c .before .before .before .before .before .before .pre in
     let tree-at = c .before .tree-at in
-    across-fits _ _ _ _ _ _ _ (pre .0) _ (pre .2) _ _ (tree-at .ensures) (c .neighbour-of .ensures)
+    (across-fits _ _ _ _ _ _ _ (pre .0) _ (pre .2) _ _ (tree-at .ensures) (c .neighbour-of .ensures), pre .4)
 
 cast-h : tie.Need-cast-h
 cast-h c = search needs
@@ -36,7 +36,7 @@ goes-requires c κs =
     let tree-at = c .before .before .before .tree-at in
     let neighbour-of = c .before .before .neighbour-of in
     let number-at = c .before .number-at in
-    (across-record _ _ _ _ _ _ _ (pre .0) _ (pre .2) _ _ (tree-at .ensures) (neighbour-of .ensures), number-at .ensures)
+    (across-record _ _ _ _ _ _ _ (pre .0) _ (pre .2) _ _ (tree-at .ensures) (neighbour-of .ensures), number-at .ensures, pre .4)
 
 add-member-requires : tie.Need-add-member-requires
 add-member-requires c κs =

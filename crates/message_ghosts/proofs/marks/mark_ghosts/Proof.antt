@@ -4,6 +4,7 @@ use mathlib.Core.Path.{_∙_}
 use native.Mathlib.Omega.{arith}
 use Prim.Native.Nat.{_-_, _≤_}
 use Rattle.pattern.proofs.Laws.{receiver-new-row}
+use Rattle.message_ghosts.proofs.Records.{numbered}
 use borrow.Author.Needs.{needs}
 use Rattle.message_ghosts.proofs.marks.mark_ghosts.Statement.{statement}
 use Rattle.message_ghosts.proofs.marks.mark_ghosts.Tie as tie
@@ -58,7 +59,8 @@ mark-tree-requires c κs =
     let first-tree2 = c .before .before .before .before .before .first-tree2 in
     let end-tree = c .before .before .before .before .end-tree in
     let marks = c .before .before .before .before .before .before .before .before .before .marks in
-    (sent-tree _ _ _ _ _ (pre .0 .sending) _ _ _ _ (first-tree .ensures) (tree-count .ensures) (pre .0 .begins) (pre .0 .many) _ (loop-test .taken) _ (to-local .ensures) (λ i. shared-slice-known .given i .fits), record { isFirst = first-tree2 .ensures; isEnd = end-tree .ensures }, room-kept (pre .1) (loop .inv .1 .same-length ∙ marks .given))
+    let sent = sent-tree _ _ _ _ _ (pre .0 .sending) _ _ _ _ (first-tree .ensures) (tree-count .ensures) (pre .0 .begins) (pre .0 .many) _ (loop-test .taken) _ (to-local .ensures) (λ i. shared-slice-known .given i .fits) in
+    (sent, record { isFirst = first-tree2 .ensures; isEnd = end-tree .ensures }, room-kept (pre .1) (loop .inv .1 .same-length ∙ marks .given), numbered _ _ _ _ _ _ (sent .known) (first-tree .ensures))
 
 add-i : tie.Need-add-i Inv-loop μ-loop
 add-i c = search needs

@@ -8,10 +8,10 @@ use Rattle.message_ghosts.proofs.marks.mark_tree.Statement.{statement}
 use Rattle.message_ghosts.proofs.marks.mark_tree.Tie as tie
 
 abbrev Inv-loop : tie.InvT-loop
-Inv-loop part old new p q count low first end marks₀ i faces face₀ marks face = (face ≤ faces) × Added marks₀ marks (goesBeside part old new p q low (partFirst part + i) face)
+Inv-loop part old new p q own count low first end marks₀ i faces face₀ marks face = (face ≤ faces) × Added marks₀ marks (goesBeside part old new p q low (partFirst part + i) face)
 
 abbrev μ-loop : tie.MeasureT-loop
-μ-loop part old new p q count low first end marks₀ i faces face₀ marks face = faces - face
+μ-loop part old new p q own count low first end marks₀ i faces face₀ marks face = faces - face
 
 tree-at-requires : tie.Need-tree-at-requires Inv-loop μ-loop
 tree-at-requires c κs = search needs
@@ -33,7 +33,7 @@ mark-face-requires c κs =
     let face-count = c .before .before .before .face-count in
     let loop-test = c .before .loop-test in
     let loop = c .before .before .loop in
-    (pre .0, pre .1, face-under _ _ _ (faces-tree _ _ _ _ _ _ _ (pre .0) _ _ _ (tree-at .ensures) (shape-of .ensures) (face-count .ensures .0)) (loop-test .taken), room-kept (pre .2) (loop .inv .1 .same-length))
+    (pre .0, pre .1, face-under _ _ _ (faces-tree _ _ _ _ _ _ _ (pre .0) _ _ _ (tree-at .ensures) (shape-of .ensures) (face-count .ensures .0)) (loop-test .taken), room-kept (pre .2) (loop .inv .1 .same-length), pre .3)
 
 add-face : tie.Need-add-face Inv-loop μ-loop
 add-face c = search needs

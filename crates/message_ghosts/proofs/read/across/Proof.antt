@@ -14,7 +14,7 @@ number-at-requires c κs =
     let record-at = c .before .before .record-at in
     let neighbour-of = c .before .neighbour-of in
     let pre = c .before .before .before .before .pre in
-    next-fits _ _ _ _ (record-at .ensures) _ _ (neighbour-of .ensures) pre (c .if1 .taken)
+    (next-fits _ _ _ _ (record-at .ensures) _ _ (neighbour-of .ensures) (pre .0) (c .if1 .taken), pre .1)
 
 returns : tie.Need-returns
 returns c =

@@ -9,20 +9,20 @@ use Rattle.message_ghosts.proofs.rule.beside_before.Statement.{statemen
 use Rattle.message_ghosts.proofs.rule.beside_before.Tie as tie
 
 abbrev Inv-loop : tie.InvT-loop
-Inv-loop part old new q count low faces j found₀ face₀ found face = (face ≤ faces) × (found ≡ besideBefore part old new q low (numberIn part count j) face)
+Inv-loop part old new q own count low faces j found₀ face₀ found face = (face ≤ faces) × (found ≡ besideBefore part old new q low (numberIn part count j) face)
 
 abbrev μ-loop : tie.MeasureT-loop
-μ-loop part old new q count low faces j found₀ face₀ found face = faces - face
+μ-loop part old new q own count low faces j found₀ face₀ found face = faces - face
 
 loop-holds : tie.Need-loop-holds Inv-loop μ-loop
 unfolding besideBefore anyBelow
 loop-holds c = (omega arith, refl)
 
 across-requires : tie.Need-across-requires Inv-loop μ-loop
-across-requires c κs = c .before .before .before .before .before .pre .there _ (c .loop-test .taken)
+across-requires c κs = (c .before .before .before .before .before .pre .0 .there _ (c .loop-test .taken), c .before .before .before .before .before .pre .1)
 
 sent-before-requires : tie.Need-sent-before-requires Inv-loop μ-loop
-sent-before-requires c κs = c .before .before .before .before .before .before .pre .receiver
+sent-before-requires c κs = c .before .before .before .before .before .before .pre .0 .receiver
 
 add-face : tie.Need-add-face Inv-loop μ-loop
 add-face c = search needs
@@ -36,7 +36,7 @@ loop-again c =
     let pre = c .before .before .before .before .before .before .before .pre in
     let loop-test = c .before .before .loop-test in
     let across = c .before .across in
-    (omega arith, beside-more _ _ _ _ _ _ _ (loop .inv .1) (neighbour-before _ _ _ _ _ _ _ _ _ pre (loop-test .taken) (across .ensures) (c .sent-before .ensures)))
+    (omega arith, beside-more _ _ _ _ _ _ _ (loop .inv .1) (neighbour-before _ _ _ _ _ _ _ _ _ (pre .0) (loop-test .taken) (across .ensures) (c .sent-before .ensures)))
 
 returns : tie.Need-returns Inv-loop μ-loop
 returns c = beside-end _ _ _ _ _ _ _ _ (c .before .loop .inv .0) (omega arith) (c .before .loop .inv .1)

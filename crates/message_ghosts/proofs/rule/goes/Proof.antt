@@ -39,7 +39,7 @@ beside-before-requires c κs =
     let pre = c .before .before .before .before .before .before .before .before .before .pre in
     let record-at = c .before .before .record-at in
     let shape-of = c .before .shape-of in
-    beside-known _ _ _ _ _ _ _ (pre .0) _ (faces-read _ _ _ _ _ _ _ (pre .0) _ _ _ (record-at .ensures) (shape-of .ensures) (c .face-count .ensures .0))
+    (beside-known _ _ _ _ _ _ _ (pre .0) _ (faces-read _ _ _ _ _ _ _ (pre .0) _ _ _ (record-at .ensures) (shape-of .ensures) (c .face-count .ensures .0)), pre .2)
 
 returns-3 : tie.Need-returns-3
 unfolding goes

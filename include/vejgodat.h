@@ -864,8 +864,8 @@ uint32_t            vejgodat_corners (uint32_t shape, uint32_t face)
  *
  * Checks: \ref VEJGODAT_MESH (7) if the mesh isn't sound, for whatever reason;
  * a length that isn't 8 + 64 K for the K at its beginning is one.
- * Cost: one pass over the records, which looks for each face at its neighbour:
- * O(F K). Constant where dimension, K or length is wrong.
+ * Cost: one pass over the records, which looks for each link at the neighbour
+ * from one of its ends: O(F K). Constant where dimension, K or length is wrong.
  *
  * \param [in] mesh       Any bytes. Not changed.
  * \param [in] mesh_len   The number of bytes.
@@ -1195,8 +1195,8 @@ uint32_t            vejgodat_check_message (const uint8_t * message,
  * isn't sound for the old table and the sender; \ref VEJGODAT_NOTHING (9) if the
  * sender sends the receiver no tree.
  * Cost: O(P) for the check of the tables and that of \ref vejgodat_check_part;
- * then the trees sent and their neighbours, whose ghosts are searched by halves,
- * and one pass over a set of 128 KiB on the stack.
+ * then the trees sent and their neighbours, and one pass over a set of 128 KiB
+ * on the stack.
  *
  * \param [in] part       The part of \a sender under the old table; any bytes.
  *                        Not changed.
@@ -1398,8 +1398,9 @@ vejgodat_length     vejgodat_open_area (const uint8_t * old_table,
  * those due from the sender; \ref VEJGODAT_GHOSTS (17) if one of its ghosts is
  * in f'(q) or across no face of its trees; \ref VEJGODAT_HELD (18) if one of its
  * ghosts is held already. There is always a slot for each ghost.
- * Cost: one pass over area and message, a search by halves for each ghost of the
- * message, and a set of 128 KiB on the stack.
+ * Cost: one pass over area and message, and for each ghost of the message a
+ * search by halves or, where they are many, a look into a set of those held; sets
+ * of trees are on the stack, of 8 KiB or 128 KiB.
  *
  * \param [in,out] area    An area; any bytes. When refused, all of them stay;
  *                         those behind the area always do.
@@ -1425,9 +1426,10 @@ uint32_t            vejgodat_deliver (uint8_t * area, size_t area_len,
  * \ref VEJGODAT_BUFFER (22) if \a answers_len is below the number of messages,
  * or there are more of these than a uint32_t can tell. What is wrong with a
  * single message is no refusal of the call, but stands in \a answers.
- * Cost: one pass over area and messages, a search by halves for each ghost that
- * comes, the ghosts held above it moved, and a set of 128 KiB on the stack,
- * cleared for each message.
+ * Cost: one pass over area and messages, for each ghost that comes a search by
+ * halves or, where a message has many, a look into a set of those held, and the
+ * ghosts held above it moved; sets of trees on the stack, of 8 KiB or 128 KiB,
+ * are cleared for each message.
  *
  * \param [in,out] area     An area; any bytes. When refused, all of them stay;
  *                          those behind the area always do.
@@ -1790,7 +1792,8 @@ vejgodat_fault      vejgodat_table_fault (const uint8_t * table,
  * to 16 that holds there. Each face is read by the shape of its own record.
  *
  * Checks: none.
- * Cost: that of \ref vejgodat_check_mesh as far as the fault.
+ * Cost: one pass over the records as far as the fault, which looks for each face
+ * at its neighbour.
  *
  * \param [in] mesh       Any bytes. Not changed.
  * \param [in] mesh_len   The number of its bytes.

@@ -13,7 +13,10 @@ returns : tie.Need-returns
 returns c = close-refused _ _ (early-refused _ (c .before .early-refusal .ensures) (c .if1 .taken)) (c .if1 .taken)
 
 trees-requires : tie.Need-trees-requires
-trees-requires c κs = omega (arith, complete _ (c .before .early-refusal .ensures) (λ i. c .before .before .before .shared-slice-known .given i .fits) (c .if1 .left) .header .long)
+trees-requires c κs =
+    let early-refusal = c .before .early-refusal in
+    let shared-slice-known = c .before .before .before .shared-slice-known in
+    omega (arith, complete _ (early-refusal .ensures) (λ i. shared-slice-known .given i .fits) (c .if1 .left) .header .long)
 
 slice-aggregate-close-by : tie.Need-slice-aggregate-close-by
 slice-aggregate-close-by c = search needs
@@ -22,7 +25,12 @@ slice-aggregate-close-by-2 : tie.Need-slice-aggregate-close-by-2
 slice-aggregate-close-by-2 c = search needs
 
 close-by-requires : tie.Need-close-by-requires
-close-by-requires c κs = (complete _ (c .before .before .before .before .before .before .early-refusal .ensures) (λ i. c .before .before .before .before .before .before .before .before .shared-slice-known .given i .fits) (c .before .before .before .before .before .if1 .left), omega (arith, c .before .before .before .before .trees .ensures), blank 1024 (omega arith))
+close-by-requires c κs =
+    let early-refusal = c .before .before .before .before .before .before .early-refusal in
+    let shared-slice-known = c .before .before .before .before .before .before .before .before .shared-slice-known in
+    let if1 = c .before .before .before .before .before .if1 in
+    let trees = c .before .before .before .before .trees in
+    (complete _ (early-refusal .ensures) (λ i. shared-slice-known .given i .fits) (if1 .left), omega (arith, trees .ensures), blank 1024 (omega arith))
 
 same-length : tie.Need-same-length
 same-length c = search needs
@@ -31,7 +39,11 @@ returns-2 : tie.Need-returns-2
 returns-2 c = search needs
 
 close-many-requires : tie.Need-close-many-requires
-close-many-requires c κs = complete _ (c .before .before .before .before .early-refusal .ensures) (λ i. c .before .before .before .before .before .before .shared-slice-known .given i .fits) (c .before .before .before .if1 .left)
+close-many-requires c κs =
+    let early-refusal = c .before .before .before .before .early-refusal in
+    let shared-slice-known = c .before .before .before .before .before .before .shared-slice-known in
+    let if1 = c .before .before .before .if1 in
+    complete _ (early-refusal .ensures) (λ i. shared-slice-known .given i .fits) (if1 .left)
 
 same-length-2 : tie.Need-same-length-2
 same-length-2 c = search needs

@@ -23,13 +23,30 @@ loop-holds : tie.Need-loop-holds Inv-loop μ-loop
 loop-holds c = ranges-start (c .before .before .before .before .before .pre) (c .before .rank .ensures) (c .window-of .ensures .0)
 
 range-sound-requires : tie.Need-range-sound-requires Inv-loop μ-loop
-range-sound-requires c κs = (c .before .before .before .before .before .before .before .pre, omega (arith, window-within (c .before .before .before .before .before .before .before .pre) (c .before .before .before .rank .ensures) (c .before .before .window-of .ensures .0)))
+range-sound-requires c κs =
+    let pre = c .before .before .before .before .before .before .before .pre in
+    let rank = c .before .before .before .rank in
+    let window-of = c .before .before .window-of in
+    (pre, omega (arith, window-within pre (rank .ensures) (window-of .ensures .0)))
 
 returns : tie.Need-returns Inv-loop μ-loop
-returns c = ranges-fail (c .before .before .before .before .before .before .before .before .before .before .pre) (c .before .before .before .before .before .before .rank .ensures) (c .before .before .before .before .before .window-of .ensures .0) (c .before .before .before .loop-test .taken) (c .before .before .range-sound .ensures .0) (not-true _ (c .if1 .taken))
+returns c =
+    let pre = c .before .before .before .before .before .before .before .before .before .before .pre in
+    let rank = c .before .before .before .before .before .before .rank in
+    let window-of = c .before .before .before .before .before .window-of in
+    let loop-test = c .before .before .before .loop-test in
+    let range-sound = c .before .before .range-sound in
+    ranges-fail pre (rank .ensures) (window-of .ensures .0) (loop-test .taken) (range-sound .ensures .0) (not-true _ (c .if1 .taken))
 
 add-filled : tie.Need-add-filled Inv-loop μ-loop
-add-filled c = omega (arith, ranges-fit (c .before .before .before .before .before .before .before .before .before .before .before .pre) (c .before .before .before .before .before .before .before .rank .ensures) (c .before .before .before .before .before .before .window-of .ensures .0) (c .before .before .before .before .before .loop .inv) (c .before .before .before .before .loop-test .taken) (c .before .before .before .range-sound .ensures .1))
+add-filled c =
+    let pre = c .before .before .before .before .before .before .before .before .before .before .before .pre in
+    let rank = c .before .before .before .before .before .before .before .rank in
+    let window-of = c .before .before .before .before .before .before .window-of in
+    let loop = c .before .before .before .before .before .loop in
+    let loop-test = c .before .before .before .before .loop-test in
+    let range-sound = c .before .before .before .range-sound in
+    omega (arith, ranges-fit pre (rank .ensures) (window-of .ensures .0) (loop .inv) (loop-test .taken) (range-sound .ensures .1))
 
 add-s : tie.Need-add-s Inv-loop μ-loop
 add-s c = search needs
@@ -38,7 +55,12 @@ loop-less : tie.Need-loop-less Inv-loop μ-loop
 loop-less c = search needs
 
 loop-again : tie.Need-loop-again Inv-loop μ-loop
-loop-again c = ranges-step _ (c .before .before .before .before .before .loop .inv) (c .before .before .before .before .loop-test .taken) (c .before .before .before .range-sound .ensures .0) (c .before .before .before .range-sound .ensures .1) (not-false _ (c .before .if1 .left))
+loop-again c =
+    let loop = c .before .before .before .before .before .loop in
+    let loop-test = c .before .before .before .before .loop-test in
+    let range-sound = c .before .before .before .range-sound in
+    let if1 = c .before .if1 in
+    ranges-step _ (loop .inv) (loop-test .taken) (range-sound .ensures .0) (range-sound .ensures .1) (not-false _ (if1 .left))
 
 ghosts-requires : tie.Need-ghosts-requires Inv-loop μ-loop
 ghosts-requires c κs = search needs
@@ -53,7 +75,15 @@ ghost-bound-requires : tie.Need-ghost-bound-requires Inv-loop μ-loop
 ghost-bound-requires c κs = search needs
 
 returns-2 : tie.Need-returns-2 Inv-loop μ-loop
-returns-2 c = ranges-read (c .before .before .before .before .before .before .before .before .before .before .pre) (c .before .before .before .before .before .before .rank .ensures) (c .before .before .before .before .before .window-of .ensures .0) (c .before .before .before .before .loop .inv) (c .before .before .before .loop-test .left) (c .before .before .ghosts .ensures) (c .before .dimension .ensures) (c .ghost-bound .ensures .0)
+returns-2 c =
+    let pre = c .before .before .before .before .before .before .before .before .before .before .pre in
+    let rank = c .before .before .before .before .before .before .rank in
+    let window-of = c .before .before .before .before .before .window-of in
+    let loop = c .before .before .before .before .loop in
+    let loop-test = c .before .before .before .loop-test in
+    let ghosts = c .before .before .ghosts in
+    let dimension = c .before .dimension in
+    ranges-read pre (rank .ensures) (window-of .ensures .0) (loop .inv) (loop-test .left) (ghosts .ensures) (dimension .ensures) (c .ghost-bound .ensures .0)
 
 pub ranges-sound-spec : {M : Type 1} → statement M
 ranges-sound-spec =

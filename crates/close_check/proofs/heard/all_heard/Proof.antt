@@ -26,13 +26,26 @@ window-of-requires : tie.Need-window-of-requires Inv-loop μ-loop
 window-of-requires c κs = tabled-rank (c .before .before .before .before .pre) (c .rank .ensures)
 
 loop-holds : tie.Need-loop-holds Inv-loop μ-loop
-loop-holds c = (c .window-of .ensures .0 .ordered, heard-start (c .before .before .before .before .before .pre) (c .before .rank .ensures) (c .window-of .ensures .0))
+loop-holds c =
+    let pre = c .before .before .before .before .before .pre in
+    let rank = c .before .rank in
+    (c .window-of .ensures .0 .ordered, heard-start pre (rank .ensures) (c .window-of .ensures .0))
 
 sender-heard-requires : tie.Need-sender-heard-requires Inv-loop μ-loop
-sender-heard-requires c κs = (c .before .before .before .before .before .before .before .pre, omega (arith, window-within (c .before .before .before .before .before .before .before .pre) (c .before .before .before .rank .ensures) (c .before .before .window-of .ensures .0)))
+sender-heard-requires c κs =
+    let pre = c .before .before .before .before .before .before .before .pre in
+    let rank = c .before .before .before .rank in
+    let window-of = c .before .before .window-of in
+    (pre, omega (arith, window-within pre (rank .ensures) (window-of .ensures .0)))
 
 returns : tie.Need-returns Inv-loop μ-loop
-returns c = heard-fails (c .before .before .before .before .before .before .before .before .before .pre) (c .before .before .before .before .before .rank .ensures) (c .before .before .before .before .window-of .ensures .0) (c .before .before .loop-test .taken) (sym (c .before .sender-heard .ensures) ∙ not-true _ (c .if1 .taken))
+returns c =
+    let pre = c .before .before .before .before .before .before .before .before .before .pre in
+    let rank = c .before .before .before .before .before .rank in
+    let window-of = c .before .before .before .before .window-of in
+    let loop-test = c .before .before .loop-test in
+    let sender-heard = c .before .sender-heard in
+    heard-fails pre (rank .ensures) (window-of .ensures .0) (loop-test .taken) (sym (sender-heard .ensures) ∙ not-true _ (c .if1 .taken))
 
 add-s : tie.Need-add-s Inv-loop μ-loop
 add-s c = search needs
@@ -44,7 +57,12 @@ loop-again : tie.Need-loop-again Inv-loop μ-loop
 loop-again c = (omega arith, all-more _ _ (c .before .before .before .loop .inv .1) (sym (c .before .sender-heard .ensures) ∙ not-false _ (c .if1 .left)))
 
 returns-2 : tie.Need-returns-2 Inv-loop μ-loop
-returns-2 c = heard-passes (c .before .before .before .before .before .before .before .pre) (c .before .before .before .rank .ensures) (c .before .before .window-of .ensures .0) (c .before .loop .inv .0) (c .loop-test .left) (c .before .loop .inv .1)
+returns-2 c =
+    let pre = c .before .before .before .before .before .before .before .pre in
+    let rank = c .before .before .before .rank in
+    let window-of = c .before .before .window-of in
+    let loop = c .before .loop in
+    heard-passes pre (rank .ensures) (window-of .ensures .0) (loop .inv .0) (c .loop-test .left) (loop .inv .1)
 
 pub all-heard-spec : {M : Type 1} → statement M
 all-heard-spec =

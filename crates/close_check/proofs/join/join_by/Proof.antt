@@ -22,10 +22,26 @@ trees-requires : tie.Need-trees-requires
 trees-requires c κs = search needs
 
 records-join-requires : tie.Need-records-join-requires
-records-join-requires c κs = slots-by (λ i. c .before .before .before .before .before .before .before .before .shared-slice-known .given i .fits) (c .before .before .before .before .before .before .before .before .before .pre .0) (c .before .before .before .before .before .before .before .before .before .pre .1) (c .before .before .before .before .before .ranks .ensures) (c .before .before .before .before .slots-place .ensures .0) (c .before .before .before .count .ensures) (c .before .before .ghosts .ensures) (c .before .before .before .before .before .before .before .before .before .pre .2)
+records-join-requires c κs =
+    let shared-slice-known = c .before .before .before .before .before .before .before .before .shared-slice-known in
+    let pre = c .before .before .before .before .before .before .before .before .before .pre in
+    let ranks = c .before .before .before .before .before .ranks in
+    let slots-place = c .before .before .before .before .slots-place in
+    let count = c .before .before .before .count in
+    let ghosts = c .before .before .ghosts in
+    slots-by (λ i. shared-slice-known .given i .fits) (pre .0) (pre .1) (ranks .ensures) (slots-place .ensures .0) (count .ensures) (ghosts .ensures) (pre .2)
 
 returns : tie.Need-returns
-returns c = joined-by (λ i. c .before .before .before .before .before .before .before .before .before .shared-slice-known .given i .fits) (c .before .before .before .before .before .before .before .before .before .before .pre .0) (c .before .before .before .before .before .before .before .before .before .before .pre .1) (c .before .before .before .before .before .before .ranks .ensures) (c .before .before .before .before .before .slots-place .ensures .0) (c .before .before .before .before .count .ensures) (c .before .before .before .ghosts .ensures) (c .before .before .dimension .ensures) (c .before .trees .ensures) (c .records-join .ensures)
+returns c =
+    let shared-slice-known = c .before .before .before .before .before .before .before .before .before .shared-slice-known in
+    let pre = c .before .before .before .before .before .before .before .before .before .before .pre in
+    let ranks = c .before .before .before .before .before .before .ranks in
+    let slots-place = c .before .before .before .before .before .slots-place in
+    let count = c .before .before .before .before .count in
+    let ghosts = c .before .before .before .ghosts in
+    let dimension = c .before .before .dimension in
+    let trees = c .before .trees in
+    joined-by (λ i. shared-slice-known .given i .fits) (pre .0) (pre .1) (ranks .ensures) (slots-place .ensures .0) (count .ensures) (ghosts .ensures) (dimension .ensures) (trees .ensures) (c .records-join .ensures)
 
 pub join-by-spec : {M : Type 1} → statement M
 join-by-spec =

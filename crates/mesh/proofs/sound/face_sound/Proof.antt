@@ -22,11 +22,19 @@ tree-at-requires-2 c κs = search needs
 
 link-down-requires : tie.Need-link-down-requires
 link-down-requires c κs =
-    let low = listed-low _ _ (c .before .before .before .before .tree-at .ensures) _ _ (c .before .before .before .neighbour-of .ensures) (c .before .before .before .before .before .before .pre .3) in
-    (omega arith, omega arith, omega (arith, low))
+    let tree-at = c .before .before .before .before .tree-at in
+    let neighbour-of = c .before .before .before .neighbour-of in
+    let pre = c .before .before .before .before .before .before .pre in
+    let low = listed-low _ _ (tree-at .ensures) _ _ (neighbour-of .ensures) (pre .3) in (omega arith, omega arith, omega (arith, low))
 
 returns-2 : tie.Need-returns-2
-returns-2 c = down-read _ _ (c .before .before .before .before .before .tree-at .ensures) _ _ _ _ (c .before .before .before .before .neighbour-of .ensures) (c .before .tree-at2 .ensures) (c .before .before .before .boundary-ok .ensures) (not-false _ (c .before .before .if1 .left)) (c .link-down .ensures)
+returns-2 c =
+    let tree-at = c .before .before .before .before .before .tree-at in
+    let neighbour-of = c .before .before .before .before .neighbour-of in
+    let tree-at2 = c .before .tree-at2 in
+    let boundary-ok = c .before .before .before .boundary-ok in
+    let if1 = c .before .before .if1 in
+    down-read _ _ (tree-at .ensures) _ _ _ _ (neighbour-of .ensures) (tree-at2 .ensures) (boundary-ok .ensures) (not-false _ (if1 .left)) (c .link-down .ensures)
 
 pub face-sound-spec : {M : Type 1} → statement M
 face-sound-spec =

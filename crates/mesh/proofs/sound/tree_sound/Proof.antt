@@ -15,7 +15,11 @@ refused-requires : tie.Need-refused-requires
 refused-requires c κs = search needs
 
 returns : tie.Need-returns
-returns c = seen-refused (tree-not-alone _ _ _ _ (c .before .before .before .tree-at .ensures) (sym (c .before .before .alone .ensures) ∙ not-true _ (c .before .if1 .taken))) (c .refused .ensures)
+returns c =
+    let tree-at = c .before .before .before .tree-at in
+    let alone = c .before .before .alone in
+    let if1 = c .before .if1 in
+    seen-refused (tree-not-alone _ _ _ _ (tree-at .ensures) (sym (alone .ensures) ∙ not-true _ (if1 .taken))) (c .refused .ensures)
 
 shape-of-requires : tie.Need-shape-of-requires
 shape-of-requires c κs = search needs
@@ -31,16 +35,26 @@ refused-requires-2 c κs = search needs
 
 returns-2 : tie.Need-returns-2
 returns-2 c =
-    seen-refused
-    (tree-unused _ _ _ _ (c .before .before .before .before .before .before .before .tree-at .ensures) (c .before .before .before .before .shape-of .ensures) (c .before .before .before .face-count .ensures .0) (sym (c .before .before .unused-sound .ensures) ∙ not-true _ (c .before .if2 .taken)))
-    (c .refused2 .ensures)
+    let tree-at = c .before .before .before .before .before .before .before .tree-at in
+    let shape-of = c .before .before .before .before .shape-of in
+    let face-count = c .before .before .before .face-count in
+    let unused-sound = c .before .before .unused-sound in
+    let if2 = c .before .if2 in
+    seen-refused (tree-unused _ _ _ _ (tree-at .ensures) (shape-of .ensures) (face-count .ensures .0) (sym (unused-sound .ensures) ∙ not-true _ (if2 .taken))) (c .refused2 .ensures)
 
 faces-sound-requires : tie.Need-faces-sound-requires
 faces-sound-requires c κs = search needs
 
 returns-3 : tie.Need-returns-3
 returns-3 c =
-    tree-seen _ _ _ _ (c .before .before .before .before .before .before .before .tree-at .ensures) (c .before .before .before .before .shape-of .ensures) (c .before .before .before .face-count .ensures .0) (sym (c .before .before .before .before .before .before .alone .ensures) ∙ not-false _ (c .before .before .before .before .before .if1 .left)) (sym (c .before .before .unused-sound .ensures) ∙ not-false _ (c .before .if2 .left)) (c .faces-sound .ensures)
+    let tree-at = c .before .before .before .before .before .before .before .tree-at in
+    let shape-of = c .before .before .before .before .shape-of in
+    let face-count = c .before .before .before .face-count in
+    let alone = c .before .before .before .before .before .before .alone in
+    let if1 = c .before .before .before .before .before .if1 in
+    let unused-sound = c .before .before .unused-sound in
+    let if2 = c .before .if2 in
+    tree-seen _ _ _ _ (tree-at .ensures) (shape-of .ensures) (face-count .ensures .0) (sym (alone .ensures) ∙ not-false _ (if1 .left)) (sym (unused-sound .ensures) ∙ not-false _ (if2 .left)) (c .faces-sound .ensures)
 
 pub tree-sound-spec : {M : Type 1} → statement M
 tree-sound-spec =

@@ -15,7 +15,10 @@ slice-aggregate-make-2 : tie.Need-slice-aggregate-make-2
 slice-aggregate-make-2 c = search needs
 
 make-requires : tie.Need-make-requires
-make-requires c κs = (ghosts-numbered _ _ _ _ _ (c .before .before .before .before .pre) (c .before .before .ghost-at .ensures), omega (arith, c .before .before .before .before .pre .laid .most), blank 16384 (omega arith))
+make-requires c κs =
+    let pre = c .before .before .before .before .pre in
+    let ghost-at = c .before .before .ghost-at in
+    (ghosts-numbered _ _ _ _ _ pre (ghost-at .ensures), omega (arith, pre .laid .most), blank 16384 (omega arith))
 
 slice-aggregate-ghosts-sound : tie.Need-slice-aggregate-ghosts-sound
 slice-aggregate-ghosts-sound c = search needs
@@ -24,7 +27,11 @@ slice-aggregate-ghosts-sound-2 : tie.Need-slice-aggregate-ghosts-sound-2
 slice-aggregate-ghosts-sound-2 c = search needs
 
 ghosts-sound-requires : tie.Need-ghosts-sound-requires
-ghosts-sound-requires c κs = (c .before .before .before .before .before .before .before .before .before .pre, ghosts-indexed _ _ _ _ _ (c .before .before .before .before .before .before .before .before .before .pre) (c .before .before .before .before .before .before .before .ghost-at .ensures) (c .before .before .before .before .make .ensures))
+ghosts-sound-requires c κs =
+    let pre = c .before .before .before .before .before .before .before .before .before .pre in
+    let ghost-at = c .before .before .before .before .before .before .before .ghost-at in
+    let make = c .before .before .before .before .make in
+    (pre, ghosts-indexed _ _ _ _ _ pre (ghost-at .ensures) (make .ensures))
 
 returns : tie.Need-returns
 returns c = search needs

@@ -8,7 +8,6 @@ use lib.ListN.{length}
 use borrow.Author.Needs.{needs}
 use Rattle.part_cut.proofs.write.write_ghosts.Statement.{statement}
 use Rattle.part_cut.proofs.write.write_ghosts.Tie as tie
-use Rattle.encoding.proofs.record.copy40.Reads as copy40-reads
 
 abbrev Inv-loop : tie.InvT-loop
 Inv-loop mesh marks out₀ at end to₀ k₀ out to k = Going (meshCore mesh) (inSet marks) (64 * length marks) out₀ at to k out

@@ -37,19 +37,31 @@ ones-requires : tie.Need-ones-requires Inv-loop μ-loop
 ones-requires c κs = search needs
 
 add-total : tie.Need-add-total Inv-loop μ-loop
-add-total c = omega (arith, word-total _ _ _ _ (c .before .before .before .loop-test .taken) (c .before .before .before .before .loop .inv .1) (c .ones .ensures .0) .1, c .before .before .before .before .before .before .before .pre .few)
+add-total c =
+    let loop-test = c .before .before .before .loop-test in
+    let loop = c .before .before .before .before .loop in
+    let pre = c .before .before .before .before .before .before .before .pre in
+    omega (arith, word-total _ _ _ _ (loop-test .taken) (loop .inv .1) (c .ones .ensures .0) .1, pre .few)
 
 loop-less : tie.Need-loop-less Inv-loop μ-loop
 loop-less c = search needs
 
 loop-again : tie.Need-loop-again Inv-loop μ-loop
-loop-again c = (omega arith, word-total _ _ _ _ (c .before .before .before .loop-test .taken) (c .before .before .before .before .loop .inv .1) (c .ones .ensures .0) .0, counted-more _ _ _ (c .before .before .before .before .before .before .before .pre .room) (c .before .before .before .loop-test .taken) (c .before .before .before .before .loop .inv .0) (c .before .before .before .before .loop .inv .1) (c .before .before .before .before .loop .inv .2))
+loop-again c =
+    let loop-test = c .before .before .before .loop-test in
+    let loop = c .before .before .before .before .loop in
+    let pre = c .before .before .before .before .before .before .before .pre in
+    (omega arith, word-total _ _ _ _ (loop-test .taken) (loop .inv .1) (c .ones .ensures .0) .0, counted-more _ _ _ (pre .room) (loop-test .taken) (loop .inv .0) (loop .inv .1) (loop .inv .2))
 
 loop-less-2 : tie.Need-loop-less-2 Inv-loop μ-loop
 loop-less-2 c = search needs
 
 loop-again-2 : tie.Need-loop-again-2 Inv-loop μ-loop
-loop-again-2 c = (omega arith, word-none _ _ _ (c .before .before .loop-test .taken) (c .before .before .before .loop .inv .1) (omega arith), counted-more _ _ _ (c .before .before .before .before .before .before .pre .room) (c .before .before .loop-test .taken) (c .before .before .before .loop .inv .0) (c .before .before .before .loop .inv .1) (c .before .before .before .loop .inv .2))
+loop-again-2 c =
+    let loop-test = c .before .before .loop-test in
+    let loop = c .before .before .before .loop in
+    let pre = c .before .before .before .before .before .before .pre in
+    (omega arith, word-none _ _ _ (loop-test .taken) (loop .inv .1) (omega arith), counted-more _ _ _ (pre .room) (loop-test .taken) (loop .inv .0) (loop .inv .1) (loop .inv .2))
 
 same-length : tie.Need-same-length Inv-loop μ-loop
 same-length c = c .before .loop .inv .2 .same-length

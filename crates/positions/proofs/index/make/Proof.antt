@@ -15,7 +15,10 @@ cast-words : tie.Need-cast-words
 cast-words c = search needs
 
 count-behind-requires : tie.Need-count-behind-requires
-count-behind-requires c κs = make-countable (c .before .before .before .before .before .before .before .before .before .pre .0) (c .before .before .before .before .before .before .before .before .before .pre .1) (c .before .before .before .before .before .before .before .before .before .pre .2) (c .before .before .before .before .mark-numbers .ensures) refl
+count-behind-requires c κs =
+    let pre = c .before .before .before .before .before .before .before .before .before .pre in
+    let mark-numbers = c .before .before .before .before .mark-numbers in
+    make-countable (pre .0) (pre .1) (pre .2) (mark-numbers .ensures) refl
 
 same-length : tie.Need-same-length
 same-length c = search needs
@@ -24,7 +27,11 @@ same-length-2 : tie.Need-same-length-2
 same-length-2 c = search needs
 
 returns : tie.Need-returns
-returns c = made (c .before .before .before .before .before .before .before .before .before .before .before .before .pre .0) (c .before .before .before .before .before .before .before .before .before .before .before .before .pre .1) (c .before .before .before .before .before .before .before .before .before .before .before .before .pre .2) (c .before .before .before .before .before .before .before .mark-numbers .ensures) refl (c .before .before .count-behind .ensures .0)
+returns c =
+    let pre = c .before .before .before .before .before .before .before .before .before .before .before .before .pre in
+    let mark-numbers = c .before .before .before .before .before .before .before .mark-numbers in
+    let count-behind = c .before .before .count-behind in
+    made (pre .0) (pre .1) (pre .2) (mark-numbers .ensures) refl (count-behind .ensures .0)
 
 pub make-spec : {M : Type 1} → statement M
 make-spec =

@@ -28,7 +28,12 @@ read-u32-requires : tie.Need-read-u32-requires Inv-loop μ-loop
 read-u32-requires c κs = omega (arith, c .before .before .before .before .pre .fits)
 
 add-member-requires : tie.Need-add-member-requires Inv-loop μ-loop
-add-member-requires c κs = mark-low _ _ _ (c .before .before .before .before .before .before .pre) (c .before .before .loop-test .taken) (c .before .read-u32 .ensures) (c .before .before .before .loop .inv .1)
+add-member-requires c κs =
+    let pre = c .before .before .before .before .before .before .pre in
+    let loop-test = c .before .before .loop-test in
+    let read-u32 = c .before .read-u32 in
+    let loop = c .before .before .before .loop in
+    mark-low _ _ _ pre (loop-test .taken) (read-u32 .ensures) (loop .inv .1)
 
 add-i : tie.Need-add-i Inv-loop μ-loop
 add-i c = search needs
@@ -37,7 +42,13 @@ loop-less : tie.Need-loop-less Inv-loop μ-loop
 loop-less c = search needs
 
 loop-again : tie.Need-loop-again Inv-loop μ-loop
-loop-again c = (omega arith, mark-more _ _ _ (c .before .before .before .before .before .before .before .before .before .pre) (c .before .before .before .before .before .loop-test .taken) (c .before .before .before .before .read-u32 .ensures) (c .before .before .before .before .before .before .loop .inv .1) (c .before .before .add-member .ensures))
+loop-again c =
+    let pre = c .before .before .before .before .before .before .before .before .before .pre in
+    let loop-test = c .before .before .before .before .before .loop-test in
+    let read-u32 = c .before .before .before .before .read-u32 in
+    let loop = c .before .before .before .before .before .before .loop in
+    let add-member = c .before .before .add-member in
+    (omega arith, mark-more _ _ _ pre (loop-test .taken) (read-u32 .ensures) (loop .inv .1) (add-member .ensures))
 
 same-length : tie.Need-same-length Inv-loop μ-loop
 same-length c = c .before .loop .inv .1 .same-length

@@ -13,9 +13,15 @@ macro_rules! groups {
         $(mod $group;)*
 
         fn group_rows() {
-            $($group::rows();)*
+            $(if wanted(stringify!($group)) { $group::rows(); })*
         }
     };
+}
+
+/// Whether a group of rows is wanted: all are where none is named.
+fn wanted(group: &str) -> bool {
+    let mut names = std::env::args().skip(1).filter(|word| !word.starts_with("--")).peekable();
+    names.peek().is_none() || names.any(|name| name == group)
 }
 
 mod checking;
@@ -298,23 +304,25 @@ fn bricks() -> impl Iterator<Item = (u32, Vec<u8>)> {
 fn main() {
     println!("| call | library, µs | ns per tree | ratio to trusting | ratio to checking | ratio to the floor |");
     println!("|---|---:|---:|---:|---:|---:|");
-    for ranks in [RANKS, 16_384] {
-        table_check(ranks);
-    }
-    for &power in powers() {
-        from_leaves(power);
-    }
-    // shares that move a little; all trees from one rank to all
-    for ranks in [RANKS, 16_384] {
-        send_set("a middle rank", &large_table(ranks, 0), &large_table(ranks, 400), ranks as u32 / 2);
-        let on_first = bytes_of((0..=ranks).map(|p| if p == 0 { 0 } else { 1 << 20 }));
-        send_set("rank 0 had all", &on_first, &large_table(ranks, 0), 0);
-    }
-    for (power, mesh) in bricks() {
-        mesh_check("hexahedra, a brick", power, mesh);
-    }
-    for &power in powers() {
-        mesh_check("tetrahedra, random links", power, tangle(power));
+    if wanted("tables") {
+        for ranks in [RANKS, 16_384] {
+            table_check(ranks);
+        }
+        for &power in powers() {
+            from_leaves(power);
+        }
+        // shares that move a little; all trees from one rank to all
+        for ranks in [RANKS, 16_384] {
+            send_set("a middle rank", &large_table(ranks, 0), &large_table(ranks, 400), ranks as u32 / 2);
+            let on_first = bytes_of((0..=ranks).map(|p| if p == 0 { 0 } else { 1 << 20 }));
+            send_set("rank 0 had all", &on_first, &large_table(ranks, 0), 0);
+        }
+        for (power, mesh) in bricks() {
+            mesh_check("hexahedra, a brick", power, mesh);
+        }
+        for &power in powers() {
+            mesh_check("tetrahedra, random links", power, tangle(power));
+        }
     }
     group_rows();
 }

@@ -7,13 +7,14 @@ use mathlib.Core.Bool.{Bool, true, false, cond, _&&_, and-true}
 use mathlib.Core.List.{List}
 use lib.Arith.{digits-div, digits-mod}
 use lib.Dec.{ltb, eqb}
-use borrow.Author.Tests.{eqb-true, eq-eqb, lt-ltb, le-ltb}
+use borrow.Author.Tests.{ltb-true, eqb-true, eq-eqb, lt-ltb, le-ltb}
 use Rattle.encoding.specs.Below.{allBelow}
 use Rattle.encoding.proofs.Below.{and-fst, and-snd, and-intro, iff-eq, all-at, all-same}
 use Rattle.records.specs.Shape.{shapeOk, dimensionOf, faceCount, facesIn, cornersOf, corners}
 use Rattle.records.specs.Record.{shapeOf, neighbourOf, codeOf, facesOf, faceOf, orientationOf, inForm}
 use Rattle.records.proofs.Forms.{form-shape, count-faces-of}
 use Rattle.mesh.specs.Link.{orientationOk, sameCorners, answered}
+use Rattle.mesh.proofs.Soundness.{corners-there, answered-back}
 use Rattle.mesh.specs.Means.{cornersFit, cornersByDimension, answeredThere, answeredByDimension, linkBetween, linkByDimension}
 
 -- ---- corners
@@ -109,6 +110,23 @@ module _ (r s : List ℕ) (f : ℕ) (face : f < faceCount (shapeOf r)) where
       let a : answeredByDimension d k r f s ≡ answered k r f s = rw own at (answered-by-dimension k e) in
       rw (c, a)
 
+-- the answer to a link that obeys the rule
+between-turns : (r s : List ℕ) (back f : ℕ) → linkBetween back r f s ≡ true
+    → (faceOf r f < faceCount (shapeOf s)) × (neighbourOf s (faceOf r f) ≡ back) × (faceOf s (faceOf r f) ≡ f) × (linkBetween (neighbourOf r f) s (faceOf r f) r ≡ true)
+unfolding linkBetween orientationOk sameCorners answered
+between-turns r s back f e =
+    let g : ℕ = faceOf r f in
+    let low : Bool = ltb (orientationOf r f) (corners (shapeOf r) f) in
+    let alike : Bool = eqb (corners (shapeOf r) f) (corners (shapeOf s) g) in
+    let both = and-fst (low && alike) _ e in
+    let c : corners (shapeOf r) f ≡ corners (shapeOf s) g = eqb-true _ _ (and-snd low alike both) in
+    let o : orientationOf r f < corners (shapeOf r) f = ltb-true _ _ (and-fst low alike both) in
+    let back-at = answered-back back r f s (and-snd (low && alike) _ e) in
+    let turned : orientationOf s g ≡ orientationOf r f = back-at .2 in
+    let at-face : faceOf s g ≡ f = back-at .1 in
+    let less : orientationOf s g < corners (shapeOf s) g = rw (turned, ← c) o in
+    (corners-there _ _ (omega (arith, less)), back-at .0, at-face, rw (at-face, lt-ltb _ _ less, eq-eqb _ _ (sym c), eq-eqb (neighbourOf r f) (neighbourOf r f) refl, eq-eqb g g refl, eq-eqb _ _ (sym turned)))
+
 -- ---- records
 
 -- a rule of a link: the number that the neighbour's link leads back to, the record, the face and the neighbour's record
@@ -126,6 +144,14 @@ module _ (D : ℕ) where
 
   pub link-same : (r s : List ℕ) → Fits r → Fits s → (back f : ℕ) → f < faceCount (shapeOf r) → linkByDimension D back r f s ≡ linkBetween back r f s
   link-same r s a b back f h = by-dimension r s f h D back (a .1) (b .1)
+
+  -- the answer to a link that obeys the rule is at a face that is there, leads back, and obeys the rule
+  pub link-turns : (r s : List ℕ) → Fits r → Fits s → (back f : ℕ) → f < faceCount (shapeOf r) → linkByDimension D back r f s ≡ true
+      → (faceOf r f < faceCount (shapeOf s)) × (neighbourOf s (faceOf r f) ≡ back) × (faceOf s (faceOf r f) ≡ f) × (linkByDimension D (neighbourOf r f) s (faceOf r f) r ≡ true)
+  link-turns r s a b back f face e =
+      let g : ℕ = faceOf r f in
+      let t = between-turns r s back f (sym (link-same r s a b back f face) ∙ e) in
+      (t .0, t .1, t .2, link-same s r b a (neighbourOf r f) g (t .0) ∙ t .3)
 
   -- all records of two kinds, trees and ghosts, fit
   module _ (n g : ℕ) (tree ghostly : ℕ → List ℕ) where

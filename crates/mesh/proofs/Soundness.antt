@@ -28,7 +28,7 @@ and-three a b c e = (and-fst a b (and-fst (a && b) c e), and-snd a b (and-fst (a
 -- ---- links
 
 -- a face with corners is one that the shape has
-corners-there : (s f : ℕ) → 0 < corners s f → f < faceCount s
+pub corners-there : (s f : ℕ) → 0 < corners s f → f < faceCount s
 corners-there s f h = either (ltb f (faceCount s)) (ltb-true f (faceCount s)) (λ e. absurd (omega (tests, corners-none s f (omega tests))))
 
 -- the neighbour's link leads back to k and f, with the same orientation

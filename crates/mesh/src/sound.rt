@@ -23,7 +23,8 @@ pub struct Seen {
     pub downs: u64,
 }
 
-fn one(counts: bool) -> u64
+// 1 for what counts.
+pub fn one(counts: bool) -> u64
     ensures { λ r. ⌜ (r ≡ cond counts 1 0) × (r ≤ 1) ⌝ }
 {
     if counts {
@@ -32,7 +33,8 @@ fn one(counts: bool) -> u64
     0
 }
 
-fn refused() -> Seen
+// What a record that fails shows.
+pub fn refused() -> Seen
     ensures { λ r. ⌜ (r .ok ≡ false) × ((r .ups ≡ 0) × (r .downs ≡ 0)) ⌝ }
 {
     Seen {
@@ -83,7 +85,8 @@ pub struct Links {
     pub downs: u64,
 }
 
-fn pushed(list: u32, face: u32, listed: bool) -> u32
+// A list with one more face, if it is listed.
+pub fn pushed(list: u32, face: u32, listed: bool) -> u32
     requires { ⌜ (list ≤ 5349) × (face < 6) ⌝ }
     ensures { λ r. ⌜ r ≡ cond listed (8 * list + (face + 1)) list ⌝ }
 {

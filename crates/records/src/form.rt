@@ -10,6 +10,7 @@ use crate::shape::shape_ok;
 ghost use mathlib.Core.Path.{_≡_};
 ghost use Prim.Native.Nat.{_+_, _≤_, _<_};
 ghost use lib.ListN.{length};
+ghost use Rattle.encoding.specs.Below.{allBelow};
 ghost use Rattle.encoding.specs.Pieces.{piece};
 ghost use Rattle.records.specs.Record.{coreSize, zerosOk, regionOk, unusedOk, boundaryOk, inForm};
 ghost use Rattle.records.specs.Means.{faceForm};
@@ -68,18 +69,24 @@ fn face_ok(bs: &[u8], at: usize, own: u32, face: u32) -> bool
     unused_ok(bs, at, face)
 }
 
+fn faces_ok(bs: &[u8], at: usize, own: u32) -> bool
+    requires { ⌜ at + coreSize ≤ length (now bs) ⌝ }
+    ensures { λ r. ⌜ r ≡ allBelow 6 (faceForm own (piece (now (bs .entry)) at coreSize)) ⌝ }
+{
+    let mut face = 0;
+    while face < 6 {
+        if !face_ok(bs, at, own, face) {
+            return false;
+        }
+        face += 1;
+    }
+    true
+}
+
 // Whether the record is in form. Its own number is the local index in a part's tree records and the global number everywhere else.
 pub fn in_form(bs: &[u8], at: usize, own: u32) -> bool
     requires { ⌜ at + coreSize ≤ length (now bs) ⌝ }
     ensures { λ r. ⌜ r ≡ inForm own (piece (now (bs .entry)) at coreSize) ⌝ }
 {
-    shape_ok(shape_of(bs, at))
-        & zeros_ok(bs, at)
-        & region_ok(bs, at)
-        & (face_ok(bs, at, own, 0)
-            & face_ok(bs, at, own, 1)
-            & face_ok(bs, at, own, 2)
-            & face_ok(bs, at, own, 3)
-            & face_ok(bs, at, own, 4)
-            & face_ok(bs, at, own, 5))
+    shape_ok(shape_of(bs, at)) & zeros_ok(bs, at) & region_ok(bs, at) & faces_ok(bs, at, own)
 }

@@ -1,12 +1,11 @@
 -- A link looked at from one end: where each link down obeys the rules and as many links lead up as down, each link up is the answer to one down, and obeys them too.
-use Prim.Native.Nat.{ℕ, _+_, _*_, _/_, _%_, _≤_, _<_}
-use native.Mathlib.Omega.{arith}
+use Prim.Native.Nat.{ℕ, _≤_, _<_}
 use mathlib.Core.Path.{_≡_, refl, sym, _∙_}
 use mathlib.Core.Bool.{Bool, true, false, _&&_}
 use mathlib.Core.List.{List}
 use lib.Dec.{ltb, eqb}
 use borrow.Author.Tests.{ltb-true, eqb-true, eq-eqb, ne-eqb, lt-ltb, le-ltb}
-use Rattle.encoding.specs.Below.{allBelow, countBelow, sumBelow}
+use Rattle.encoding.specs.Below.{allBelow, sumBelow}
 use Rattle.encoding.proofs.Below.{tests, either, and-fst, and-snd, and-intro, iff-eq, all-at, all-intro}
 use Rattle.records.specs.Shape.{shapeOk, dimensionOf, faceCount, corners}
 use Rattle.records.specs.Record.{numberOf, shapeOf, neighbourOf, faceOf, orientationOf, regionOk, zerosOk, unusedOk, toItself, boundaryOk, inForm}
@@ -15,7 +14,7 @@ use Rattle.records.proofs.Forms.{face-six, form-shape, form-zeros, form-region,
 use Rattle.mesh.specs.Link.{orientationOk, sameCorners, answered, linkOk}
 use Rattle.mesh.specs.Mesh.{faceSound, treeSound}
 use Rattle.mesh.specs.Means.{linkBetween, linkByDimension, leadsUp, leadsDown, linksUp, linksDown, aloneByDimension, faceFromAbove, unusedFrom, treeFromAbove, treesFromAbove}
-use Rattle.mesh.proofs.Counting.{Paired, count-paired, all-hit, count-rows}
+use Rattle.mesh.proofs.OneEnd.{Obeys, Turns, as-many, ups-obey}
 use Rattle.mesh.proofs.Soundness.{link-orientation, link-corners, link-there, link-answered}
 use Rattle.mesh.proofs.ByDimension.{Fits, link-same}
 
@@ -40,43 +39,22 @@ module _ (core : ℕ → List ℕ) (d K : ℕ) where
   abbrev faces : ℕ → ℕ
   faces k = faceCount (shapeOf (core k))
 
-  -- ---- links by number: face f of tree k has 6 k + f
+  -- where each link leads
+  abbrev to : ℕ → ℕ → ℕ
+  to k f = neighbourOf (core k) f
 
-  -- the link that answers
-  abbrev across : ℕ → ℕ
-  across x = neighbourOf (core (x / 6)) (x % 6) * 6 + faceOf (core (x / 6)) (x % 6)
+  abbrev at-face : ℕ → ℕ → ℕ
+  at-face k f = faceOf (core k) f
 
-  -- a test of the links that are there
-  abbrev among : (ℕ → ℕ → Bool) → ℕ → Bool
-  among a x = ltb (x % 6) (faces (x / 6)) && a (x / 6) (x % 6)
-
-  across-at : (k f : ℕ) → f < 6 → across (k * 6 + f) ≡ neighbourOf (core k) f * 6 + faceOf (core k) f
-  across-at k f h =
-      let q : (k * 6 + f) / 6 ≡ k = omega arith in
-      let r : (k * 6 + f) % 6 ≡ f = omega arith in
-      rw (q, r)
-
-  among-at : (a : ℕ → ℕ → Bool) (k f : ℕ) → f < 6 → among a (k * 6 + f) ≡ (ltb f (faces k) && a k f)
-  among-at a k f h =
-      let q : (k * 6 + f) / 6 ≡ k = omega arith in
-      let r : (k * 6 + f) % 6 ≡ f = omega arith in
-      rw (q, r)
-
-  -- links that obey the rule, and their answers, pass tests that say the same from both ends
-  paired : (a b : ℕ → ℕ → Bool) → ((k f : ℕ) → k < K → f < faces k → a k f ≡ true → (neighbourOf (core k) f < K) × (linkOk core k f ≡ true))
-      → ((k f n g : ℕ) → neighbourOf (core k) f ≡ n → neighbourOf (core n) g ≡ k → a k f ≡ true → b n g ≡ true) → Paired (K * 6) (among a) (among b) across
-  paired a b ok turn x h e =
-      let k : ℕ = x / 6 in
-      let f : ℕ = x % 6 in
-      let n : ℕ = neighbourOf (core k) f in
-      let g : ℕ = faceOf (core k) f in
-      let passes : a k f ≡ true = and-snd (ltb f (faces k)) (a k f) e in
-      let s = ok k f (omega arith) (ltb-true f (faces k) (and-fst (ltb f (faces k)) (a k f) e)) passes in
-      let six : g < 6 = face-six (core k) f in
-      let back = link-answered core k f (s .1) in
-      let there : g < faces n = link-there core k f (s .1) in
-      let below : n * 6 + g < K * 6 = omega (arith, s .0) in
-      (below, among-at b n g six ∙ and-intro (ltb g (faces n)) (b n g) (lt-ltb g (faces n) there) (turn k f n g refl (back .0) passes), across-at n g six ∙ (rw (back .0, back .1) (omega arith)))
+  -- the answer to a sound link leads back, and is sound
+  answer : (k f : ℕ) → k < K → faceSound core K k f ≡ true
+      → (to k f < K) × (at-face k f < faces (to k f)) × (to (to k f) (at-face k f) ≡ k) × (at-face (to k f) (at-face k f) ≡ f) × (faceSound core K (to k f) (at-face k f) ≡ true)
+  unfolding faceSound
+  answer k f tree e =
+      let less : to k f < K = ltb-true _ _ (and-fst (ltb (to k f) K) _ e) in
+      let ok : linkOk core k f ≡ true = and-snd (ltb (to k f) K) _ e in
+      let back = link-answered core k f ok in
+      (less, link-there core k f ok, back .0, back .1, and-intro (ltb (to (to k f) (at-face k f)) K) _ (rw (back .0) (lt-ltb k K tree)) (link-turned core k f (to k f) (at-face k f) ok refl refl))
 
   turn-up : (k f n g : ℕ) → neighbourOf (core k) f ≡ n → neighbourOf (core n) g ≡ k → leadsUp core k f ≡ true → leadsDown core n g ≡ true
   unfolding leadsUp leadsDown
@@ -86,13 +64,17 @@ module _ (core : ℕ → List ℕ) (d K : ℕ) where
   unfolding leadsUp leadsDown
   turn-down k f n g there back e = rw back (rw there at e)
 
-  ups-counted : countBelow (K * 6) (among (leadsUp core)) ≡ sumBelow K (linksUp core)
-  unfolding linksUp
-  ups-counted = count-rows K 6 faces (leadsUp core) (λ k. count-six (shapeOf (core k))) (among (leadsUp core)) (among-at (leadsUp core))
+  turns-up : Turns K faces to at-face (faceSound core K) (leadsUp core) (leadsDown core)
+  turns-up k f tree face e ok = let s = answer k f tree ok in (s .0, s .1, s .2, s .3, s .4, turn-up k f (to k f) (at-face k f) refl (s .2) e)
 
-  downs-counted : countBelow (K * 6) (among (leadsDown core)) ≡ sumBelow K (linksDown core)
-  unfolding linksDown
-  downs-counted = count-rows K 6 faces (leadsDown core) (λ k. count-six (shapeOf (core k))) (among (leadsDown core)) (among-at (leadsDown core))
+  turns-down : Turns K faces to at-face (faceSound core K) (leadsDown core) (leadsUp core)
+  turns-down k f tree face e ok = let s = answer k f tree ok in (s .0, s .1, s .2, s .3, s .4, turn-down k f (to k f) (at-face k f) refl (s .2) e)
+
+  six : (k : ℕ) → faces k ≤ 6
+  six k = count-six (shapeOf (core k))
+
+  low : (k f : ℕ) → at-face k f < 6
+  low k f = face-six (core k) f
 
   -- ---- where the definition holds
 
@@ -144,13 +126,13 @@ module _ (core : ℕ → List ℕ) (d K : ℕ) where
         rw (form-shape k r (p .0), form-zeros k r (p .0), form-region k r (p .0), p .1, p .2, all-intro 6 (unusedFrom (faces k) (core k)) (λ f six. unused-passes k f tree six))
         (all-intro (faces k) (faceFromAbove core d K k) (λ f face. face-passes k f tree face))
 
-    as-many : sumBelow K (linksUp core) ≡ sumBelow K (linksDown core)
-    as-many =
-        sym ups-counted
-        ∙ count-paired (K * 6) (among (leadsUp core)) (among (leadsDown core)) across
-        (paired (leadsUp core) (leadsDown core) (λ k f tree face e. sound-face k f tree face) turn-up)
-        (paired (leadsDown core) (leadsUp core) (λ k f tree face e. sound-face k f tree face) turn-down)
-        ∙ downs-counted
+    obeys : (a : ℕ → ℕ → Bool) → Obeys K faces to at-face (faceSound core K) a
+    unfolding treeSound
+    obeys a k f tree face e = all-at (faces k) (faceSound core K k) (parts k tree .3) f face
+
+    same-sums : sumBelow K (linksUp core) ≡ sumBelow K (linksDown core)
+    unfolding linksUp linksDown
+    same-sums = as-many K faces to at-face (faceSound core K) six low (leadsUp core) (leadsDown core) turns-down turns-up (obeys (leadsUp core)) (obeys (leadsDown core))
 
   -- ---- where the check passes
 
@@ -198,28 +180,14 @@ module _ (core : ℕ → List ℕ) (d K : ℕ) where
     unfolding leadsUp leadsDown
     not-up k f e = le-ltb k (neighbourOf (core k) f) (omega tests)
 
-    down-link : (k f : ℕ) → k < K → f < faces k → leadsDown core k f ≡ true → (neighbourOf (core k) f < K) × (linkOk core k f ≡ true)
-    down-link k f tree face e = let s = passed-link k f tree face (not-up k f e) in (s .0, s .2)
+    down-sound : Obeys K faces to at-face (faceSound core K) (leadsDown core)
+    unfolding faceSound
+    down-sound k f tree face e = let s = passed-link k f tree face (not-up k f e) in and-intro (ltb (to k f) K) _ (lt-ltb _ _ (s .0)) (s .2)
 
     -- each link up is the answer to one down
-    answers : Paired (K * 6) (among (leadsUp core)) (among (leadsDown core)) across
-    answers = all-hit (K * 6) (among (leadsDown core)) (among (leadsUp core)) across (paired (leadsDown core) (leadsUp core) down-link turn-down) (downs-counted ∙ sym same ∙ sym ups-counted)
-
-    up-link : (k f : ℕ) → k < K → f < faces k → leadsUp core k f ≡ true → (neighbourOf (core k) f < K) × (linkOk core k f ≡ true)
-    up-link k f tree face e =
-        let six : f < 6 = omega (arith, count-six (shapeOf (core k))) in
-        let n : ℕ = neighbourOf (core k) f in
-        let g : ℕ = faceOf (core k) f in
-        let low : g < 6 = face-six (core k) f in
-        let s = answers (k * 6 + f) (omega arith) (among-at (leadsUp core) k f six ∙ and-intro (ltb f (faces k)) _ (lt-ltb f (faces k) face) e) in
-        let there : across (k * 6 + f) ≡ n * 6 + g = across-at k f six in
-        let below : n * 6 + g < K * 6 = rw there at (s .0) in
-        let down : (ltb g (faces n) && leadsDown core n g) ≡ true = sym (among-at (leadsDown core) n g low) ∙ (rw there at (s .1)) in
-        let back : neighbourOf (core n) g * 6 + faceOf (core n) g ≡ k * 6 + f = sym (across-at n g low) ∙ (rw there at (s .2)) in
-        let less : n < K = omega arith in
-        let link = down-link n g less (ltb-true g (faces n) (and-fst (ltb g (faces n)) _ down)) (and-snd (ltb g (faces n)) _ down) in
-        let small : faceOf (core n) g < 6 = face-six (core n) g in
-        (less, link-turned core n g k f (link .1) (omega arith) (omega arith))
+    up-sound : Obeys K faces to at-face (faceSound core K) (leadsUp core)
+    unfolding linksUp linksDown
+    up-sound = ups-obey K faces to at-face (faceSound core K) six low (leadsUp core) (leadsDown core) turns-down down-sound same
 
     up-other : (k f : ℕ) → leadsUp core k f ≡ true → boundaryOk k (core k) f ≡ true
     unfolding leadsUp
@@ -231,9 +199,8 @@ module _ (core : ℕ → List ℕ) (d K : ℕ) where
     passed-sound : (k f : ℕ) → k < K → f < faces k → faceSound core K k f ≡ true
     unfolding faceSound
     passed-sound k f tree face =
-        let s : (neighbourOf (core k) f < K) × (linkOk core k f ≡ true) =
-        either (leadsUp core k f) (λ e. up-link k f tree face e) (λ e. let t = passed-link k f tree face e in (t .0, t .2)) in
-        and-intro (ltb (neighbourOf (core k) f) K) _ (lt-ltb _ _ (s .0)) (s .1)
+        either (leadsUp core k f) (λ e. up-sound k f tree face e)
+        (λ e. let s = passed-link k f tree face e in and-intro (ltb (to k f) K) _ (lt-ltb _ _ (s .0)) (s .2))
 
     passed-tree : (k : ℕ) → k < K → treeSound core d K k ≡ true
     unfolding treeSound
@@ -250,4 +217,4 @@ module _ (core : ℕ → List ℕ) (d K : ℕ) where
       (λ e. all-intro K (treeSound core d K) (passed-tree (all-at K (treeFromAbove core d K) (and-fst (allBelow K (treeFromAbove core d K)) _ e)) (eqb-true _ _ (and-snd (allBelow K (treeFromAbove core d K)) _ e))))
       (λ e.
       let sound = all-at K (treeSound core d K) e in
-      and-intro (allBelow K (treeFromAbove core d K)) _ (all-intro K (treeFromAbove core d K) (tree-passes sound)) (eq-eqb _ _ (as-many sound)))
+      and-intro (allBelow K (treeFromAbove core d K)) _ (all-intro K (treeFromAbove core d K) (tree-passes sound)) (eq-eqb _ _ (same-sums sound)))

@@ -3,7 +3,7 @@ use Prim.Native.Nat.{ℕ, zero, suc, _+_, _-_, _*_, _≤_, _<_}
 use native.Mathlib.Nat.{zero-add, suc-add, add-zero, mod-lt}
 use native.Mathlib.Omega.{arith}
 use mathlib.Core.Path.{_≡_, refl, sym, ap, ap₂, _∙_}
-use mathlib.Core.Bool.{true, _&&_}
+use mathlib.Core.Bool.{Bool, true, false, _&&_}
 use mathlib.Core.List.{List, [], _∷_}
 use lib.Dec.{eqb, ltb}
 use lib.ListN.{length, getD, take, drop, List·getD-eq-default}
@@ -153,6 +153,14 @@ module _ (own : ℕ) (r : List ℕ) where
       form-is
       ∙ and-intro (shapeOk (shapeOf r) && zerosOk r && regionOk r) (allBelow 6 (faceForm own r))
       (and-intro (shapeOk (shapeOf r) && zerosOk r) (regionOk r) (and-intro (shapeOk (shapeOf r)) (zerosOk r) s z) t) (all-intro 6 (faceForm own r) face)
+
+  -- as the check finds it: the shape, the zero bytes and the region, then the faces
+  module _ {shape : ℕ} {a b c : Bool} (is : shape ≡ shapeOf r) (p : a ≡ shapeOk shape) (q : b ≡ zerosOk r) (t : c ≡ regionOk r) where
+    pub form-fails : (a && b && c) ≡ false → false ≡ inForm own r
+    form-fails e = let fails : (shapeOk (shapeOf r) && zerosOk r && regionOk r) ≡ false = rw (p, is, q, t) at e in rw (form-is, fails)
+
+    pub form-passes : (a && b && c) ≡ true → {d : Bool} → d ≡ allBelow 6 (faceForm own r) → d ≡ inForm own r
+    form-passes e f = let passes : (shapeOk (shapeOf r) && zerosOk r && regionOk r) ≡ true = rw (p, is, q, t) at e in rw (form-is, passes, f)
 
   -- a link to the own number and the own face has orientation 0
   pub boundary-test : (f : ℕ) → neighbourOf r f ≡ own → faceOf r f ≡ f → boundaryOk own r f ≡ eqb (orientationOf r f) 0

@@ -88,5 +88,8 @@ pub fn in_form(bs: &[u8], at: usize, own: u32) -> bool
     requires { ⌜ at + coreSize ≤ length (now bs) ⌝ }
     ensures { λ r. ⌜ r ≡ inForm own (piece (now (bs .entry)) at coreSize) ⌝ }
 {
-    shape_ok(shape_of(bs, at)) & zeros_ok(bs, at) & region_ok(bs, at) & faces_ok(bs, at, own)
+    if !(shape_ok(shape_of(bs, at)) & zeros_ok(bs, at) & region_ok(bs, at)) {
+        return false;
+    }
+    faces_ok(bs, at, own)
 }

@@ -46,10 +46,9 @@ loop-less c = search needs
 loop-again : tie.Need-loop-again Inv-loop μ-loop
 loop-again c =
     let seen = c .before .before .before .before .tree-sound .ensures in
-    let passes = not-false _ (c .before .before .if1 .left) in
     let inv = c .before .before .before .before .before .before .loop .inv in (
       omega arith,
-      (
+      let passes = not-false _ (c .before .before .if1 .left) in (
         all-more _ _ (inv .1 .0) (sym (seen .tested) ∙ passes),
         (
           (sum-next _ _ (seen .upward passes) (inv .1 .1 .0 .0), omega (arith, seen .few .0)),

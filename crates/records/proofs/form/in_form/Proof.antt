@@ -1,5 +1,5 @@
-use Rattle.records.specs.Means.{faceForm}
-use Rattle.records.specs.Record.{inForm}
+use Rattle.records.proofs.Forms.{form-fails, form-passes}
+use borrow.Author.Tests.{not-true, not-false}
 use borrow.Author.Needs.{needs}
 use Rattle.records.proofs.form.in_form.Statement.{statement}
 use Rattle.records.proofs.form.in_form.Tie as tie
@@ -16,17 +16,24 @@ zeros-ok-requires c κs = search needs
 region-ok-requires : tie.Need-region-ok-requires
 region-ok-requires c κs = search needs
 
-faces-ok-requires : tie.Need-faces-ok-requires
-faces-ok-requires c κs = search needs
-
 returns : tie.Need-returns
-unfolding inForm faceForm
 returns c =
     let shape-of = c .before .before .before .before .shape-of in
     let shape-ok = c .before .before .before .shape-ok in
     let zeros-ok = c .before .before .zeros-ok in
     let region-ok = c .before .region-ok in
-    rw (shape-ok .ensures, shape-of .ensures, zeros-ok .ensures, region-ok .ensures, c .faces-ok .ensures)
+    form-fails _ _ (shape-of .ensures) (shape-ok .ensures) (zeros-ok .ensures) (region-ok .ensures) (not-true _ (c .if1 .taken))
+
+faces-ok-requires : tie.Need-faces-ok-requires
+faces-ok-requires c κs = search needs
+
+returns-2 : tie.Need-returns-2
+returns-2 c =
+    let shape-of = c .before .before .before .before .before .shape-of in
+    let shape-ok = c .before .before .before .before .shape-ok in
+    let zeros-ok = c .before .before .before .zeros-ok in
+    let region-ok = c .before .before .region-ok in
+    form-passes _ _ (shape-of .ensures) (shape-ok .ensures) (zeros-ok .ensures) (region-ok .ensures) (not-false _ (c .before .if1 .left)) (c .faces-ok .ensures)
 
 pub in-form-spec : {M : Type 1} → statement M
 in-form-spec =
@@ -36,5 +43,6 @@ in-form-spec =
     shape-ok-requires
     zeros-ok-requires
     region-ok-requires
+    returns
     faces-ok-requires
-    returns)
+    returns-2)

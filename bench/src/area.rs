@@ -6,6 +6,7 @@ use crate::checking::{close_checked, deliver_checked, open_checked, words};
 use crate::message::{build_message, library_build, moved};
 use crate::part::{cut_part, put, quarters, range, Set, GHOST, HEADER, TREE};
 use crate::{bricks, floor, floor_row, now, repeats, tangle, Read};
+use std::cell::RefCell;
 use std::hint::black_box;
 
 extern "C" {
@@ -157,18 +158,20 @@ pub fn rank_rows(what: &str, tables: [&[u8]; 2], rank: u32, parts: [&[u8]; 2], e
     let size = HEADER + 2 * old.len() + 8 * words(old.len() / 8 - 1) + (TREE + 6 * GHOST) * count;
     let mut fresh = vec![0; size];
     assert_eq!(library_open(tables, rank, &mut fresh).length as usize, size);
-    let [mut a, mut b, mut c, mut d] = [(); 4].map(|()| vec![1; size]);
+    let [mut a, mut b] = [(); 2].map(|()| vec![1; size]);
     assert_eq!(open(tables, rank, &mut a), size);
     assert_eq!(open_checked(tables, rank, 3, &mut b), Ok(size));
     assert!(fresh == a && fresh == b, "the same area");
+    // one buffer for all: of two as large, one may lie in larger pages
+    let area = RefCell::new(a);
     let all = times(
         wanted,
         || (),
         [
-            &mut |()| _ = black_box(library_open(black_box(tables), rank, &mut a)),
-            &mut |()| _ = black_box(open(black_box(tables), rank, &mut b)),
-            &mut |()| _ = black_box(open_checked(black_box(tables), rank, 3, &mut c)),
-            &mut |()| floor(&[Read::All(black_box(old)), Read::All(black_box(new))], &mut d),
+            &mut |()| _ = black_box(library_open(black_box(tables), rank, &mut area.borrow_mut())),
+            &mut |()| _ = black_box(open(black_box(tables), rank, &mut area.borrow_mut())),
+            &mut |()| _ = black_box(open_checked(black_box(tables), rank, 3, &mut area.borrow_mut())),
+            &mut |()| floor(&[Read::All(black_box(old)), Read::All(black_box(new))], &mut area.borrow_mut()),
         ],
     );
     floor_row(&format!("open an area for {what}"), Some(count), all);
@@ -210,14 +213,15 @@ pub fn rank_rows(what: &str, tables: [&[u8]; 2], rank: u32, parts: [&[u8]; 2], e
     assert!(a == b && a == c && a == expected, "the part of the mesh");
     let full = &full[..];
     let mut plain = expected.to_vec();
+    let out = RefCell::new(&mut plain);
     let all = times(
         wanted,
         || (),
         [
-            &mut |()| _ = black_box(library_close(black_box(full), &mut a)),
-            &mut |()| _ = black_box(close(black_box(full), &mut b)),
-            &mut |()| _ = black_box(close_checked(black_box(full), &mut c)),
-            &mut |()| floor(&area_reads(black_box(full)), &mut plain),
+            &mut |()| _ = black_box(library_close(black_box(full), &mut out.borrow_mut())),
+            &mut |()| _ = black_box(close(black_box(full), &mut out.borrow_mut())),
+            &mut |()| _ = black_box(close_checked(black_box(full), &mut out.borrow_mut())),
+            &mut |()| floor(&area_reads(black_box(full)), &mut out.borrow_mut()),
         ],
     );
     floor_row(&format!("close {what}, {} ghosts", number(expected, 24)), Some(count), all);

@@ -24,7 +24,7 @@ use std::time::Instant;
 /// A named test. It fails by a panic, or by making no call; those with these names make none.
 pub type Test = (&'static str, fn(&mut Run));
 
-const WITHOUT_CALLS: [&str; 2] = ["seen: ", "second: "];
+const WITHOUT_CALLS: [&str; 3] = ["seen: ", "second: ", "frames: "];
 
 /// Declares the modules with tests and lists these in order.
 macro_rules! groups {
@@ -61,6 +61,7 @@ groups! {
     refusals
     nearest
     ranks
+    frames
 }
 
 /// What a test is given.

@@ -68,10 +68,15 @@ fn trusting<const BACK: bool>(from: &[u8], to: &mut [u8]) {
     turn::<GHOST, BACK>(&from[ghosts..], &mut to[ghosts..from.len()]);
 }
 
-/// The second version of a way back that checks: it turns into its own memory, and checks the part there.
-fn checking(file: &[u8], table: &[u8], rank: u32, part: &mut [u8]) -> u32 {
-    trusting::<true>(file, part);
-    check_part(part, table, rank)
+/// The second version of a way back that checks: it turns into its own memory and checks the part there, so that the
+/// buffer stays as it was when it refuses.
+fn checking(file: &[u8], table: &[u8], rank: u32, own: &mut [u8], out: &mut [u8]) -> u32 {
+    trusting::<true>(file, own);
+    let refusal = check_part(own, table, rank);
+    if refusal == 0 {
+        out.copy_from_slice(own);
+    }
+    refusal
 }
 
 fn column_rows(name: &str, mesh: &[u8], table: &[u8], rank: u32) {
@@ -80,13 +85,13 @@ fn column_rows(name: &str, mesh: &[u8], table: &[u8], rank: u32) {
     assert_eq!(got.refusal, 0);
     part.truncate(got.length as usize);
     let count = u32::from_le_bytes(part[20..24].try_into().unwrap()) as usize;
-    let [mut a, mut b, mut c] = [(); 3].map(|()| vec![0u8; part.len()]);
+    let [mut a, mut b, mut c, mut own] = [(); 4].map(|()| vec![0u8; part.len()]);
     assert_eq!(call(vejgodat_part_to_columns, &part, table, rank, &mut a).refusal, 0);
     trusting::<false>(&part, &mut b);
     assert!(a == b, "the same file");
     let file = a.clone();
     assert_eq!(call(vejgodat_columns_to_part, &file, table, rank, &mut a).refusal, 0);
-    assert_eq!(checking(&file, table, rank, &mut c), 0);
+    assert_eq!(checking(&file, table, rank, &mut own, &mut c), 0);
     assert!(a == part && c == part, "the same part");
     let repeats = ((1 << 24) / count).max(5);
     let all = times(
@@ -109,7 +114,7 @@ fn column_rows(name: &str, mesh: &[u8], table: &[u8], rank: u32) {
         [
             &mut || _ = black_box(call(vejgodat_columns_to_part, black_box(&file), table, rank, &mut a)),
             &mut || trusting::<true>(black_box(&file), &mut b),
-            &mut || assert_eq!(checking(black_box(&file), table, rank, &mut c), 0),
+            &mut || assert_eq!(checking(black_box(&file), table, rank, &mut own, &mut c), 0),
         ],
     );
     row(&format!("{count} trees of {name} back"), Some(count), all);

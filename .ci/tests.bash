@@ -20,13 +20,16 @@ test_of() {
     fi
 }
 
-# fetch PACKAGE..: by apt-get, with fresh lists where it doesn't go without
+# fetch PACKAGE..: by apt-get, with fresh lists where it doesn't go without; one stage at a time
 fetch() {
     local log
     command -v apt-get >/dev/null || return
     log=$(mktemp)
-    { apt-get install -y "$@" || { apt-get update && apt-get install -y "$@"; }; } </dev/null >"$log" 2>&1 ||
-        tail -n 5 "$log"
+    mkdir -p target
+    {
+        flock 9
+        apt-get install -y "$@" || { apt-get update && apt-get install -y "$@"; }
+    } 9>target/fetch.lock </dev/null >"$log" 2>&1 || tail -n 5 "$log"
     rm -f "$log"
     hash -r
 }

@@ -22,6 +22,23 @@ pub struct Seen {
     pub calls: u64,
 }
 
+impl Seen {
+    /// What another run has seen, too.
+    pub fn add(&mut self, other: Seen) {
+        for (call, numbers) in other.refusals {
+            self.refusals.entry(call).or_default().extend(numbers);
+        }
+        self.listed.extend(other.listed);
+        for (call, states) in other.tables {
+            self.tables.entry(call).or_default().extend(states);
+        }
+        for (faults, times) in other.faults {
+            *self.faults.entry(faults).or_default() += times;
+        }
+        self.calls += other.calls;
+    }
+}
+
 /// Room for the largest part.
 const LARGEST: usize = 112 << 20;
 

@@ -17,8 +17,9 @@ mod triangles_model;
 
 use calls::Calls;
 use random::Random;
+use std::cell::RefCell;
 use std::panic::{self, AssertUnwindSafe};
-use std::sync::Mutex;
+use std::thread;
 use std::time::Instant;
 
 /// A named test. It fails by a panic, or by making no call; those with these names make none.
@@ -26,42 +27,49 @@ pub type Test = (&'static str, fn(&mut Run));
 
 const WITHOUT_CALLS: [&str; 3] = ["seen: ", "second: ", "frames: "];
 
-/// Declares the modules with tests and lists these in order.
+/// Declares the modules with tests and lists those of each name in order.
 macro_rules! groups {
-    ($($group:ident)*) => {
-        $(mod $group;)*
+    ($($list:ident { $($group:ident)* })*) => {
+        $($(mod $group;)*)*
 
-        fn tests() -> Vec<Test> {
+        $(fn $list() -> Vec<Test> {
             [$($group::TESTS),*].concat()
-        }
+        })*
     };
 }
 
+// two lists of about the same time, which run beside each other, and what looks at all that both have seen
 groups! {
-    tables
-    writing
-    leaves
-    weights
-    blocks
-    pattern
-    mesh
-    brick
-    second
-    part
-    message
-    area
-    refinement
-    regions
-    tree_data
-    probes
-    faults
-    triangles
-    columns
-    many
-    refusals
-    nearest
-    ranks
-    frames
+    first_half {
+        tables
+        writing
+        leaves
+        weights
+        blocks
+        pattern
+        mesh
+        brick
+        second
+        part
+        message
+    }
+    second_half {
+        area
+        refinement
+        regions
+        tree_data
+        probes
+        faults
+        triangles
+        columns
+        many
+    }
+    rest {
+        refusals
+        nearest
+        ranks
+        frames
+    }
 }
 
 /// What a test is given.
@@ -73,6 +81,10 @@ pub struct Run {
 }
 
 impl Run {
+    fn new(seed: u64) -> Run {
+        Run { calls: Calls::new(), seed, name: "", case: 0 }
+    }
+
     /// Run numbered random cases, each with a generator of its own.
     pub fn cases(&mut self, number: u64, mut body: impl FnMut(&mut Random, &mut Calls)) {
         for case in 0..number {
@@ -80,10 +92,41 @@ impl Run {
             body(&mut Random::new(self.seed, self.name, case), &mut self.calls);
         }
     }
+
+    /// Run the tests whose name has `wanted` in it: how many passed, and how many failed.
+    fn all(&mut self, tests: Vec<Test>, wanted: &str) -> (u32, u32) {
+        let (mut passed, mut failed) = (0, 0);
+        for (name, test) in tests.into_iter().filter(|(name, _)| name.contains(wanted)) {
+            let began = Instant::now();
+            (self.name, self.case) = (name, 0);
+            self.calls.begin(self.seed, name);
+            let calls = self.calls.seen.calls;
+            let mut ended = panic::catch_unwind(AssertUnwindSafe(|| test(self))).is_ok();
+            let made = self.calls.seen.calls - calls;
+            if ended && made == 0 && !WITHOUT_CALLS.iter().any(|start| name.starts_with(start)) {
+                SAID.with(|said| *said.borrow_mut() = "it made no call".to_string());
+                ended = false;
+            }
+            if ended {
+                passed += 1;
+                println!("ok      {name} ({made} calls, {:.1} s)", began.elapsed().as_secs_f64());
+            } else {
+                failed += 1;
+                let said = SAID.with(|said| said.borrow().clone());
+                println!("FAILED  {name}: seed {:#x}, case {}: {said}", self.seed, self.case);
+            }
+        }
+        (passed, failed)
+    }
 }
 
-/// What the last panic said, with its place.
-static SAID: Mutex<String> = Mutex::new(String::new());
+thread_local! {
+    /// what the last panic of the thread said, with its place
+    static SAID: RefCell<String> = RefCell::default();
+}
+
+/// As much stack as a main thread has.
+const STACK: usize = 8 << 20;
 
 fn seed_of(text: &str) -> u64 {
     let number = match text.strip_prefix("0x") {
@@ -96,34 +139,32 @@ fn seed_of(text: &str) -> u64 {
 fn main() {
     let arguments: Vec<String> = std::env::args().skip(1).collect();
     let seed = arguments.first().map_or(0x5EED_2026, |text| seed_of(text));
-    let wanted = arguments.get(1).map_or("", |text| text);
+    let wanted = arguments.get(1).cloned().unwrap_or_default();
 
     panic::set_hook(Box::new(|panic| {
-        *SAID.lock().unwrap() = panic.to_string();
+        let text = panic.to_string();
+        SAID.with(|said| *said.borrow_mut() = text);
     }));
 
     println!("seed {seed:#x}");
-    let mut run = Run { calls: Calls::new(), seed, name: "", case: 0 };
+    let halves = [first_half(), second_half()].map(|tests| {
+        let wanted = wanted.clone();
+        let half = thread::Builder::new().stack_size(STACK).spawn(move || {
+            let mut run = Run::new(seed);
+            let counts = run.all(tests, &wanted);
+            (run.calls.seen, counts)
+        });
+        half.expect("a thread")
+    });
+    let mut run = Run::new(seed);
     let (mut passed, mut failed) = (0, 0);
-    for (name, test) in tests().into_iter().filter(|(name, _)| name.contains(wanted)) {
-        let began = Instant::now();
-        (run.name, run.case) = (name, 0);
-        run.calls.begin(seed, name);
-        let calls = run.calls.seen.calls;
-        let mut ended = panic::catch_unwind(AssertUnwindSafe(|| test(&mut run))).is_ok();
-        let made = run.calls.seen.calls - calls;
-        if ended && made == 0 && !WITHOUT_CALLS.iter().any(|start| name.starts_with(start)) {
-            *SAID.lock().unwrap() = "it made no call".to_string();
-            ended = false;
-        }
-        if ended {
-            passed += 1;
-            println!("ok      {name} ({made} calls, {:.1} s)", began.elapsed().as_secs_f64());
-        } else {
-            failed += 1;
-            println!("FAILED  {name}: seed {seed:#x}, case {}: {}", run.case, SAID.lock().unwrap());
-        }
+    for half in halves {
+        let (seen, counts) = half.join().expect("each test's panic is caught");
+        run.calls.seen.add(seen);
+        (passed, failed) = (passed + counts.0, failed + counts.1);
     }
+    let counts = run.all(rest(), &wanted);
+    (passed, failed) = (passed + counts.0, failed + counts.1);
     println!("{} calls compared", run.calls.seen.calls);
     println!("{passed} passed, {failed} failed");
     std::process::exit(if failed == 0 && passed > 0 { 0 } else { 1 });

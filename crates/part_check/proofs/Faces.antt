@@ -4,15 +4,16 @@ use mathlib.Core.Path.{_≡_, refl, sym, ap, _∙_}
 use mathlib.Core.Bool.{Bool, true, false, _&&_}
 use mathlib.Core.List.{List}
 use lib.Dec.{ltb, eqb}
-use borrow.Author.Tests.{lt-ltb, le-ltb}
+use borrow.Author.Tests.{lt-ltb, le-ltb, eqb-true}
 use Rattle.encoding.specs.Below.{allBelow}
 use Rattle.encoding.specs.Pieces.{piece}
 use Rattle.encoding.specs.Words.{zeroAt}
 use Rattle.encoding.proofs.Below.{tests, either, and-fst, and-snd, and-intro, iff-eq, all-at, all-intro, all-and}
-use Rattle.records.specs.Shape.{faceCount, shapeOk}
+use Rattle.records.specs.Shape.{dimensionOf, faceCount, shapeOk}
 use Rattle.records.specs.Record.{coreSize, unused, regionLimit, shapeOf, neighbourOf, codeOf, regionOf, regionOk, zerosOk, unusedOk, boundaryOk, inForm}
 use Rattle.records.proofs.Forms.{zeros-at, form-shape, form-zeros, form-region, form-used, form-unused, form-intro}
-use Rattle.part_check.specs.Means.{plainForm, unusedFrom}
+use Rattle.mesh.proofs.ByDimension.{Fits}
+use Rattle.part_check.specs.Means.{plainForm, unusedFrom, formAlone}
 
 -- ---- what the functions read
 
@@ -90,6 +91,26 @@ module _ (own : ℕ) (r : List ℕ) where
 
   form-parts : (plainForm r && rest && edges) ≡ inForm own r
   form-parts = iff-eq (plainForm r && rest && edges) (inForm own r) form-to form-from
+
+  -- the form, and what the record shows without its links
+  module _ (D : ℕ) where
+    abbrev shaped : Bool
+    shaped = eqb (dimensionOf (shapeOf r)) D
+
+    pub alone-from : inForm own r ≡ true → shaped ≡ true → formAlone D r ≡ true
+    unfolding formAlone
+    alone-from e q = and-intro (plainForm r && rest) shaped (and-fst (plainForm r && rest) edges (form-from e)) q
+
+    pub alone-form : formAlone D r ≡ true → ((f : ℕ) → f < faces → boundaryOk own r f ≡ true) → (inForm own r && shaped) ≡ true
+    unfolding formAlone
+    alone-form e b =
+        and-intro (inForm own r) shaped (form-to (and-intro (plainForm r && rest) edges (and-fst (plainForm r && rest) shaped e) (all-intro faces (boundaryOk own r) b))) (and-snd (plainForm r && rest) shaped e)
+
+    pub alone-fits : formAlone D r ≡ true → Fits D r
+    unfolding formAlone plainForm
+    alone-fits e =
+        let plain : (shapeOk (shapeOf r) && zerosOk r && regionOk r) ≡ true = and-fst (shapeOk (shapeOf r) && zerosOk r && regionOk r) rest (and-fst (plainForm r && rest) shaped e) in
+        (and-fst (shapeOk (shapeOf r)) (zerosOk r) (and-fst (shapeOk (shapeOf r) && zerosOk r) (regionOk r) plain), eqb-true _ _ (and-snd (plainForm r && rest) shaped e))
 
   -- the form and a test of each face that the shape has
   module _ (test : ℕ → Bool) where

@@ -9,7 +9,7 @@ use lib.Dec.{leb, ltb, eqb}
 use borrow.Author.Tests.{ltb-true, leb-true, lt-ltb, le-ltb, le-leb, eqb-true, eqb-false, eq-eqb, ne-eqb}
 use Rattle.encoding.specs.Below.{allBelow, anyBelow, countBelow, leastBelow, sumBelow}
 use Rattle.encoding.proofs.Below.{tests, either, clash, and-fst, and-snd, and-intro, iff-eq, all-at, all-intro, all-and, any-intro, sum-same, count-same, least-is, least-lt, least-at}
-use Rattle.records.specs.Shape.{dimensionOf, faceCount, shapeOk}
+use Rattle.records.specs.Shape.{dimensionOf, faceCount}
 use Rattle.records.specs.Record.{numberOf, shapeOf, neighbourOf, faceOf, toItself, boundaryOk, inForm}
 use Rattle.records.proofs.Shapes.{count-six}
 use Rattle.records.proofs.Forms.{face-six, form-used}
@@ -18,7 +18,7 @@ use Rattle.mesh.specs.Means.{linkBetween, linkByDimension}
 use Rattle.mesh.proofs.ByDimension.{Fits, AllFit, fits-form, link-same, link-turns}
 use Rattle.mesh.proofs.OneEnd.{Obeys, Turns, as-many, ups-obey}
 use Rattle.part.specs.Means.{inRange, neighbourIn, ghostHas}
-use Rattle.part_check.specs.Means.{plainForm, unusedFrom, treeTo, treeFace, treeFits, treeStored, treeNumbered, ghostNumbered, numbersSound, ghostTo, ghostFace, ghostStored, recordsSound, treeUp, treeDown, ghostUp, ghostDown, ghostListed, treeUps, treeDowns, ghostUps, ghostDowns, evenLinks, formAlone, ghostLow, treeFaceDown, treeFromOneEnd, ghostAnswered, ghostFaceDown, ghostFromOneEnd, treeSeen, recordsFromOneEnd}
+use Rattle.part_check.specs.Means.{treeTo, treeFace, treeFits, treeStored, treeNumbered, ghostNumbered, numbersSound, ghostTo, ghostFace, ghostStored, recordsSound, treeUp, treeDown, ghostUp, ghostDown, ghostListed, treeUps, treeDowns, ghostUps, ghostDowns, evenLinks, formAlone, ghostLow, treeFaceDown, treeFromOneEnd, ghostAnswered, ghostFaceDown, ghostFromOneEnd, treeSeen, recordsFromOneEnd}
 use Rattle.part_check.proofs.Faces.{alone-from, alone-form, alone-fits}
 use Rattle.part_check.proofs.Judging.{tree-number, ghost-below, ghost-outside, ghosts-ascend}
 
@@ -542,12 +542,14 @@ module _ (D first n g K : ℕ) (tree ghostly : ℕ → List ℕ) (numbers : numb
         and-intro (formed && beside j h) _ (and-intro formed (beside j h) (alone-form (numberOf r) r D (ghost-seen j h .0) (λ f face. ghost-both j f h face .0)) (ghost-seen j h .2))
         (all-intro (faces r) (ghostFace (linkByDimension D) first n g tree ghostly K j) (λ f face. ghost-both j f h face .1))
 
--- over all records the check from one end says the same
-module _ (D first n g K : ℕ) (tree ghostly : ℕ → List ℕ) (within : first + n ≤ K) where
+-- the trees with their numbers
+module _ (D first n g : ℕ) (tree ghostly : ℕ → List ℕ) where
   pub trees-seen : allBelow n (treeSeen (linkByDimension D) first n g tree ghostly D) ≡ (allBelow n (treeNumbered first tree) && allBelow n (treeFromOneEnd (linkByDimension D) n g tree ghostly D))
   unfolding treeSeen
   trees-seen = all-and n (treeNumbered first tree) (treeFromOneEnd (linkByDimension D) n g tree ghostly D)
 
+-- over all records the check from one end says the same
+module _ (D first n g K : ℕ) (tree ghostly : ℕ → List ℕ) (within : first + n ≤ K) where
   -- the parts of the check
   seen-parts : recordsFromOneEnd (linkByDimension D) first n g tree ghostly D K ≡ true
       → (numbersSound first n g tree ghostly K ≡ true) × (allBelow n (treeFromOneEnd (linkByDimension D) n g tree ghostly D) ≡ true)
@@ -558,7 +560,7 @@ module _ (D first n g K : ℕ) (tree ghostly : ℕ → List ℕ) (within : first
       let b : Bool = allBelow n (treeSeen (linkByDimension D) first n g tree ghostly D) in
       let d : Bool = allBelow g (ghostFromOneEnd (linkByDimension D) first n g tree ghostly D K) in
       let rest = and-snd a _ e in
-      let both = sym trees-seen ∙ and-fst b _ rest in
+      let both = sym (trees-seen D first n g tree ghostly) ∙ and-fst b _ rest in
       let x : Bool = allBelow n (treeNumbered first tree) in
       (and-intro x a (and-fst x _ both) (and-fst a _ e), and-snd x _ both, and-fst d _ (and-snd b _ rest), and-snd d _ (and-snd b _ rest))
 
@@ -591,7 +593,7 @@ module _ (D first n g K : ℕ) (tree ghostly : ℕ → List ℕ) (within : first
       let a : Bool = allBelow g (ghostNumbered first n ghostly K) in
       and-intro a _ (and-snd x a (s .0))
       (and-intro (allBelow n (treeSeen (linkByDimension D) first n g tree ghostly D)) _
-      (trees-seen ∙ and-intro x _ (and-fst x a (s .0)) (all-intro n (treeFromOneEnd (linkByDimension D) n g tree ghostly D) (tree-passes D first n g K tree ghostly (s .0) within trees ghosts)))
+      (trees-seen D first n g tree ghostly ∙ and-intro x _ (and-fst x a (s .0)) (all-intro n (treeFromOneEnd (linkByDimension D) n g tree ghostly D) (tree-passes D first n g K tree ghostly (s .0) within trees ghosts)))
       (and-intro (allBelow g (ghostFromOneEnd (linkByDimension D) first n g tree ghostly D K)) _
       (all-intro g (ghostFromOneEnd (linkByDimension D) first n g tree ghostly D K) (ghost-passes D first n g K tree ghostly (s .0) within trees ghosts))
       (even D first n g K tree ghostly (s .0) within trees ghosts)))

@@ -1,17 +1,17 @@
 -- Means, no part of what is promised: a part as the code checks it, over the records as they stand.
-use Prim.Native.Nat.{ℕ, _+_, _-_, _≤_}
+use Prim.Native.Nat.{ℕ, _+_, _-_, _*_, _≤_, _<_}
 use mathlib.Core.Bool.{Bool, true, false, cond, not, _&&_, _||_}
 use mathlib.Core.Path.{_≡_}
 use mathlib.Core.List.{List}
 use lib.Dec.{leb, ltb, eqb}
 use lib.ListN.{length}
 use Rattle.encoding.specs.Below.{allBelow, anyBelow, countBelow, leastBelow, sumBelow}
-use Rattle.encoding.specs.Pieces.{piece}
+use Rattle.bits.specs.Bits.{inSet}
 use Rattle.offsets.specs.Limits.{maxTrees}
 use Rattle.records.specs.Shape.{dimensionOf, faceCount, shapeOk}
-use Rattle.records.specs.Record.{coreSize, numberOf, shapeOf, neighbourOf, regionOk, zerosOk, unusedOk, boundaryOk, inForm}
+use Rattle.records.specs.Record.{numberOf, shapeOf, neighbourOf, regionOk, zerosOk, unusedOk, boundaryOk, inForm}
 use Rattle.mesh.specs.Link.{orientationOk}
-use Rattle.part.specs.Layout.{partSize}
+use Rattle.part.specs.Layout.{treePlace, ghostPlace, partSize}
 use Rattle.part.specs.Part.{storedTree}
 use Rattle.part.specs.Means.{inRange, neighbourIn, ghostCore, ghostHas}
 
@@ -43,6 +43,10 @@ module _ (link : ℕ → List ℕ → ℕ → List ℕ → Bool) (n g : ℕ) (tr
   treeStored dimension i =
       inForm i (tree i) && eqb (dimensionOf (shapeOf (tree i))) dimension && allBelow (faceCount (shapeOf (tree i))) (treeFace i)
 
+-- where the record with local index j begins
+unfoldable pub recordPlace : ℕ → ℕ → ℕ
+recordPlace n j = cond (ltb j n) (treePlace j) (ghostPlace n (j - n))
+
 -- tree i has its number
 unfoldable pub treeNumbered : ℕ → (ℕ → List ℕ) → ℕ → Bool
 treeNumbered first tree i = eqb (numberOf (tree i)) (first + i)
@@ -72,19 +76,11 @@ module _ (link : ℕ → List ℕ → ℕ → List ℕ → Bool) (first n g : �
   unfoldable pub ghostFace : ℕ → ℕ → ℕ → Bool
   ghostFace K j f = ghostTo K j f (neighbourOf (ghostly j) f)
 
-  -- and the face is in form
-  unfoldable pub ghostFits : ℕ → ℕ → ℕ → Bool
-  ghostFits K j f = boundaryOk (numberOf (ghostly j)) (ghostly j) f && ghostFace K j f
-
   -- ghost j, its number apart
   unfoldable pub ghostStored : ℕ → ℕ → ℕ → Bool
   ghostStored dimension K j =
       inForm (numberOf (ghostly j)) (ghostly j) && eqb (dimensionOf (shapeOf (ghostly j))) dimension
       && anyBelow (faceCount (shapeOf (ghostly j))) (neighbourIn first (first + n) (ghostly j)) && allBelow (faceCount (shapeOf (ghostly j))) (ghostFace K j)
-
-  -- tree i and its number
-  unfoldable pub treeChecked : ℕ → ℕ → Bool
-  treeChecked dimension i = treeNumbered first tree i && treeStored link n g tree ghostly dimension i
 
   -- all records: first every number, by which the links are then looked up
   unfoldable pub recordsSound : ℕ → ℕ → Bool
@@ -182,8 +178,26 @@ pub record PartNumbered (part : List ℕ) (first n g K : ℕ) : Type 0 where
   pub laid : PartLaid part first n g K
   pub numbers : numbersSound first n g (storedTree part) (ghostCore part n) K ≡ true
 
--- where the link of ghost j to tree k leads: to the record at byte `to`, whose link leads back to `back`, or to none that is held
-pub record Leads (part : List ℕ) (first n g j k : ℕ) (found : Bool) (to back : ℕ) : Type 0 where
-  pub fits : found ≡ true → to + coreSize ≤ length part
-  pub is : (link : ℕ → List ℕ → ℕ → List ℕ → Bool) (K f : ℕ)
-      → cond found (link back (ghostCore part n j) f (piece part to coreSize)) (ltb k K && orientationOk (ghostCore part n j) f) ≡ ghostTo link first n g (storedTree part) (ghostCore part n) K j f k
+-- a part whose local indices and numbers have 32 bits
+pub record PartCounted (part : List ℕ) (first n g : ℕ) : Type 0 where
+  pub long : length part ≡ partSize n g
+  pub low : first + n ≤ maxTrees
+  pub few : g ≤ maxTrees
+
+-- one of its trees, which has its number
+pub record TreeKnown (part : List ℕ) (first n i : ℕ) : Type 0 where
+  pub below : i < n
+  pub number : treeNumbered first (storedTree part) i ≡ true
+
+-- the ghosts' numbers as a set, which has room for every number below K
+pub record GhostsMarked (part : List ℕ) (first n g K : ℕ) (marks : List ℕ) : Type 0 where
+  pub numbered : PartNumbered part first n g K
+  pub room : K ≤ 64 * length marks
+  pub members : (k : ℕ) → inSet marks k ≡ anyBelow g (ghostHas (ghostCore part n) k)
+
+-- what a loop over records answers: the test, and where it passes the links up and down, each no more than most
+pub record SummedAs (test : Bool) (up down most : ℕ) (ok : Bool) (ups downs : ℕ) : Type 0 where
+  pub tested : ok ≡ test
+  pub upward : ok ≡ true → ups ≡ up
+  pub downward : ok ≡ true → downs ≡ down
+  pub few : (ups ≤ most) × (downs ≤ most)

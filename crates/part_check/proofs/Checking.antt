@@ -343,7 +343,7 @@ module _ (part : List ℕ) (D first n g K j : ℕ) {at : ℕ} (here : at ≡ gho
   ghost-alone : {a : Bool} → a ≡ formAlone D (piece part at coreSize) → formAlone D (ghostCore part n j) ≡ a
   ghost-alone e = ap (formAlone D) (sym (ghost-here part n j here)) ∙ sym e
 
-  pub ghost-off : {a : Bool} → a ≡ formAlone D (piece part at coreSize) → a ≡ false → ghostFromOneEnd (linkByDimension D) first n g (storedTree part) (ghostCore part n) D K j ≡ false
+  pub ghost-off : {a : Bool} → a ≡ formAlone D (piece part at coreSize) → a ≡ false → ghostFromOneEnd (linkByDimension D) g (ghostCore part n) first n D K j ≡ false
   unfolding ghostFromOneEnd
   ghost-off e h = let no : formAlone D (ghostCore part n j) ≡ false = ghost-alone e ∙ h in rw no
 
@@ -352,17 +352,17 @@ module _ (part : List ℕ) (D first n g K j : ℕ) {at : ℕ} (here : at ≡ gho
     faces-here = ap (λ r. faceCount (shapeOf r)) (sym (ghost-here part n j here)) ∙ sym (counted ∙ ap faceCount shaped)
 
     pub ghost-unsorted : (allBelow faces (ghostLow (ghostCore part n) K j) && anyBelow faces (neighbourIn first (first + n) (ghostCore part n j))) ≡ false
-        → ghostFromOneEnd (linkByDimension D) first n g (storedTree part) (ghostCore part n) D K j ≡ false
+        → ghostFromOneEnd (linkByDimension D) g (ghostCore part n) first n D K j ≡ false
     unfolding ghostFromOneEnd
     ghost-unsorted h = rw (faces-here, h, and-false)
 
-    pub ghost-unanswered : allBelow faces (ghostFaceDown (linkByDimension D) g (ghostCore part n) j) ≡ false → ghostFromOneEnd (linkByDimension D) first n g (storedTree part) (ghostCore part n) D K j ≡ false
+    pub ghost-unanswered : allBelow faces (ghostFaceDown (linkByDimension D) g (ghostCore part n) j) ≡ false → ghostFromOneEnd (linkByDimension D) g (ghostCore part n) first n D K j ≡ false
     unfolding ghostFromOneEnd
     ghost-unanswered h = rw (faces-here, h, and-false)
 
     pub ghost-seen : {a ok : Bool} {ups downs : ℕ} → a ≡ formAlone D (piece part at coreSize) → a ≡ true → allBelow faces (ghostFaceDown (linkByDimension D) g (ghostCore part n) j) ≡ true
         → SeenAs (allBelow faces (ghostLow (ghostCore part n) K j) && anyBelow faces (neighbourIn first (first + n) (ghostCore part n j))) (countBelow faces (ghostUp first n g (ghostCore part n) j)) (countBelow faces (ghostDown g (ghostCore part n) j)) ok ups downs
-        → ok ≡ true → SeenAs (ghostFromOneEnd (linkByDimension D) first n g (storedTree part) (ghostCore part n) D K j) (ghostUps first n g (ghostCore part n) j) (ghostDowns g (ghostCore part n) j) true ups downs
+        → ok ≡ true → SeenAs (ghostFromOneEnd (linkByDimension D) g (ghostCore part n) first n D K j) (ghostUps first n g (ghostCore part n) j) (ghostDowns g (ghostCore part n) j) true ups downs
     unfolding ghostFromOneEnd ghostUps ghostDowns
     ghost-seen e h l s passes =
         let x : formAlone D (ghostCore part n j) ≡ true = ghost-alone e ∙ h in
@@ -415,7 +415,7 @@ module _ (part : List ℕ) (D first n g K : ℕ) (laid : PartLaid part first n g
                   (and-fst (allBelow n (treeNumbered first (storedTree part))) _ (sym (trees-seen D first n g (storedTree part) (ghostCore part n)) ∙ sym (trees .tested) ∙ passes)) (sym ghosts ∙ some);
             }
 
-        module _ {room more less : ℕ} {z : Bool} (seen : SummedAs (allBelow g (ghostFromOneEnd (linkByDimension D) first n g (storedTree part) (ghostCore part n) D K)) (sumBelow g (ghostUps first n g (ghostCore part n))) (sumBelow g (ghostDowns g (ghostCore part n))) room z more less) where
+        module _ {room more less : ℕ} {z : Bool} (seen : SummedAs (allBelow g (ghostFromOneEnd (linkByDimension D) g (ghostCore part n) first n D K)) (sumBelow g (ghostUps first n g (ghostCore part n))) (sumBelow g (ghostDowns g (ghostCore part n))) room z more less) where
           pub records-off : z ≡ false → false ≡ sound
           unfolding recordsFromOneEnd
           records-off h = sym (records-are ∙ rw (← ghosts, some, ← trees .tested, passes, ← seen .tested, h))

@@ -388,7 +388,7 @@ module _ (D first n g K : ℕ) (tree ghostly : ℕ → List ℕ) (numbers : numb
         (λ q. (held-below k q, oriented D (ghostly j) (ghostly (leastBelow g (ghostHas ghostly k))) (all-fit .1 j h) (all-fit .1 _ (there-below k q)) (numberOf (ghostly j)) f face (rw (p, q) at e)))
         (λ q. let both : (ltb k K && orientationOk (ghostly j) f) ≡ true = rw (p, q) at e in (ltb-true _ _ (and-fst (ltb k K) _ both), and-snd (ltb k K) _ both)))
 
-    ghost-passes : (j : ℕ) → j < g → ghostFromOneEnd (linkByDimension D) first n g tree ghostly D K j ≡ true
+    ghost-passes : (j : ℕ) → j < g → ghostFromOneEnd (linkByDimension D) g ghostly first n D K j ≡ true
     unfolding ghostFromOneEnd ghostLow ghostFaceDown ghostAnswered ghostListed
     ghost-passes j h =
         let r = ghostly j in
@@ -421,7 +421,7 @@ module _ (D first n g K : ℕ) (tree ghostly : ℕ → List ℕ) (numbers : numb
 
   -- ---- where the check passes
 
-  module _ (trees : (i : ℕ) → i < n → treeFromOneEnd (linkByDimension D) n g tree ghostly D i ≡ true) (ghosts : (j : ℕ) → j < g → ghostFromOneEnd (linkByDimension D) first n g tree ghostly D K j ≡ true)
+  module _ (trees : (i : ℕ) → i < n → treeFromOneEnd (linkByDimension D) n g tree ghostly D i ≡ true) (ghosts : (j : ℕ) → j < g → ghostFromOneEnd (linkByDimension D) g ghostly first n D K j ≡ true)
       (same : evenLinks first n g tree ghostly ≡ true) where
     module _ (i : ℕ) (h : i < n) where
       tree-alone : formAlone D (tree i) ≡ true
@@ -553,12 +553,12 @@ module _ (D first n g K : ℕ) (tree ghostly : ℕ → List ℕ) (within : first
   -- the parts of the check
   seen-parts : recordsFromOneEnd (linkByDimension D) first n g tree ghostly D K ≡ true
       → (numbersSound first n g tree ghostly K ≡ true) × (allBelow n (treeFromOneEnd (linkByDimension D) n g tree ghostly D) ≡ true)
-      × (allBelow g (ghostFromOneEnd (linkByDimension D) first n g tree ghostly D K) ≡ true) × (evenLinks first n g tree ghostly ≡ true)
+      × (allBelow g (ghostFromOneEnd (linkByDimension D) g ghostly first n D K) ≡ true) × (evenLinks first n g tree ghostly ≡ true)
   unfolding recordsFromOneEnd numbersSound
   seen-parts e =
       let a : Bool = allBelow g (ghostNumbered first n ghostly K) in
       let b : Bool = allBelow n (treeSeen (linkByDimension D) first n g tree ghostly D) in
-      let d : Bool = allBelow g (ghostFromOneEnd (linkByDimension D) first n g tree ghostly D K) in
+      let d : Bool = allBelow g (ghostFromOneEnd (linkByDimension D) g ghostly first n D K) in
       let rest = and-snd a _ e in
       let both = sym (trees-seen D first n g tree ghostly) ∙ and-fst b _ rest in
       let x : Bool = allBelow n (treeNumbered first tree) in
@@ -577,7 +577,7 @@ module _ (D first n g K : ℕ) (tree ghostly : ℕ → List ℕ) (within : first
   seen-sound e =
       let s = seen-parts e in
       let trees = all-at n (treeFromOneEnd (linkByDimension D) n g tree ghostly D) (s .1) in
-      let ghosts = all-at g (ghostFromOneEnd (linkByDimension D) first n g tree ghostly D K) (s .2) in
+      let ghosts = all-at g (ghostFromOneEnd (linkByDimension D) g ghostly first n D K) (s .2) in
       and-intro (numbersSound first n g tree ghostly K) _ (s .0)
       (and-intro (allBelow n (treeStored (linkByDimension D) n g tree ghostly D)) _
       (all-intro n (treeStored (linkByDimension D) n g tree ghostly D) (tree-stored D first n g K tree ghostly (s .0) trees ghosts (s .3)))
@@ -594,8 +594,8 @@ module _ (D first n g K : ℕ) (tree ghostly : ℕ → List ℕ) (within : first
       and-intro a _ (and-snd x a (s .0))
       (and-intro (allBelow n (treeSeen (linkByDimension D) first n g tree ghostly D)) _
       (trees-seen D first n g tree ghostly ∙ and-intro x _ (and-fst x a (s .0)) (all-intro n (treeFromOneEnd (linkByDimension D) n g tree ghostly D) (tree-passes D first n g K tree ghostly (s .0) within trees ghosts)))
-      (and-intro (allBelow g (ghostFromOneEnd (linkByDimension D) first n g tree ghostly D K)) _
-      (all-intro g (ghostFromOneEnd (linkByDimension D) first n g tree ghostly D K) (ghost-passes D first n g K tree ghostly (s .0) within trees ghosts))
+      (and-intro (allBelow g (ghostFromOneEnd (linkByDimension D) g ghostly first n D K)) _
+      (all-intro g (ghostFromOneEnd (linkByDimension D) g ghostly first n D K) (ghost-passes D first n g K tree ghostly (s .0) within trees ghosts))
       (even D first n g K tree ghostly (s .0) within trees ghosts)))
 
   pub records-from-one-end : recordsFromOneEnd (linkByDimension D) first n g tree ghostly D K ≡ recordsSound (linkByDimension D) first n g tree ghostly D K

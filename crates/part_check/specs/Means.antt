@@ -151,13 +151,13 @@ module _ (link : ℕ → List ℕ → ℕ → List ℕ → Bool) (g : ℕ) (ghos
   unfoldable pub ghostFaceDown : ℕ → ℕ → Bool
   ghostFaceDown j f = cond (ghostListed g ghostly j f) (ghostAnswered j f) true
 
-module _ (link : ℕ → List ℕ → ℕ → List ℕ → Bool) (first n g : ℕ) (tree ghostly : ℕ → List ℕ) where
-  unfoldable pub ghostFromOneEnd : ℕ → ℕ → ℕ → Bool
-  ghostFromOneEnd dimension K j =
+  unfoldable pub ghostFromOneEnd : ℕ → ℕ → ℕ → ℕ → ℕ → Bool
+  ghostFromOneEnd first n dimension K j =
       formAlone dimension (ghostly j)
       && (allBelow (faceCount (shapeOf (ghostly j))) (ghostLow ghostly K j) && anyBelow (faceCount (shapeOf (ghostly j))) (neighbourIn first (first + n) (ghostly j)))
-      && allBelow (faceCount (shapeOf (ghostly j))) (ghostFaceDown link g ghostly j)
+      && allBelow (faceCount (shapeOf (ghostly j))) (ghostFaceDown j)
 
+module _ (link : ℕ → List ℕ → ℕ → List ℕ → Bool) (first n g : ℕ) (tree ghostly : ℕ → List ℕ) where
   -- tree i and its number
   unfoldable pub treeSeen : ℕ → ℕ → Bool
   treeSeen dimension i = treeNumbered first tree i && treeFromOneEnd link n g tree ghostly dimension i
@@ -165,7 +165,7 @@ module _ (link : ℕ → List ℕ → ℕ → List ℕ → Bool) (first n g : �
   -- all records
   unfoldable pub recordsFromOneEnd : ℕ → ℕ → Bool
   recordsFromOneEnd dimension K =
-      allBelow g (ghostNumbered first n ghostly K) && (allBelow n (treeSeen dimension) && (allBelow g (ghostFromOneEnd dimension K) && evenLinks first n g tree ghostly))
+      allBelow g (ghostNumbered first n ghostly K) && (allBelow n (treeSeen dimension) && (allBelow g (ghostFromOneEnd link g ghostly first n dimension K) && evenLinks first n g tree ghostly))
 
 -- a part of n trees from the first on and g ghosts, by its length and header
 pub record PartLaid (part : List ℕ) (first n g K : ℕ) : Type 0 where

@@ -21,7 +21,6 @@ use part::range::find_ghost;
 use part::range::in_range;
 use records::index::GlobalIndex;
 use records::index::LocalIndex;
-use records::index::ghost_index;
 use records::index::to_local;
 ghost use mathlib.Core.Path.{_≡_};
 ghost use mathlib.Core.Bool.{true, cond, _&&_};
@@ -463,7 +462,7 @@ fn ghost_sound(
     j: u32,
 ) -> Seen
     requires { ⌜ GhostsMarked (now part) first count ghosts trees (now marks) × (j < ghosts) × Indexed (now part) (ghostPlace count 0) ghosts (now marks) (now behind) ⌝ }
-    ensures { λ r. ⌜ SeenAs (ghostFromOneEnd (linkByDimension dimension) first count ghosts (storedTree (now (part .entry))) (ghostCore (now (part .entry)) count) dimension trees j) (ghostUps first count ghosts (ghostCore (now (part .entry)) count) j) (ghostDowns ghosts (ghostCore (now (part .entry)) count) j) (r .ok) (r .ups) (r .downs) ⌝ }
+    ensures { λ r. ⌜ SeenAs (ghostFromOneEnd (linkByDimension dimension) ghosts (ghostCore (now (part .entry)) count) first count dimension trees j) (ghostUps first count ghosts (ghostCore (now (part .entry)) count) j) (ghostDowns ghosts (ghostCore (now (part .entry)) count) j) (r .ok) (r .ups) (r .downs) ⌝ }
 {
     let at = ghost_at(count, j);
     if !alone(part, dimension, at) {
@@ -505,7 +504,7 @@ fn ghosts_sound(
     behind: &[u32],
 ) -> Seen
     requires { ⌜ GhostsMarked (now part) first count ghosts trees (now marks) × Indexed (now part) (ghostPlace count 0) ghosts (now marks) (now behind) ⌝ }
-    ensures { λ r. ⌜ SummedAs (allBelow ghosts (ghostFromOneEnd (linkByDimension dimension) first count ghosts (storedTree (now (part .entry))) (ghostCore (now (part .entry)) count) dimension trees)) (sumBelow ghosts (ghostUps first count ghosts (ghostCore (now (part .entry)) count))) (sumBelow ghosts (ghostDowns ghosts (ghostCore (now (part .entry)) count))) (6 * ghosts) (r .ok) (r .ups) (r .downs) ⌝ }
+    ensures { λ r. ⌜ SummedAs (allBelow ghosts (ghostFromOneEnd (linkByDimension dimension) ghosts (ghostCore (now (part .entry)) count) first count dimension trees)) (sumBelow ghosts (ghostUps first count ghosts (ghostCore (now (part .entry)) count))) (sumBelow ghosts (ghostDowns ghosts (ghostCore (now (part .entry)) count))) (6 * ghosts) (r .ok) (r .ups) (r .downs) ⌝ }
 {
     let mut j = 0;
     let mut ups = 0;
@@ -546,7 +545,7 @@ fn ghosts_of_many(
     trees: u32,
 ) -> Seen
     requires { ⌜ PartNumbered (now part) first count ghosts trees ⌝ }
-    ensures { λ r. ⌜ SummedAs (allBelow ghosts (ghostFromOneEnd (linkByDimension dimension) first count ghosts (storedTree (now (part .entry))) (ghostCore (now (part .entry)) count) dimension trees)) (sumBelow ghosts (ghostUps first count ghosts (ghostCore (now (part .entry)) count))) (sumBelow ghosts (ghostDowns ghosts (ghostCore (now (part .entry)) count))) (6 * ghosts) (r .ok) (r .ups) (r .downs) ⌝ }
+    ensures { λ r. ⌜ SummedAs (allBelow ghosts (ghostFromOneEnd (linkByDimension dimension) ghosts (ghostCore (now (part .entry)) count) first count dimension trees)) (sumBelow ghosts (ghostUps first count ghosts (ghostCore (now (part .entry)) count))) (sumBelow ghosts (ghostDowns ghosts (ghostCore (now (part .entry)) count))) (6 * ghosts) (r .ok) (r .ups) (r .downs) ⌝ }
 {
     let mut marks = [0u64; 16384];
     let mut behind = [0u32; 16384];
@@ -580,7 +579,7 @@ fn all_ghosts_sound(
     trees: u32,
 ) -> Seen
     requires { ⌜ PartNumbered (now part) first count ghosts trees ⌝ }
-    ensures { λ r. ⌜ SummedAs (allBelow ghosts (ghostFromOneEnd (linkByDimension dimension) first count ghosts (storedTree (now (part .entry))) (ghostCore (now (part .entry)) count) dimension trees)) (sumBelow ghosts (ghostUps first count ghosts (ghostCore (now (part .entry)) count))) (sumBelow ghosts (ghostDowns ghosts (ghostCore (now (part .entry)) count))) (6 * ghosts) (r .ok) (r .ups) (r .downs) ⌝ }
+    ensures { λ r. ⌜ SummedAs (allBelow ghosts (ghostFromOneEnd (linkByDimension dimension) ghosts (ghostCore (now (part .entry)) count) first count dimension trees)) (sumBelow ghosts (ghostUps first count ghosts (ghostCore (now (part .entry)) count))) (sumBelow ghosts (ghostDowns ghosts (ghostCore (now (part .entry)) count))) (6 * ghosts) (r .ok) (r .ups) (r .downs) ⌝ }
 {
     if trees <= 65536 {
         let mut marks = [0u64; 1024];

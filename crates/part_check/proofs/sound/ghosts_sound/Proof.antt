@@ -1,7 +1,6 @@
 use Rattle.part_check.proofs.Checking.{summed-refused, summed-all}
 use Rattle.part_check.specs.Means.{ghostUps, ghostDowns, ghostFromOneEnd}
 use Rattle.part.specs.Means.{ghostCore}
-use Rattle.part.specs.Part.{storedTree}
 use Rattle.mesh.proofs.Checking.{sum-next}
 use Rattle.mesh.specs.Means.{linkByDimension}
 use Rattle.encoding.proofs.Below.{all-more, all-fails}
@@ -17,7 +16,7 @@ use Rattle.part_check.proofs.sound.ghosts_sound.Tie as tie
 
 abbrev Inv-loop : tie.InvT-loop
 Inv-loop part first count ghosts dimension trees marks behind j₀ ups₀ downs₀ j ups downs =
-    (j ≤ ghosts) × (allBelow j (ghostFromOneEnd (linkByDimension dimension) first count ghosts (storedTree part) (ghostCore part count) dimension trees) ≡ true)
+    (j ≤ ghosts) × (allBelow j (ghostFromOneEnd (linkByDimension dimension) ghosts (ghostCore part count) first count dimension trees) ≡ true)
     × ((ups ≡ sumBelow j (ghostUps first count ghosts (ghostCore part count))) × (ups ≤ 6 * j)) × ((downs ≡ sumBelow j (ghostDowns ghosts (ghostCore part count))) × (downs ≤ 6 * j))
 
 abbrev μ-loop : tie.MeasureT-loop

@@ -1,37 +1,42 @@
 -- What the functions that check a part find is what the definitions say.
-use Prim.Native.Nat.{ℕ, _+_, _-_, _%_, _≤_, _<_}
+use Prim.Native.Nat.{ℕ, _+_, _-_, _*_, _%_, _≤_, _<_}
 use native.Mathlib.Numerals.{add-one}
 use native.Mathlib.Omega.{arith}
 use mathlib.Core.Path.{_≡_, refl, sym, ap, _∙_}
-use mathlib.Core.Bool.{Bool, true, false, not, _&&_, _||_, and-false}
+use mathlib.Core.Bool.{Bool, true, false, cond, not, _&&_, _||_, and-false}
 use mathlib.Core.List.{List}
 use lib.Dec.{leb, ltb, eqb}
 use lib.ListN.{length}
 use borrow.Author.Tests.{ltb-true, leb-true, leb-false, lt-ltb, le-ltb, eq-eqb, ne-eqb, eqb-true}
-use Rattle.encoding.specs.Below.{allBelow, anyBelow, leastBelow}
+use Rattle.encoding.specs.Below.{allBelow, anyBelow, countBelow, leastBelow, sumBelow}
 use Rattle.encoding.specs.Numbers.{u32At}
 use Rattle.encoding.specs.Pieces.{piece, Bytes}
-use Rattle.encoding.proofs.Below.{tests, either, clash, iff-eq, all-at, all-fails, all-and, and-fst, and-snd, and-intro, least-none, least-lt, least-same}
+use Rattle.encoding.proofs.Below.{tests, either, clash, iff-eq, all-at, all-fails, all-to, and-fst, and-snd, and-intro, any-same, count-more, least-lt, least-same}
 use Rattle.records.specs.Shape.{dimensionOf, faceCount}
-use Rattle.records.specs.Record.{coreSize, numberOf, shapeOf, neighbourOf, toItself, boundaryOk, inForm}
+use Rattle.records.specs.Record.{coreSize, numberOf, shapeOf, neighbourOf, boundaryOk}
 use Rattle.mesh.specs.Link.{orientationOk}
 use Rattle.mesh.specs.Mesh.{dimensionOk}
 use Rattle.offsets.specs.Table.{ranks, entry, trees, firstTree, endTree, treeCount}
 use Rattle.offsets.proofs.Tables.{count-add, end-trees, trees-high}
 use Rattle.part.specs.Layout.{treePlace, ghostPlace, partSize}
-use Rattle.positions.specs.Means.{hasNumber, positionOf, memberPosition, Numbered, Indexed}
+use Rattle.positions.specs.Means.{hasNumber, someHas, positionOf, memberPosition, Numbered, Indexed}
 use Rattle.positions.proofs.Positions.{index-position}
 use Rattle.part.specs.Means.{viewSound, inRange, neighbourIn, numberAt, Ascending, ghostCore, ghostHas, RankKnown, partLinked}
 use Rattle.part.proofs.Sound.{part-sound-is}
 use Rattle.part.specs.Part.{partDimension, partK, partFirst, partCount, partGhostCount, storedTree, storedGhost, globalNumber, globalTree, partHeaderSound, partSound}
-use Rattle.mesh.specs.Means.{linkByDimension}
-use Rattle.part_check.specs.Means.{plainForm, unusedFrom, treeTo, treeFace, treeFits, treeStored, treeNumbered, ghostBehind, ghostNumbered, numbersSound, ghostTo, ghostFace, ghostFits, treeChecked, ghostStored, recordsSound, PartLaid, PartNumbered, Leads}
+use Rattle.mesh.specs.Means.{linkByDimension, SeenAs}
+use Rattle.part_check.specs.Means.{plainForm, unusedFrom, formAlone, recordPlace, treeTo, treeFace, treeFits, treeNumbered, ghostBehind, ghostNumbered, numbersSound, recordsSound, treeUp, treeDown, ghostUp, ghostDown, ghostListed, treeUps, treeDowns, ghostUps, ghostDowns, evenLinks, ghostLow, treeFaceDown, treeFromOneEnd, ghostAnswered, ghostFaceDown, ghostFromOneEnd, treeSeen, recordsFromOneEnd, PartLaid, PartNumbered, PartCounted, TreeKnown, GhostsMarked, SummedAs}
 use Rattle.part.proofs.Global.{global-alike, global-neighbour}
-use Rattle.part_check.proofs.Judging.{ghosts-ascend, ghosts-few, lookedUp, Seen, view-is}
-use Rattle.part_check.proofs.Faces.{form-faces, form-faces-met}
+use Rattle.part_check.proofs.Judging.{numbered-few, ghosts-ascend, lookedUp, Seen, view-is}
+use Rattle.part_check.proofs.FromOneEnd.{trees-seen, records-from-one-end}
 use Rattle.part_check.proofs.ByDimension.{records-by-dimension}
-use Rattle.part.proofs.Ranges.{range-last}
 use Rattle.part.proofs.Search.{number-there}
+
+-- what fails with more behind it
+and-off : (a b c : Bool) → (a && b) ≡ false → (a && (b && c)) ≡ false
+and-off true true c e = clash refl e
+and-off true false c e = refl
+and-off false b c e = refl
 
 -- ---- trees
 
@@ -45,6 +50,41 @@ module _ (part : List ℕ) (i : ℕ) {at : ℕ} (here : at ≡ treePlace i) wher
     unfolding treeNumbered storedTree
     numbered-is t e =
         rw (← here, ← number) (iff-eq (eqb t i) (eqb v (first + i)) (λ p. eq-eqb v (first + i) (omega (arith, eqb-true t i p))) (λ p. eq-eqb t i (omega (arith, eqb-true v (first + i) p))))
+
+  tree-here : piece part at coreSize ≡ storedTree part i
+  unfolding storedTree
+  tree-here = rw here
+
+  -- where a link leads, with what stands in the record
+  module _ (f : ℕ) {j : ℕ} (read : j ≡ neighbourOf (piece part at coreSize) f) where
+    pub neighbour-low : {b : ℕ} → j < b → neighbourOf (storedTree part i) f < b
+    unfolding storedTree
+    neighbour-low h = rw (← here, ← read) h
+
+    pub neighbour-under : {b : ℕ} → neighbourOf (storedTree part i) f < b → j < b
+    unfolding storedTree
+    neighbour-under h = rw (← here, ← read) at h
+
+    module _ (n : ℕ) where
+      up-read : (ltb i j && ltb j n) ≡ treeUp n (storedTree part) i f
+      unfolding treeUp storedTree
+      up-read = rw (← here, ← read)
+
+      module _ (higher : (ltb i j && ltb j n) ≡ true) where
+        pub up-counts : true ≡ treeUp n (storedTree part) i f
+        up-counts = sym (sym up-read ∙ higher)
+
+        pub up-no-down : treeDown n (storedTree part) i f ≡ false
+        unfolding treeDown
+        up-no-down = rw (← up-counts)
+
+      module _ (other : (ltb i j && ltb j n) ≡ false) where
+        pub down-no-up : treeUp n (storedTree part) i f ≡ false
+        down-no-up = sym up-read ∙ other
+
+        pub down-counts : not (eqb j i) ≡ treeDown n (storedTree part) i f
+        unfolding treeDown storedTree
+        down-counts = let no : treeUp n (storedTree part) i f ≡ false = down-no-up in rw (no, ← here, ← read)
 
   module _ (D n g : ℕ) where
     module _ (f : ℕ) {j : ℕ} (read : j ≡ neighbourOf (piece part at coreSize) f) where
@@ -62,36 +102,57 @@ module _ (part : List ℕ) (i : ℕ) {at : ℕ} (here : at ≡ treePlace i) wher
       unfolding treeFace treeTo storedTree
       face-none h l = rw (← here, ← read, le-ltb j n h, le-ltb (j - n) g l)
 
-      -- and the form of the face
-      pub fits-here : {b r : Bool} → b ≡ boundaryOk i (piece part at coreSize) f → r ≡ treeFace (linkByDimension D) n g (storedTree part) (ghostCore part n) i f
-          → (b && r) ≡ treeFits (linkByDimension D) n g (storedTree part) (ghostCore part n) i f
-      unfolding treeFits storedTree
-      fits-here p q = rw (← here, p, q)
+      -- a link up is only counted
+      pub up-passes : (ltb i j && ltb j n) ≡ true → treeFaceDown (linkByDimension D) n g (storedTree part) (ghostCore part n) i f ≡ true
+      unfolding treeFaceDown
+      up-passes h = rw (← up-counts f read n h)
 
-      pub fits-away : {r : Bool} → i < n → n ≤ j → r ≡ treeFace (linkByDimension D) n g (storedTree part) (ghostCore part n) i f → r ≡ treeFits (linkByDimension D) n g (storedTree part) (ghostCore part n) i f
-      unfolding treeFits boundaryOk toItself storedTree
-      fits-away l h q = rw (← here, ← read, ne-eqb j i (λ e. omega arith), q)
+      -- any other has to obey the rules
+      module _ (other : (ltb i j && ltb j n) ≡ false) where
+        pub down-is : {r : Bool} → r ≡ treeFits (linkByDimension D) n g (storedTree part) (ghostCore part n) i f → treeFaceDown (linkByDimension D) n g (storedTree part) (ghostCore part n) i f ≡ r
+        unfolding treeFaceDown
+        down-is e = rw (down-no-up f read n other) (sym e)
 
-      pub fits-none : false ≡ treeFace (linkByDimension D) n g (storedTree part) (ghostCore part n) i f → false ≡ treeFits (linkByDimension D) n g (storedTree part) (ghostCore part n) i f
-      unfolding treeFits
-      fits-none q = rw (← q, and-false)
+        pub down-outside : n + g ≤ j → treeFaceDown (linkByDimension D) n g (storedTree part) (ghostCore part n) i f ≡ false
+        unfolding treeFaceDown treeFits
+        down-outside h = rw (down-no-up f read n other, ← face-none (omega arith) (omega arith), and-false)
 
-    tree-here : piece part at coreSize ≡ storedTree part i
-    unfolding storedTree
-    tree-here = rw here
+      -- the rules: the form of the face, then the link
+      module _ {b : Bool} (edge : b ≡ boundaryOk i (piece part at coreSize) f) where
+        pub fits-not : b ≡ false → false ≡ treeFits (linkByDimension D) n g (storedTree part) (ghostCore part n) i f
+        unfolding treeFits storedTree
+        fits-not h = rw (← here, ← edge, h)
 
-    pub tree-stored : {p u d : Bool} {shape dimension used faces : ℕ} → shape ≡ shapeOf (piece part at coreSize) → p ≡ plainForm (piece part at coreSize) → used ≡ faceCount shape
-        → u ≡ allBelow 6 (unusedFrom used (piece part at coreSize)) → dimension ≡ dimensionOf shape → faces ≡ faceCount shape → d ≡ allBelow faces (treeFits (linkByDimension D) n g (storedTree part) (ghostCore part n) i)
-        → (p && u && eqb dimension D && d) ≡ treeStored (linkByDimension D) n g (storedTree part) (ghostCore part n) D i
-    unfolding treeStored treeFits
-    tree-stored e p w u r s t =
-        rw (p, u, w, r, t, s, e, tree-here)
-        (form-faces i (storedTree part i) (treeFace (linkByDimension D) n g (storedTree part) (ghostCore part n) i) (eqb (dimensionOf (shapeOf (storedTree part i))) D))
+        fits-face : {r : Bool} → b ≡ true → r ≡ treeFace (linkByDimension D) n g (storedTree part) (ghostCore part n) i f → r ≡ treeFits (linkByDimension D) n g (storedTree part) (ghostCore part n) i f
+        unfolding treeFits
+        fits-face h q = let there : boundaryOk i (storedTree part i) f ≡ true = rw (← tree-here, ← edge) h in rw (there, q)
 
-    pub tree-read : {a d : Bool} {shape dimension faces : ℕ} → shape ≡ shapeOf (piece part at coreSize) → a ≡ inForm i (piece part at coreSize) → dimension ≡ dimensionOf shape → faces ≡ faceCount shape
-        → d ≡ allBelow faces (treeFace (linkByDimension D) n g (storedTree part) (ghostCore part n) i) → (a && eqb dimension D && d) ≡ treeStored (linkByDimension D) n g (storedTree part) (ghostCore part n) D i
-    unfolding treeStored storedTree
-    tree-read e p r s t = rw (← here, p, r, t, s, e)
+        pub fits-read : {first back to : ℕ} {r : Bool} → b ≡ true → TreeKnown part first n i → j < n + g → back ≡ cond (ltb j n) i (first + i) → to ≡ recordPlace n j
+            → r ≡ linkByDimension D back (piece part at coreSize) f (piece part to coreSize) → r ≡ treeFits (linkByDimension D) n g (storedTree part) (ghostCore part n) i f
+        unfolding recordPlace treeNumbered
+        fits-read {first} h known less back-is there p =
+            either (ltb j n)
+            (λ q.
+            let own = rw q at back-is in
+            fits-face h (face-tree (ltb-true j n q) (rw q at there) (rw own at p)))
+            (λ q.
+            let own = rw q at back-is in
+            let number : first + i ≡ numberOf (piece part at coreSize) = sym (eqb-true _ _ (known .number)) ∙ ap numberOf (sym tree-here) in
+            fits-face h (face-ghost (omega tests) (omega tests) number (rw q at there) (rw own at p)))
+
+-- where the record with local index j ends
+pub place-fits : {part : List ℕ} {first n g : ℕ} (j : ℕ) {to : ℕ} → PartCounted part first n g → j < n + g → to ≡ recordPlace n j → to + coreSize ≤ length part
+unfolding recordPlace
+place-fits {n} j known h e =
+    either (ltb j n)
+    (λ p. let place = rw p at e in omega (tests, place, known .long))
+    (λ p. let place = rw p at e in omega (tests, place, known .long))
+
+-- what a record shows without its links
+pub alone-read : {p u : Bool} {shape faces dimension : ℕ} (D : ℕ) (r : List ℕ) → shape ≡ shapeOf r → p ≡ plainForm r → faces ≡ faceCount shape → u ≡ allBelow 6 (unusedFrom faces r) → dimension ≡ dimensionOf shape
+    → (p && u && eqb dimension D) ≡ formAlone D r
+unfolding formAlone
+alone-read D r e p q u d = rw (p, u, d, q, e)
 
 -- ---- ghosts
 
@@ -108,9 +169,6 @@ within-is first n k {p} h l e =
     let b : k < first = leb-false first k q in
     let d : p ≡ k + (4294967296 - first) = omega (arith, e) in
     rw (q, le-ltb p n (omega (arith, d))))
-
-pub links-fail : (n : ℕ) (f : ℕ → Bool) (b : Bool) (i : ℕ) → i < n → f i ≡ false → false ≡ (allBelow n f && b)
-links-fail n f b i h e = ap (λ (x : Bool). x && b) (sym (all-fails n f i h e))
 
 module _ (part : List ℕ) (n j : ℕ) where
   pub behind-none : j ≡ 0 → true ≡ ghostBehind (ghostCore part n) j
@@ -131,34 +189,15 @@ module _ (part : List ℕ) (n j : ℕ) where
     unfolding ghostCore
     ghost-here = rw here
 
-    pub ghost-stored : {p u d : Bool} {shape dimension faces : ℕ} (first g D K : ℕ) → shape ≡ shapeOf (piece part at coreSize) → faces ≡ faceCount shape → p ≡ plainForm (piece part at coreSize)
-        → u ≡ allBelow 6 (unusedFrom faces (piece part at coreSize)) → dimension ≡ dimensionOf shape
-        → d ≡ (allBelow faces (ghostFits (linkByDimension D) first n g (storedTree part) (ghostCore part n) K j) && anyBelow faces (neighbourIn first (first + n) (ghostCore part n j)))
-        → (p && u && eqb dimension D && d) ≡ ghostStored (linkByDimension D) first n g (storedTree part) (ghostCore part n) D K j
-    unfolding ghostStored ghostFits
-    ghost-stored first g D K e s p u r t =
-        rw (p, u, r, t, s, e, ghost-here)
-        (form-faces-met (numberOf (ghostCore part n j)) (ghostCore part n j) (ghostFace (linkByDimension D) first n g (storedTree part) (ghostCore part n) K j) (eqb (dimensionOf (shapeOf (ghostCore part n j))) D)
-        (anyBelow (faceCount (shapeOf (ghostCore part n j))) (neighbourIn first (first + n) (ghostCore part n j))))
-
-  -- one face of a ghost: its form, then its link
-  module _ (first g D K f : ℕ) {at v : ℕ} (here : at ≡ ghostPlace n j) (number : v ≡ numberOf (piece part at coreSize)) {b : Bool} (edge : b ≡ boundaryOk v (piece part at coreSize) f) where
-    pub fits-not : b ≡ false → ghostFits (linkByDimension D) first n g (storedTree part) (ghostCore part n) K j f ≡ false
-    unfolding ghostFits ghostCore
-    fits-not h = rw (← here, ← number, ← edge, h)
-
-    pub fits-link : {r : Bool} → b ≡ true → r ≡ ghostFace (linkByDimension D) first n g (storedTree part) (ghostCore part n) K j f → ghostFits (linkByDimension D) first n g (storedTree part) (ghostCore part n) K j f ≡ r
-    unfolding ghostFits ghostCore
-    fits-link h q = rw (← here, ← number, ← edge, h, q)
+    pub low-read : {o : Bool} (f : ℕ) {k : ℕ} (K : ℕ) → k ≡ neighbourOf (piece part at coreSize) f → o ≡ orientationOk (piece part at coreSize) f → (ltb k K && o) ≡ ghostLow (ghostCore part n) K j f
+    unfolding ghostLow
+    low-read f K read e = rw (← ghost-here, ← read, e)
 
   -- the faces of a ghost that were looked at, and whether one led into the range
   module _ (first f : ℕ) {m : Bool} (met : m ≡ anyBelow f (neighbourIn first (first + n) (ghostCore part n j))) where
     pub met-more : {at k : ℕ} {b : Bool} → at ≡ ghostPlace n j → k ≡ neighbourOf (piece part at coreSize) f → b ≡ inRange first (first + n) k → (m || b) ≡ anyBelow (f + 1) (neighbourIn first (first + n) (ghostCore part n j))
     unfolding anyBelow neighbourIn ghostCore
     met-more here read test = rw (add-one f, met, test, read, here)
-
-    pub met-all : (link : ℕ → Bool) (faces : ℕ) → f ≤ faces → faces ≤ f → allBelow f link ≡ true → m ≡ (allBelow faces link && anyBelow faces (neighbourIn first (first + n) (ghostCore part n j)))
-    met-all link faces p q a = let e : faces ≡ f = omega arith in rw (e, a) met
 
 module _ (part : List ℕ) (n g : ℕ) where
   module _ (first K : ℕ) (known : PartNumbered part first n g K) where
@@ -187,9 +226,15 @@ module _ (part : List ℕ) (n g : ℕ) where
       pub ghosts-indexed : {ws behind : List ℕ} → Indexed part at g ws behind → Indexed part (ghostPlace n 0) g ws behind
       ghosts-indexed x = rw from at x
 
-    -- the local index of a ghost has 32 bits
-    pub index-word : (j : ℕ) → j < g → n + j < 4294967296
-    index-word j h = omega (arith, ghosts-few first n g K (storedTree part) (ghostCore part n) (known .numbers), known .laid .within, known .laid .most)
+  -- the members of the set are those of the index
+  pub ghosts-marked : {first K : ℕ} {ws behind : List ℕ} → PartNumbered part first n g K → K ≤ 64 * length ws → Indexed part (ghostPlace n 0) g ws behind → GhostsMarked part first n g K ws
+  unfolding someHas hasNumber ghostHas
+  ghosts-marked known room x =
+      record {
+        numbered = known;
+        room = room;
+        members = λ k. x .members k ∙ any-same g (hasNumber part (ghostPlace n 0) k) (ghostHas (ghostCore part n) k) (λ i h. ap (λ (y : ℕ). eqb y k) (number-there part n g i));
+      }
 
   -- the ghost that is looked up
   pub ghost-found : {ws behind : List ℕ} → Indexed part (ghostPlace n 0) g ws behind → (k : ℕ) {p : ℕ} → p ≡ memberPosition ws g k → p ≡ leastBelow g (ghostHas (ghostCore part n) k)
@@ -198,84 +243,186 @@ module _ (part : List ℕ) (n g : ℕ) where
       e ∙ index-position x k
       ∙ least-same g (hasNumber part (ghostPlace n 0) k) (ghostHas (ghostCore part n) k) (λ i h. ap (λ (y : ℕ). eqb y k) (number-there part n g i))
 
-  -- the link of a ghost to tree k
-  module _ (first j k : ℕ) {b : Bool} (test : b ≡ inRange first (first + n) k) (long : length part ≡ partSize n g) where
-    pub leads-tree : (t : ℕ) {own to : ℕ} → b ≡ true → t + first ≡ k → own ≡ n + j → to ≡ treePlace t → Leads part first n g j k true to own
-    unfolding inRange ghostTo storedTree
-    leads-tree t h l e there =
-        let s : k - first ≡ t = omega arith in
-        let low : k < first + n = range-last first (first + n) k test h in
-        record {
-          fits = λ q. omega (arith, there, long, low, l);
-          is = λ link K f. rw (← test, h, s, ← there, e);
-        }
+-- ---- the links of a ghost
 
-    module _ (out : b ≡ false) {p : ℕ} (position : p ≡ leastBelow g (ghostHas (ghostCore part n) k)) where
-      pub leads-ghost : {at v to : ℕ} → p < g → at ≡ ghostPlace n j → v ≡ numberOf (piece part at coreSize) → to ≡ ghostPlace n p → Leads part first n g j k true to v
-      unfolding ghostTo ghostCore
-      leads-ghost h here e there =
-          let some : anyBelow g (ghostHas (ghostCore part n) k) ≡ true =
-          either (anyBelow g (ghostHas (ghostCore part n) k)) (λ t. t) (λ t. absurd (omega (arith, least-none g (ghostHas (ghostCore part n) k) t))) in
-          record {
-            fits = λ q. omega (arith, there, long, h);
-            is = λ link K f. rw (← here, ← test, out, some, ← position, ← there, e);
-          }
+module _ (part : List ℕ) (n g j : ℕ) {at : ℕ} (here : at ≡ ghostPlace n j) where
+  is-here : ghostCore part n j ≡ piece part at coreSize
+  is-here = sym (ghost-here part n j here)
 
-      pub leads-none : (to back : ℕ) → g ≤ p → Leads part first n g j k false to back
-      unfolding ghostTo
-      leads-none to back h =
-          let none : anyBelow g (ghostHas (ghostCore part n) k) ≡ false =
-          either (anyBelow g (ghostHas (ghostCore part n) k)) (λ t. absurd (omega (arith, least-lt g (ghostHas (ghostCore part n) k) t))) (λ t. t) in
-          record { fits = λ q. absurd (clash q refl); is = λ link K f. rw (← test, out, none) }
+  module _ (f : ℕ) {k : ℕ} (read : k ≡ neighbourOf (piece part at coreSize) f) where
+    module _ {own : ℕ} (number : own ≡ numberOf (piece part at coreSize)) where
+      -- whether the neighbour is held stands in a set
+      module _ {h : Bool} (held : h ≡ anyBelow g (ghostHas (ghostCore part n) k)) where
+        pub up-ghost : {b : Bool} (first : ℕ) → b ≡ inRange first (first + n) k → (b || (h && ltb own k)) ≡ ghostUp first n g (ghostCore part n) j f
+        unfolding ghostUp
+        up-ghost first e = rw (is-here, ← read, ← number, held, e)
 
-  -- the rule of that link
-  module _ (first D K j f : ℕ) {at k : ℕ} (here : at ≡ ghostPlace n j) (read : k ≡ neighbourOf (piece part at coreSize) f) {found : Bool} {to back : ℕ} (leads : Leads part first n g j k found to back) where
-    pub link-held : {r : Bool} → found ≡ true → r ≡ linkByDimension D back (piece part at coreSize) f (piece part to coreSize)
-        → r ≡ ghostFace (linkByDimension D) first n g (storedTree part) (ghostCore part n) K j f
-    unfolding ghostFace ghostCore
-    link-held h p = rw (← here, ← read, ← leads .is (linkByDimension D) K f, h, ← here, p)
+        pub down-ghost : (h && ltb k own) ≡ ghostDown g (ghostCore part n) j f
+        unfolding ghostDown
+        down-ghost = rw (is-here, ← read, ← number, held)
 
-    pub link-free : {q : Bool} → found ≡ false → q ≡ orientationOk (piece part at coreSize) f → (ltb k K && q) ≡ ghostFace (linkByDimension D) first n g (storedTree part) (ghostCore part n) K j f
-    unfolding ghostFace ghostCore
-    link-free h e = rw (← here, ← read, ← leads .is (linkByDimension D) K f, h, ← here, e)
+        pub listed-ghost : (h && leb k own) ≡ ghostListed g (ghostCore part n) j f
+        unfolding ghostListed
+        listed-ghost = rw (is-here, ← read, ← number, held)
 
--- ---- trees and ghosts together
+      -- the rules of a link to a ghost
+      module _ (D : ℕ) {b : Bool} (edge : b ≡ boundaryOk own (piece part at coreSize) f) where
+        pub answered-not : b ≡ false → false ≡ ghostAnswered (linkByDimension D) g (ghostCore part n) j f
+        unfolding ghostAnswered
+        answered-not h = rw (is-here, ← number, ← edge, h)
 
-and-mix : (a b s z : Bool) → ((a && b) && (s && z)) ≡ (b && (a && s && z))
-and-mix true true s z = refl
-and-mix true false s z = refl
-and-mix false true s z = refl
-and-mix false false s z = refl
+        pub answered-read : {p to : ℕ} {r : Bool} → b ≡ true → p ≡ leastBelow g (ghostHas (ghostCore part n) k) → to ≡ ghostPlace n p
+            → r ≡ linkByDimension D own (piece part at coreSize) f (piece part to coreSize) → r ≡ ghostAnswered (linkByDimension D) g (ghostCore part n) j f
+        unfolding ghostAnswered
+        answered-read h position there e =
+            let found : ghostCore part n (leastBelow g (ghostHas (ghostCore part n) k)) ≡ piece part _ coreSize = ap (ghostCore part n) (sym position) ∙ sym (ghost-here part n _ there) in
+            rw (is-here, ← number, ← edge, h, ← read, found, e)
 
--- the numbers of the ghosts, then the trees with their numbers, then the ghosts
-module _ (link : ℕ → List ℕ → ℕ → List ℕ → Bool) (first n g : ℕ) (tree ghostly : ℕ → List ℕ) (D K : ℕ) where
-  trees-checked : allBelow n (treeChecked link first n g tree ghostly D) ≡ (allBelow n (treeNumbered first tree) && allBelow n (treeStored link n g tree ghostly D))
-  unfolding treeChecked
-  trees-checked = all-and n (treeNumbered first tree) (treeStored link n g tree ghostly D)
+    -- a ghost that is listed is there
+    pub listed-there : {p : ℕ} → ghostListed g (ghostCore part n) j f ≡ true → p ≡ leastBelow g (ghostHas (ghostCore part n) k) → p < g
+    unfolding ghostListed
+    listed-there e position =
+        let same : neighbourOf (ghostCore part n j) f ≡ k = ap (λ r. neighbourOf r f) is-here ∙ sym read in
+        let held : anyBelow g (ghostHas (ghostCore part n) k) ≡ true = rw same at (and-fst (anyBelow g (ghostHas (ghostCore part n) (neighbourOf (ghostCore part n j) f))) _ e) in
+        rw position (least-lt g (ghostHas (ghostCore part n) k) held)
 
-  records-are : recordsSound link first n g tree ghostly D K
-      ≡ (allBelow g (ghostNumbered first n ghostly K) && (allBelow n (treeChecked link first n g tree ghostly D) && allBelow g (ghostStored link first n g tree ghostly D K)))
-  unfolding recordsSound numbersSound
-  records-are =
-      rw trees-checked
-      (and-mix (allBelow n (treeNumbered first tree)) (allBelow g (ghostNumbered first n ghostly K)) (allBelow n (treeStored link n g tree ghostly D)) (allBelow g (ghostStored link first n g tree ghostly D K)))
+module _ (D g j : ℕ) (ghostly : ℕ → List ℕ) where
+  pub not-listed : (f : ℕ) → ghostListed g ghostly j f ≡ false → ghostFaceDown (linkByDimension D) g ghostly j f ≡ true
+  unfolding ghostFaceDown
+  not-listed f e = rw e
 
-  module _ {x : Bool} (ghosts : x ≡ allBelow g (ghostNumbered first n ghostly K)) where
-    pub records-no-ghosts : x ≡ false → false ≡ recordsSound link first n g tree ghostly D K
-    records-no-ghosts h = rw (records-are, ← ghosts, h)
+  pub listed-is : (f : ℕ) → ghostListed g ghostly j f ≡ true → ghostFaceDown (linkByDimension D) g ghostly j f ≡ ghostAnswered (linkByDimension D) g ghostly j f
+  unfolding ghostFaceDown
+  listed-is f e = rw e
 
-    module _ {y : Bool} (trees : y ≡ allBelow n (treeChecked link first n g tree ghostly D)) (some : x ≡ true) where
-      pub records-no-trees : y ≡ false → false ≡ recordsSound link first n g tree ghostly D K
-      records-no-trees h = rw (records-are, ← ghosts, some, ← trees, h)
+-- a link that fails by itself, and one that doesn't
+pub low-fails : (n : ℕ) (f : ℕ → Bool) (b : Bool) (i : ℕ) → i < n → f i ≡ false → (allBelow n f && b) ≡ false
+low-fails n f b i h e = ap (λ (x : Bool). x && b) (all-fails n f i h e)
 
-      pub records-read : {z : Bool} → y ≡ true → z ≡ allBelow g (ghostStored link first n g tree ghostly D K) → z ≡ recordsSound link first n g tree ghostly D K
-      records-read h e = rw (records-are, ← ghosts, some, ← trees, h, e)
+pub low-under : (k K : ℕ) (o : Bool) {room : ℕ} → (ltb k K && o) ≡ true → K ≤ room → k < room
+low-under k K o e h = omega (arith, ltb-true k K (and-fst (ltb k K) o e))
 
-      pub numbers-known : y ≡ true → numbersSound first n g tree ghostly K ≡ true
-      unfolding numbersSound
-      numbers-known h =
-          and-intro (allBelow n (treeNumbered first tree)) (allBelow g (ghostNumbered first n ghostly K))
-          (and-fst (allBelow n (treeNumbered first tree)) (allBelow n (treeStored link n g tree ghostly D)) (sym trees-checked ∙ (sym trees ∙ h))) (sym ghosts ∙ some)
+-- ---- what is seen of a record
+
+-- the loop over the faces of a ghost has come to its end
+pub seen-met : {ups downs : ℕ} {met : Bool} (n face : ℕ) (f m p q : ℕ → Bool) → face ≤ n → n ≤ face → n ≤ 6 → allBelow face f ≡ true → met ≡ anyBelow face m → (ups ≡ countBelow face p) × (ups ≤ face) → (downs ≡ countBelow face q) × (downs ≤ face)
+    → SeenAs (allBelow n f && anyBelow n m) (countBelow n p) (countBelow n q) met ups downs
+seen-met n face f m p q h k six a e u v =
+    let same : face ≡ n = omega arith in
+    let all : allBelow n f ≡ true = all-to n f face h k a in
+    record { tested = rw (all, ← same) e; upward = λ t. rw (← same) (u .0); downward = λ t. rw (← same) (v .0); few = (omega (arith, u .1), omega (arith, v .1)) }
+
+-- a number that doesn't count
+pub count-same-next : {n : ℕ} (i : ℕ) (f : ℕ → Bool) → f i ≡ false → n ≡ countBelow i f → n ≡ countBelow (i + 1) f
+count-same-next i f e h = rw (count-more i f, e) (omega (arith, h))
+
+pub tree-known : (part : List ℕ) (first n i : ℕ) {t : Bool} (a : Bool) → t ≡ treeNumbered first (storedTree part) i → (t && a) ≡ true → i < n → TreeKnown part first n i
+tree-known part first n i {t} a numbered passes h = record { below = h; number = sym numbered ∙ and-fst t a passes }
+
+module _ (part : List ℕ) (D first n g i : ℕ) {at : ℕ} (here : at ≡ treePlace i) {t a : Bool} (numbered : t ≡ treeNumbered first (storedTree part) i) (formed : a ≡ formAlone D (piece part at coreSize)) where
+  tree-formed : a ≡ formAlone D (storedTree part i)
+  unfolding storedTree
+  tree-formed = rw (← here) formed
+
+  pub tree-off : (t && a) ≡ false → treeSeen (linkByDimension D) first n g (storedTree part) (ghostCore part n) D i ≡ false
+  unfolding treeSeen treeFromOneEnd
+  tree-off h = rw (← numbered, ← tree-formed) (and-off t a _ h)
+
+  module _ (passes : (t && a) ≡ true) where
+    pub tree-seen : {shape faces : ℕ} {ok : Bool} {ups downs : ℕ} → shape ≡ shapeOf (piece part at coreSize) → faces ≡ faceCount shape
+        → SeenAs (allBelow faces (treeFaceDown (linkByDimension D) n g (storedTree part) (ghostCore part n) i)) (countBelow faces (treeUp n (storedTree part) i)) (countBelow faces (treeDown n (storedTree part) i)) ok ups downs
+        → SeenAs (treeSeen (linkByDimension D) first n g (storedTree part) (ghostCore part n) D i) (treeUps n (storedTree part) i) (treeDowns n (storedTree part) i) ok ups downs
+    unfolding treeSeen treeFromOneEnd treeUps treeDowns
+    tree-seen shaped counted s =
+        let own : faceCount (shapeOf (storedTree part i)) ≡ _ = ap (λ r. faceCount (shapeOf r)) (sym (tree-here part i here)) ∙ sym (counted ∙ ap faceCount shaped) in
+        let x : treeNumbered first (storedTree part) i ≡ true = sym numbered ∙ and-fst t a passes in
+        let y : formAlone D (storedTree part i) ≡ true = sym tree-formed ∙ and-snd t a passes in
+        rw (x, y, own) s
+
+module _ (part : List ℕ) (D first n g K j : ℕ) {at : ℕ} (here : at ≡ ghostPlace n j) where
+  ghost-alone : {a : Bool} → a ≡ formAlone D (piece part at coreSize) → formAlone D (ghostCore part n j) ≡ a
+  ghost-alone e = ap (formAlone D) (sym (ghost-here part n j here)) ∙ sym e
+
+  pub ghost-off : {a : Bool} → a ≡ formAlone D (piece part at coreSize) → a ≡ false → ghostFromOneEnd (linkByDimension D) g (ghostCore part n) first n D K j ≡ false
+  unfolding ghostFromOneEnd
+  ghost-off e h = let no : formAlone D (ghostCore part n j) ≡ false = ghost-alone e ∙ h in rw no
+
+  module _ {shape faces : ℕ} (shaped : shape ≡ shapeOf (piece part at coreSize)) (counted : faces ≡ faceCount shape) where
+    faces-here : faceCount (shapeOf (ghostCore part n j)) ≡ faces
+    faces-here = ap (λ r. faceCount (shapeOf r)) (sym (ghost-here part n j here)) ∙ sym (counted ∙ ap faceCount shaped)
+
+    pub ghost-unsorted : (allBelow faces (ghostLow (ghostCore part n) K j) && anyBelow faces (neighbourIn first (first + n) (ghostCore part n j))) ≡ false
+        → ghostFromOneEnd (linkByDimension D) g (ghostCore part n) first n D K j ≡ false
+    unfolding ghostFromOneEnd
+    ghost-unsorted h = rw (faces-here, h, and-false)
+
+    pub ghost-unanswered : allBelow faces (ghostFaceDown (linkByDimension D) g (ghostCore part n) j) ≡ false → ghostFromOneEnd (linkByDimension D) g (ghostCore part n) first n D K j ≡ false
+    unfolding ghostFromOneEnd
+    ghost-unanswered h = rw (faces-here, h, and-false)
+
+    pub ghost-seen : {a ok : Bool} {ups downs : ℕ} → a ≡ formAlone D (piece part at coreSize) → a ≡ true → allBelow faces (ghostFaceDown (linkByDimension D) g (ghostCore part n) j) ≡ true
+        → SeenAs (allBelow faces (ghostLow (ghostCore part n) K j) && anyBelow faces (neighbourIn first (first + n) (ghostCore part n j))) (countBelow faces (ghostUp first n g (ghostCore part n) j)) (countBelow faces (ghostDown g (ghostCore part n) j)) ok ups downs
+        → ok ≡ true → SeenAs (ghostFromOneEnd (linkByDimension D) g (ghostCore part n) first n D K j) (ghostUps first n g (ghostCore part n) j) (ghostDowns g (ghostCore part n) j) true ups downs
+    unfolding ghostFromOneEnd ghostUps ghostDowns
+    ghost-seen e h l s passes =
+        let x : formAlone D (ghostCore part n j) ≡ true = ghost-alone e ∙ h in
+        let y : (allBelow faces (ghostLow (ghostCore part n) K j) && anyBelow faces (neighbourIn first (first + n) (ghostCore part n j))) ≡ true = sym (s .tested) ∙ passes in
+        rw (faces-here, x, y, l) (record { tested = refl; upward = λ q. s .upward passes; downward = λ q. s .downward passes; few = s .few })
+
+-- ---- over all records
+
+pub summed-refused : {test : Bool} {up down most : ℕ} {ok : Bool} {ups downs : ℕ} → test ≡ false → (ok ≡ false) × ((ups ≡ 0) × (downs ≡ 0)) → SummedAs test up down most ok ups downs
+summed-refused e r = record { tested = r .0 ∙ sym e; upward = λ t. clash t (r .0); downward = λ t. clash t (r .0); few = (omega (arith, r .1 .0), omega (arith, r .1 .1)) }
+
+pub summed-all : {ups downs : ℕ} (n i : ℕ) (f : ℕ → Bool) (p q : ℕ → ℕ) → i ≤ n → n ≤ i → allBelow i f ≡ true → (ups ≡ sumBelow i p) × (ups ≤ 6 * i) → (downs ≡ sumBelow i q) × (downs ≤ 6 * i)
+    → SummedAs (allBelow n f) (sumBelow n p) (sumBelow n q) (6 * n) true ups downs
+summed-all n i f p q h k a u v =
+    let e : i ≡ n = omega arith in
+    record { tested = sym (all-to n f i h k a); upward = λ t. rw (← e) (u .0); downward = λ t. rw (← e) (v .0); few = (omega (arith, u .1), omega (arith, v .1)) }
+
+pub part-counted : (part : List ℕ) (first n g K : ℕ) → PartLaid part first n g K → {x : Bool} → x ≡ allBelow g (ghostNumbered first n (ghostCore part n) K) → x ≡ true → PartCounted part first n g
+part-counted part first n g K laid ghosts some =
+    record {
+      long = laid .long;
+      low = omega (arith, laid .within, laid .most);
+      few = omega (arith, laid .most, numbered-few first n g K (ghostCore part n) (all-at g (ghostNumbered first n (ghostCore part n) K) (sym ghosts ∙ some)));
+    }
+
+module _ (part : List ℕ) (D first n g K : ℕ) (laid : PartLaid part first n g K) {x : Bool} (ghosts : x ≡ allBelow g (ghostNumbered first n (ghostCore part n) K)) where
+  abbrev sound : Bool
+  sound = recordsSound (linkByDimension D) first n g (storedTree part) (ghostCore part n) D K
+
+  records-are : sound ≡ recordsFromOneEnd (linkByDimension D) first n g (storedTree part) (ghostCore part n) D K
+  records-are = sym (records-from-one-end D first n g K (storedTree part) (ghostCore part n) (laid .within))
+
+  pub records-no-ghosts : x ≡ false → false ≡ sound
+  unfolding recordsFromOneEnd
+  records-no-ghosts h = sym (records-are ∙ rw (← ghosts, h))
+
+  module _ (some : x ≡ true) where
+    module _ {most ups downs : ℕ} {y : Bool} (trees : SummedAs (allBelow n (treeSeen (linkByDimension D) first n g (storedTree part) (ghostCore part n) D)) (sumBelow n (treeUps n (storedTree part))) (sumBelow n (treeDowns n (storedTree part))) most y ups downs) where
+      pub records-no-trees : y ≡ false → false ≡ sound
+      unfolding recordsFromOneEnd
+      records-no-trees h = sym (records-are ∙ rw (← ghosts, some, ← trees .tested, h))
+
+      module _ (passes : y ≡ true) where
+        pub numbers-known : PartNumbered part first n g K
+        unfolding numbersSound
+        numbers-known =
+            record {
+              laid = laid;
+              numbers = and-intro (allBelow n (treeNumbered first (storedTree part))) (allBelow g (ghostNumbered first n (ghostCore part n) K))
+                  (and-fst (allBelow n (treeNumbered first (storedTree part))) _ (sym (trees-seen D first n g (storedTree part) (ghostCore part n)) ∙ sym (trees .tested) ∙ passes)) (sym ghosts ∙ some);
+            }
+
+        module _ {room more less : ℕ} {z : Bool} (seen : SummedAs (allBelow g (ghostFromOneEnd (linkByDimension D) g (ghostCore part n) first n D K)) (sumBelow g (ghostUps first n g (ghostCore part n))) (sumBelow g (ghostDowns g (ghostCore part n))) room z more less) where
+          pub records-off : z ≡ false → false ≡ sound
+          unfolding recordsFromOneEnd
+          records-off h = sym (records-are ∙ rw (← ghosts, some, ← trees .tested, passes, ← seen .tested, h))
+
+          pub records-read : z ≡ true → eqb (ups + more) (downs + less) ≡ sound
+          unfolding recordsFromOneEnd evenLinks
+          records-read h = sym (records-are ∙ rw (← ghosts, some, ← trees .tested, passes, ← seen .tested, h, ← trees .upward passes, ← trees .downward passes, ← seen .upward h, ← seen .downward h))
 
 -- ---- the header and the whole
 

@@ -1,18 +1,19 @@
--- A record's form and a test of each of its faces, with the faces looked at once.
+-- A record's form: what it shows without its links, and a test of each of its faces.
 use Prim.Native.Nat.{ℕ, _+_, _≤_, _<_}
-use mathlib.Core.Path.{_≡_, refl, sym, ap, _∙_}
-use mathlib.Core.Bool.{Bool, true, false, _&&_}
+use mathlib.Core.Path.{_≡_}
+use mathlib.Core.Bool.{Bool, true, _&&_}
 use mathlib.Core.List.{List}
 use lib.Dec.{ltb, eqb}
-use borrow.Author.Tests.{lt-ltb, le-ltb}
+use borrow.Author.Tests.{lt-ltb, le-ltb, eqb-true}
 use Rattle.encoding.specs.Below.{allBelow}
 use Rattle.encoding.specs.Pieces.{piece}
 use Rattle.encoding.specs.Words.{zeroAt}
-use Rattle.encoding.proofs.Below.{tests, either, and-fst, and-snd, and-intro, iff-eq, all-at, all-intro, all-and}
-use Rattle.records.specs.Shape.{faceCount, shapeOk}
+use Rattle.encoding.proofs.Below.{tests, either, and-fst, and-snd, and-intro, all-at, all-intro}
+use Rattle.records.specs.Shape.{dimensionOf, faceCount, shapeOk}
 use Rattle.records.specs.Record.{coreSize, unused, regionLimit, shapeOf, neighbourOf, codeOf, regionOf, regionOk, zerosOk, unusedOk, boundaryOk, inForm}
 use Rattle.records.proofs.Forms.{zeros-at, form-shape, form-zeros, form-region, form-used, form-unused, form-intro}
-use Rattle.part_check.specs.Means.{plainForm, unusedFrom}
+use Rattle.mesh.proofs.ByDimension.{Fits}
+use Rattle.part_check.specs.Means.{plainForm, unusedFrom, formAlone}
 
 -- ---- what the functions read
 
@@ -35,25 +36,6 @@ module _ (n : ℕ) (r : List ℕ) where
   unused-is f h e = rw (le-ltb f n h) at e
 
 -- ---- the form, face by face
-
-and-right : (a b c : Bool) → (a && (b && c)) ≡ (a && b && c)
-and-right true b c = refl
-and-right false b c = refl
-
-and-swap : (x a b : Bool) → (x && (a && b)) ≡ (x && b && a)
-and-swap true true true = refl
-and-swap true true false = refl
-and-swap true false true = refl
-and-swap true false false = refl
-and-swap false a b = refl
-
-and-form : (p u e b t : Bool) → (p && u && e && (b && t)) ≡ (p && u && b && e && t)
-and-form true true true true t = refl
-and-form true true true false t = refl
-and-form true true false true t = refl
-and-form true true false false t = refl
-and-form true false e b t = refl
-and-form false u e b t = refl
 
 module _ (own : ℕ) (r : List ℕ) where
   abbrev faces : ℕ
@@ -88,21 +70,22 @@ module _ (own : ℕ) (r : List ℕ) where
       (all-intro 6 (unusedFrom faces r) (rest-unused e)))
       (all-intro faces (boundaryOk own r) (form-used own r e))
 
-  form-parts : (plainForm r && rest && edges) ≡ inForm own r
-  form-parts = iff-eq (plainForm r && rest && edges) (inForm own r) form-to form-from
+  -- the form, and what the record shows without its links
+  module _ (D : ℕ) where
+    abbrev shaped : Bool
+    shaped = eqb (dimensionOf (shapeOf r)) D
 
-  -- the form and a test of each face that the shape has
-  module _ (test : ℕ → Bool) where
-    pub form-faces : (e : Bool) → (plainForm r && rest && e && allBelow faces (λ f. boundaryOk own r f && test f)) ≡ (inForm own r && e && allBelow faces test)
-    form-faces e =
-        ap (λ (x : Bool). plainForm r && rest && e && x) (all-and faces (boundaryOk own r) test)
-        ∙ (and-form (plainForm r) rest e edges (allBelow faces test)
-        ∙ ap (λ (x : Bool). x && e && allBelow faces test) form-parts)
+    pub alone-from : inForm own r ≡ true → shaped ≡ true → formAlone D r ≡ true
+    unfolding formAlone
+    alone-from e q = and-intro (plainForm r && rest) shaped (and-fst (plainForm r && rest) edges (form-from e)) q
 
-    -- and one of all
-    pub form-faces-met : (e m : Bool) → (plainForm r && rest && e && (allBelow faces (λ f. boundaryOk own r f && test f) && m)) ≡ (inForm own r && e && m && allBelow faces test)
-    form-faces-met e m =
-        and-right (plainForm r && rest && e) (allBelow faces (λ f. boundaryOk own r f && test f)) m
-        ∙ (ap (λ (x : Bool). x && m) (form-faces e)
-        ∙ (sym (and-right (inForm own r && e) (allBelow faces test) m)
-        ∙ and-swap (inForm own r && e) (allBelow faces test) m))
+    pub alone-form : formAlone D r ≡ true → ((f : ℕ) → f < faces → boundaryOk own r f ≡ true) → (inForm own r && shaped) ≡ true
+    unfolding formAlone
+    alone-form e b =
+        and-intro (inForm own r) shaped (form-to (and-intro (plainForm r && rest) edges (and-fst (plainForm r && rest) shaped e) (all-intro faces (boundaryOk own r) b))) (and-snd (plainForm r && rest) shaped e)
+
+    pub alone-fits : formAlone D r ≡ true → Fits D r
+    unfolding formAlone plainForm
+    alone-fits e =
+        let plain : (shapeOk (shapeOf r) && zerosOk r && regionOk r) ≡ true = and-fst (shapeOk (shapeOf r) && zerosOk r && regionOk r) rest (and-fst (plainForm r && rest) shaped e) in
+        (and-fst (shapeOk (shapeOf r)) (zerosOk r) (and-fst (shapeOk (shapeOf r) && zerosOk r) (regionOk r) plain), eqb-true _ _ (and-snd (plainForm r && rest) shaped e))

@@ -2,5 +2,6 @@
 pub mod Checks
 pub mod Judging
 pub mod Faces
+pub mod FromOneEnd
 pub mod ByDimension
 pub mod Checking

@@ -1,5 +1,14 @@
-// Whether a part is sound. Its tree records hold local indices, its ghosts global numbers: each link is followed by what stands in the record.
+// Whether a part is sound. Its tree records hold local indices, its ghosts global numbers: each link is followed by what stands in the record, and looked at from one end. Between a tree and a ghost that is the tree, between two trees or two ghosts the one with the higher number. Where as many links lead up as down, each link up is then the answer to one down (proofs/FromOneEnd.antt).
+use mesh::link::answered_there;
+use mesh::link::corners_fit;
 use mesh::link::link_ok;
+use mesh::link::orientation_ok;
+use mesh::link::parted;
+use mesh::sound::Links;
+use mesh::sound::Seen;
+use mesh::sound::one;
+use mesh::sound::pushed;
+use mesh::sound::refused;
 use part::layout::dimension;
 use part::layout::first_tree;
 use part::layout::ghost_at;
@@ -12,23 +21,22 @@ use part::range::find_ghost;
 use part::range::in_range;
 use records::index::GlobalIndex;
 use records::index::LocalIndex;
-use records::index::ghost_index;
 use records::index::to_local;
 ghost use mathlib.Core.Path.{_≡_};
-ghost use mathlib.Core.Bool.{_&&_};
-ghost use Prim.Native.Nat.{_+_, _≤_, _<_};
-ghost use lib.Dec.{eqb};
+ghost use mathlib.Core.Bool.{true, cond, _&&_};
+ghost use Prim.Native.Nat.{_+_, _*_, _≤_, _<_};
+ghost use lib.Dec.{ltb, eqb};
 ghost use lib.ListN.{length};
-ghost use Rattle.encoding.specs.Below.{allBelow, anyBelow, leastBelow};
+ghost use Rattle.encoding.specs.Below.{allBelow, anyBelow, countBelow, leastBelow, sumBelow};
 ghost use Rattle.encoding.specs.Pieces.{piece};
 ghost use Rattle.offsets.specs.Limits.{maxTrees};
-ghost use Rattle.records.specs.Record.{coreSize, boundaryOk};
+ghost use Rattle.records.specs.Record.{coreSize, neighbourOf, boundaryOk};
 ghost use Rattle.part.specs.Layout.{treePlace, ghostPlace, partSize};
 ghost use Rattle.part.specs.Part.{partCount, partGhostCount, storedTree, partHeaderSound, partSound};
 ghost use Rattle.part.specs.Means.{inRange, neighbourIn, Ascending, ghostCore, ghostHas, RankKnown};
-ghost use Rattle.mesh.specs.Means.{linkByDimension};
+ghost use Rattle.mesh.specs.Means.{linkByDimension, packed, SeenAs};
 ghost use Rattle.positions.specs.Means.{Indexed};
-ghost use Rattle.part_check.specs.Means.{plainForm, unusedFrom, treeFits, treeNumbered, ghostBehind, ghostNumbered, ghostFace, ghostFits, treeChecked, ghostStored, recordsSound, PartLaid, PartNumbered, Leads};
+ghost use Rattle.part_check.specs.Means.{plainForm, unusedFrom, formAlone, recordPlace, treeFits, treeNumbered, ghostBehind, ghostNumbered, treeUp, treeDown, ghostUp, ghostDown, ghostListed, treeUps, treeDowns, ghostUps, ghostDowns, treeFaceDown, treeSeen, ghostLow, ghostAnswered, ghostFaceDown, ghostFromOneEnd, recordsSound, PartLaid, PartNumbered, PartCounted, TreeKnown, GhostsMarked, SummedAs};
 
 // Whether the header is as table and rank say, and the length as the header says.
 pub fn header_sound(part: &[u8], table: &[u8], rank: u32) -> bool
@@ -145,63 +153,129 @@ fn boundary_ok(part: &[u8], at: usize, own: u32, face: u32) -> bool
     records::read::orientation_of(part, at, face) == 0
 }
 
+// What a record shows without its links.
+fn alone(part: &[u8], dimension: u32, at: usize) -> bool
+    requires { ⌜ at + coreSize ≤ length (now part) ⌝ }
+    ensures { λ r. ⌜ r ≡ formAlone dimension (piece (now (part .entry)) at coreSize) ⌝ }
+{
+    let shape = records::read::shape_of(part, at);
+    plain(part, at)
+        & unused_from(part, at, records::shape::face_count(shape))
+        & (records::shape::dimension_of(shape) == dimension)
+}
+
 // ---- trees
 
-// A tree's link leads back to the local index, a ghost's to the global number; the latter is no boundary.
+// The rule of a link, as `mesh::link::link_ok` has it: a function with one caller costs no call.
+fn tree_link(part: &[u8], dimension: u32, back: u32, at: usize, face: u32, to: usize) -> bool
+    requires { ⌜ (at + coreSize ≤ length (now part)) × (face < 6) × (to + coreSize ≤ length (now part)) ⌝ }
+    ensures { λ r. ⌜ r ≡ linkByDimension dimension back (piece (now (part .entry)) at coreSize) face (piece (now (part .entry)) to coreSize) ⌝ }
+{
+    let code = records::read::code_of(part, at, face);
+    let across = parted(dimension, code);
+    let there = across.face;
+    if !answered_there(part, back, code, face, to, there) {
+        return false;
+    }
+    corners_fit(
+        across.orientation,
+        records::read::shape_of(part, at),
+        face,
+        records::read::shape_of(part, to),
+        there,
+    )
+}
+
+// Where the record with local index j begins.
+fn record_at(count: u32, j: u32) -> usize
+    ensures { λ r. ⌜ r ≡ recordPlace count j ⌝ }
+{
+    if j < count {
+        return tree_at(LocalIndex(j));
+    }
+    ghost_at(count, j - count)
+}
+
+// What that record has for tree i: a tree its local index, a ghost its number.
+fn back_of(first: u32, count: u32, i: u32, j: u32) -> u32
+    requires { ⌜ first + i < maxTrees ⌝ }
+    ensures { λ r. ⌜ r ≡ cond (ltb j count) i (first + i) ⌝ }
+{
+    if j < count {
+        return i;
+    }
+    first + i
+}
+
+// A link that doesn't lead up.
 fn tree_face(
     part: &[u8],
+    first: u32,
     count: u32,
     ghosts: u32,
     dimension: u32,
     tree: LocalIndex,
     face: u32,
 ) -> bool
-    requires { ⌜ (length (now part) ≡ partSize count ghosts) × (tree .0 < count) × (face < 6) ⌝ }
+    requires { ⌜ PartCounted (now part) first count ghosts × TreeKnown (now part) first count (tree .0) × (face < 6) × (neighbourOf (storedTree (now part) (tree .0)) face < count + ghosts) ⌝ }
     ensures { λ r. ⌜ r ≡ treeFits (linkByDimension dimension) count ghosts (storedTree (now (part .entry))) (ghostCore (now (part .entry)) count) (tree .0) face ⌝ }
 {
     let i = tree.0;
     let at = tree_at(tree);
     let j = records::read::neighbour_of(part, at, face);
-    if j < count {
-        return boundary_ok(part, at, i, face)
-            & link_ok(part, dimension, i, at, face, tree_at(LocalIndex(j)));
+    if !boundary_ok(part, at, i, face) {
+        return false;
     }
-    if j - count < ghosts {
-        let number = records::read::number_of(part, at);
-        return link_ok(
-            part,
-            dimension,
-            number,
-            at,
-            face,
-            ghost_at(count, j - count),
-        );
-    }
-    false
+    tree_link(
+        part,
+        dimension,
+        back_of(first, count, i, j),
+        at,
+        face,
+        record_at(count, j),
+    )
 }
 
+// The links of a tree; one that leads up is only counted.
 fn tree_faces(
     part: &[u8],
+    first: u32,
     count: u32,
     ghosts: u32,
     dimension: u32,
     tree: LocalIndex,
     faces: u32,
-) -> bool
-    requires { ⌜ (length (now part) ≡ partSize count ghosts) × (tree .0 < count) × (faces ≤ 6) ⌝ }
-    ensures { λ r. ⌜ r ≡ allBelow faces (treeFits (linkByDimension dimension) count ghosts (storedTree (now (part .entry))) (ghostCore (now (part .entry)) count) (tree .0)) ⌝ }
+) -> Seen
+    requires { ⌜ PartCounted (now part) first count ghosts × TreeKnown (now part) first count (tree .0) × (faces ≤ 6) ⌝ }
+    ensures { λ r. ⌜ SeenAs (allBelow faces (treeFaceDown (linkByDimension dimension) count ghosts (storedTree (now (part .entry))) (ghostCore (now (part .entry)) count) (tree .0))) (countBelow faces (treeUp count (storedTree (now (part .entry))) (tree .0))) (countBelow faces (treeDown count (storedTree (now (part .entry))) (tree .0))) (r .ok) (r .ups) (r .downs) ⌝ }
 {
-    let mut face = 0;
-    while face < faces {
-        if !tree_face(part, count, ghosts, dimension, tree, face) {
-            return false;
+    let i = tree.0;
+    let mut ups = 0;
+    let mut downs = 0;
+    let mut next = 0;
+    while next < faces {
+        let face = next;
+        next += 1;
+        let j = records::read::neighbour_of(part, tree_at(tree), face);
+        if (i < j) & (j < count) {
+            ups += 1;
+        } else {
+            if count + ghosts <= j {
+                return refused();
+            }
+            if !tree_face(part, first, count, ghosts, dimension, tree, face) {
+                return refused();
+            }
+            downs += one(j != i);
         }
-        face += 1;
     }
-    true
+    Seen {
+        ok: true,
+        ups,
+        downs,
+    }
 }
 
-// Counting the faces twice takes a fifth less time here than keeping the count.
 fn tree_sound(
     part: &[u8],
     first: u32,
@@ -209,39 +283,40 @@ fn tree_sound(
     ghosts: u32,
     dimension: u32,
     tree: LocalIndex,
-) -> bool
-    requires { ⌜ (length (now part) ≡ partSize count ghosts) × (tree .0 < count) ⌝ }
-    ensures { λ r. ⌜ r ≡ treeChecked (linkByDimension dimension) first count ghosts (storedTree (now (part .entry))) (ghostCore (now (part .entry)) count) dimension (tree .0) ⌝ }
+) -> Seen
+    requires { ⌜ PartCounted (now part) first count ghosts × (tree .0 < count) ⌝ }
+    ensures { λ r. ⌜ SeenAs (treeSeen (linkByDimension dimension) first count ghosts (storedTree (now (part .entry))) (ghostCore (now (part .entry)) count) dimension (tree .0)) (treeUps count (storedTree (now (part .entry))) (tree .0)) (treeDowns count (storedTree (now (part .entry))) (tree .0)) (r .ok) (r .ups) (r .downs) ⌝ }
 {
     let at = tree_at(tree);
-    let shape = records::read::shape_of(part, at);
-    tree_numbered(part, GlobalIndex(first), tree)
-        & (plain(part, at)
-            & unused_from(part, at, records::shape::face_count(shape))
-            & (records::shape::dimension_of(shape) == dimension)
-            & tree_faces(
-                part,
-                count,
-                ghosts,
-                dimension,
-                tree,
-                records::shape::face_count(shape),
-            ))
+    if !(tree_numbered(part, GlobalIndex(first), tree) & alone(part, dimension, at)) {
+        return refused();
+    }
+    let faces = records::shape::face_count(records::read::shape_of(part, at));
+    tree_faces(part, first, count, ghosts, dimension, tree, faces)
 }
 
 // The trees' numbers are looked at with their records: a tree's links don't need the other trees' numbers.
-fn trees_sound(part: &[u8], first: u32, count: u32, ghosts: u32, dimension: u32) -> bool
-    requires { ⌜ length (now part) ≡ partSize count ghosts ⌝ }
-    ensures { λ r. ⌜ r ≡ allBelow count (treeChecked (linkByDimension dimension) first count ghosts (storedTree (now (part .entry))) (ghostCore (now (part .entry)) count) dimension) ⌝ }
+fn trees_sound(part: &[u8], first: u32, count: u32, ghosts: u32, dimension: u32) -> Seen
+    requires { ⌜ PartCounted (now part) first count ghosts ⌝ }
+    ensures { λ r. ⌜ SummedAs (allBelow count (treeSeen (linkByDimension dimension) first count ghosts (storedTree (now (part .entry))) (ghostCore (now (part .entry)) count) dimension)) (sumBelow count (treeUps count (storedTree (now (part .entry))))) (sumBelow count (treeDowns count (storedTree (now (part .entry))))) (6 * count) (r .ok) (r .ups) (r .downs) ⌝ }
 {
     let mut i = 0;
+    let mut ups = 0;
+    let mut downs = 0;
     while i < count {
-        if !tree_sound(part, first, count, ghosts, dimension, LocalIndex(i)) {
-            return false;
+        let seen = tree_sound(part, first, count, ghosts, dimension, LocalIndex(i));
+        if !seen.ok {
+            return refused();
         }
+        ups += seen.ups;
+        downs += seen.downs;
         i += 1;
     }
-    true
+    Seen {
+        ok: true,
+        ups,
+        downs,
+    }
 }
 
 // ---- ghosts
@@ -270,119 +345,109 @@ fn within(first: u32, count: u32, tree: u32) -> bool
     place_near(0, first, tree) < count
 }
 
-// Where a link leads: whether to a record of the part, where that begins, and the number that its link leads back to.
-struct Way {
-    held: bool,
-    to: usize,
-    back: u32,
-}
-
-// Ghost j's neighbour is a tree of the range, another ghost, or not held.
-fn ghost_way(
+// The links of a ghost, sorted: those to ghosts that aren't higher as digits to base 8, and how many lead up and down; and whether one leads into the range. No branch hangs on where a link leads: with random links it would be guessed wrong every second time.
+fn ghost_sorted(
     part: &[u8],
     first: u32,
     count: u32,
     ghosts: u32,
     trees: u32,
     marks: &[u64],
-    behind: &[u32],
     j: u32,
-    neighbour: u32,
-) -> Way
-    requires { ⌜ PartNumbered (now part) first count ghosts trees × (j < ghosts) × Indexed (now part) (ghostPlace count 0) ghosts (now marks) (now behind) ⌝ }
-    ensures { λ r. ⌜ Leads (now (part .entry)) first count ghosts j neighbour (r .held) (r .to) (r .back) ⌝ }
+    faces: u32,
+) -> Links
+    requires { ⌜ GhostsMarked (now part) first count ghosts trees (now marks) × (j < ghosts) × (faces ≤ 6) ⌝ }
+    ensures { λ r. ⌜ (SeenAs (allBelow faces (ghostLow (ghostCore (now (part .entry)) count) trees j) && anyBelow faces (neighbourIn first (first + count) (ghostCore (now (part .entry)) count j))) (countBelow faces (ghostUp first count ghosts (ghostCore (now (part .entry)) count) j)) (countBelow faces (ghostDown ghosts (ghostCore (now (part .entry)) count) j)) (r .ok) (r .ups) (r .downs)) × (r .ok ≡ true → r .list ≡ packed faces (ghostListed ghosts (ghostCore (now (part .entry)) count) j)) ⌝ }
 {
-    if within(first, count, neighbour) {
-        let tree = to_local(GlobalIndex(neighbour), GlobalIndex(first));
-        let own = ghost_index(count, j);
-        return Way {
-            held: true,
-            to: tree_at(tree),
-            back: own.0,
-        };
+    let at = ghost_at(count, j);
+    let own = records::read::number_of(part, at);
+    let mut face = 0;
+    let mut list = 0;
+    let mut ups = 0;
+    let mut downs = 0;
+    let mut met = false;
+    while face < faces {
+        let k = records::read::neighbour_of(part, at, face);
+        if !((k < trees) & orientation_ok(part, at, face)) {
+            return Links {
+                ok: false,
+                list: 0,
+                ups: 0,
+                downs: 0,
+            };
+        }
+        let inside = within(first, count, k);
+        let held = bits::set::in_set(marks, k);
+        list = pushed(list, face, held & (k <= own));
+        ups += one(inside | (held & (own < k)));
+        downs += one(held & (k < own));
+        met = met | inside;
+        face += 1;
     }
-    let position = positions::index::find(marks, behind, ghosts, GlobalIndex(neighbour));
-    if position < ghosts {
-        return Way {
-            held: true,
-            to: ghost_at(count, position),
-            back: records::read::number_of(part, ghost_at(count, j)),
-        };
-    }
-    Way {
-        held: false,
-        to: 0,
-        back: 0,
+    Links {
+        ok: met,
+        list,
+        ups,
+        downs,
     }
 }
 
-// The rule of a link stands once here: called at two places it is no longer taken into the loop.
+// A link to a ghost that isn't higher.
 fn ghost_face(
     part: &[u8],
-    first: u32,
     count: u32,
     ghosts: u32,
     dimension: u32,
-    trees: u32,
     marks: &[u64],
     behind: &[u32],
     j: u32,
     face: u32,
 ) -> bool
-    requires { ⌜ PartNumbered (now part) first count ghosts trees × (j < ghosts) × (face < 6) × Indexed (now part) (ghostPlace count 0) ghosts (now marks) (now behind) ⌝ }
-    ensures { λ r. ⌜ r ≡ ghostFace (linkByDimension dimension) first count ghosts (storedTree (now (part .entry))) (ghostCore (now (part .entry)) count) trees j face ⌝ }
+    requires { ⌜ (length (now part) ≡ partSize count ghosts) × (j < ghosts) × (face < 6) × (ghostListed ghosts (ghostCore (now part) count) j face ≡ true) × Indexed (now part) (ghostPlace count 0) ghosts (now marks) (now behind) ⌝ }
+    ensures { λ r. ⌜ r ≡ ghostAnswered (linkByDimension dimension) ghosts (ghostCore (now (part .entry)) count) j face ⌝ }
 {
     let at = ghost_at(count, j);
+    let own = records::read::number_of(part, at);
     let k = records::read::neighbour_of(part, at, face);
-    let way = ghost_way(part, first, count, ghosts, trees, marks, behind, j, k);
-    if way.held {
-        return link_ok(part, dimension, way.back, at, face, way.to);
+    if !boundary_ok(part, at, own, face) {
+        return false;
     }
-    (k < trees) & mesh::link::orientation_ok(part, at, face)
+    let position = positions::index::find(marks, behind, ghosts, GlobalIndex(k));
+    link_ok(part, dimension, own, at, face, ghost_at(count, position))
 }
 
-// Every link of a ghost, and whether one leads into the range.
-fn ghost_faces(
+// The faces of a list, the last first.
+fn ghost_listed(
     part: &[u8],
-    first: u32,
     count: u32,
     ghosts: u32,
     dimension: u32,
-    trees: u32,
     marks: &[u64],
     behind: &[u32],
     j: u32,
     faces: u32,
+    list: u32,
 ) -> bool
-    requires { ⌜ PartNumbered (now part) first count ghosts trees × (j < ghosts) × (faces ≤ 6) × Indexed (now part) (ghostPlace count 0) ghosts (now marks) (now behind) ⌝ }
-    ensures { λ r. ⌜ r ≡ (allBelow faces (ghostFits (linkByDimension dimension) first count ghosts (storedTree (now (part .entry))) (ghostCore (now (part .entry)) count) trees j) && anyBelow faces (neighbourIn first (first + count) (ghostCore (now (part .entry)) count j))) ⌝ }
+    requires { ⌜ (length (now part) ≡ partSize count ghosts) × (j < ghosts) × (faces ≤ 6) × (list ≡ packed faces (ghostListed ghosts (ghostCore (now part) count) j)) × Indexed (now part) (ghostPlace count 0) ghosts (now marks) (now behind) ⌝ }
+    ensures { λ r. ⌜ r ≡ allBelow faces (ghostFaceDown (linkByDimension dimension) ghosts (ghostCore (now (part .entry)) count) j) ⌝ }
 {
-    let at = ghost_at(count, j);
-    let own = records::read::number_of(part, at);
-    let mut met = false;
-    let mut face = 0;
-    while face < faces {
-        if !boundary_ok(part, at, own, face) {
-            return false;
-        }
+    let mut left = list;
+    while 0 < left {
         if !ghost_face(
             part,
-            first,
             count,
             ghosts,
             dimension,
-            trees,
             marks,
             behind,
             j,
-            face,
+            left % 8 - 1,
         ) {
             return false;
         }
-        met = met | within(first, count, records::read::neighbour_of(part, at, face));
-        face += 1;
+        left = left / 8;
     }
-    met
+    true
 }
 
 fn ghost_sound(
@@ -395,28 +460,37 @@ fn ghost_sound(
     marks: &[u64],
     behind: &[u32],
     j: u32,
-) -> bool
-    requires { ⌜ PartNumbered (now part) first count ghosts trees × (j < ghosts) × Indexed (now part) (ghostPlace count 0) ghosts (now marks) (now behind) ⌝ }
-    ensures { λ r. ⌜ r ≡ ghostStored (linkByDimension dimension) first count ghosts (storedTree (now (part .entry))) (ghostCore (now (part .entry)) count) dimension trees j ⌝ }
+) -> Seen
+    requires { ⌜ GhostsMarked (now part) first count ghosts trees (now marks) × (j < ghosts) × Indexed (now part) (ghostPlace count 0) ghosts (now marks) (now behind) ⌝ }
+    ensures { λ r. ⌜ SeenAs (ghostFromOneEnd (linkByDimension dimension) ghosts (ghostCore (now (part .entry)) count) first count dimension trees j) (ghostUps first count ghosts (ghostCore (now (part .entry)) count) j) (ghostDowns ghosts (ghostCore (now (part .entry)) count) j) (r .ok) (r .ups) (r .downs) ⌝ }
 {
     let at = ghost_at(count, j);
-    let shape = records::read::shape_of(part, at);
-    let faces = records::shape::face_count(shape);
-    plain(part, at)
-        & unused_from(part, at, faces)
-        & (records::shape::dimension_of(shape) == dimension)
-        & ghost_faces(
-            part,
-            first,
-            count,
-            ghosts,
-            dimension,
-            trees,
-            marks,
-            behind,
-            j,
-            faces,
-        )
+    if !alone(part, dimension, at) {
+        return refused();
+    }
+    let faces = records::shape::face_count(records::read::shape_of(part, at));
+    let links = ghost_sorted(part, first, count, ghosts, trees, marks, j, faces);
+    if !links.ok {
+        return refused();
+    }
+    if !ghost_listed(
+        part,
+        count,
+        ghosts,
+        dimension,
+        marks,
+        behind,
+        j,
+        faces,
+        links.list,
+    ) {
+        return refused();
+    }
+    Seen {
+        ok: true,
+        ups: links.ups,
+        downs: links.downs,
+    }
 }
 
 fn ghosts_sound(
@@ -428,13 +502,15 @@ fn ghosts_sound(
     trees: u32,
     marks: &[u64],
     behind: &[u32],
-) -> bool
-    requires { ⌜ PartNumbered (now part) first count ghosts trees × Indexed (now part) (ghostPlace count 0) ghosts (now marks) (now behind) ⌝ }
-    ensures { λ r. ⌜ r ≡ allBelow ghosts (ghostStored (linkByDimension dimension) first count ghosts (storedTree (now (part .entry))) (ghostCore (now (part .entry)) count) dimension trees) ⌝ }
+) -> Seen
+    requires { ⌜ GhostsMarked (now part) first count ghosts trees (now marks) × Indexed (now part) (ghostPlace count 0) ghosts (now marks) (now behind) ⌝ }
+    ensures { λ r. ⌜ SummedAs (allBelow ghosts (ghostFromOneEnd (linkByDimension dimension) ghosts (ghostCore (now (part .entry)) count) first count dimension trees)) (sumBelow ghosts (ghostUps first count ghosts (ghostCore (now (part .entry)) count))) (sumBelow ghosts (ghostDowns ghosts (ghostCore (now (part .entry)) count))) (6 * ghosts) (r .ok) (r .ups) (r .downs) ⌝ }
 {
     let mut j = 0;
+    let mut ups = 0;
+    let mut downs = 0;
     while j < ghosts {
-        if !ghost_sound(
+        let seen = ghost_sound(
             part,
             first,
             count,
@@ -444,12 +520,19 @@ fn ghosts_sound(
             marks,
             behind,
             j,
-        ) {
-            return false;
+        );
+        if !seen.ok {
+            return refused();
         }
+        ups += seen.ups;
+        downs += seen.downs;
         j += 1;
     }
-    true
+    Seen {
+        ok: true,
+        ups,
+        downs,
+    }
 }
 
 // The same, with an index for as many trees as there can be.
@@ -460,9 +543,9 @@ fn ghosts_of_many(
     ghosts: u32,
     dimension: u32,
     trees: u32,
-) -> bool
+) -> Seen
     requires { ⌜ PartNumbered (now part) first count ghosts trees ⌝ }
-    ensures { λ r. ⌜ r ≡ allBelow ghosts (ghostStored (linkByDimension dimension) first count ghosts (storedTree (now (part .entry))) (ghostCore (now (part .entry)) count) dimension trees) ⌝ }
+    ensures { λ r. ⌜ SummedAs (allBelow ghosts (ghostFromOneEnd (linkByDimension dimension) ghosts (ghostCore (now (part .entry)) count) first count dimension trees)) (sumBelow ghosts (ghostUps first count ghosts (ghostCore (now (part .entry)) count))) (sumBelow ghosts (ghostDowns ghosts (ghostCore (now (part .entry)) count))) (6 * ghosts) (r .ok) (r .ups) (r .downs) ⌝ }
 {
     let mut marks = [0u64; 16384];
     let mut behind = [0u32; 16384];
@@ -494,9 +577,9 @@ fn all_ghosts_sound(
     ghosts: u32,
     dimension: u32,
     trees: u32,
-) -> bool
+) -> Seen
     requires { ⌜ PartNumbered (now part) first count ghosts trees ⌝ }
-    ensures { λ r. ⌜ r ≡ allBelow ghosts (ghostStored (linkByDimension dimension) first count ghosts (storedTree (now (part .entry))) (ghostCore (now (part .entry)) count) dimension trees) ⌝ }
+    ensures { λ r. ⌜ SummedAs (allBelow ghosts (ghostFromOneEnd (linkByDimension dimension) ghosts (ghostCore (now (part .entry)) count) first count dimension trees)) (sumBelow ghosts (ghostUps first count ghosts (ghostCore (now (part .entry)) count))) (sumBelow ghosts (ghostDowns ghosts (ghostCore (now (part .entry)) count))) (6 * ghosts) (r .ok) (r .ups) (r .downs) ⌝ }
 {
     if trees <= 65536 {
         let mut marks = [0u64; 1024];
@@ -539,10 +622,15 @@ fn records_sound(
     if !ghost_numbers(part, first, count, ghosts, trees) {
         return false;
     }
-    if !trees_sound(part, first, count, ghosts, dimension) {
+    let of_trees = trees_sound(part, first, count, ghosts, dimension);
+    if !of_trees.ok {
         return false;
     }
-    all_ghosts_sound(part, first, count, ghosts, dimension, trees)
+    let of_ghosts = all_ghosts_sound(part, first, count, ghosts, dimension, trees);
+    if !of_ghosts.ok {
+        return false;
+    }
+    of_trees.ups + of_ghosts.ups == of_trees.downs + of_ghosts.downs
 }
 
 // Whether the part is sound for a valid table and a rank of it.

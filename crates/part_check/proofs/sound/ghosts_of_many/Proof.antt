@@ -1,4 +1,4 @@
-use Rattle.part_check.proofs.Checking.{ghosts-numbered, ghosts-indexed}
+use Rattle.part_check.proofs.Checking.{ghosts-numbered, ghosts-indexed, ghosts-marked}
 use Rattle.positions.proofs.Positions.{blank}
 use native.Mathlib.Omega.{arith}
 use borrow.Author.Needs.{needs}
@@ -31,7 +31,7 @@ ghosts-sound-requires c κs =
     let pre = c .before .before .before .before .before .before .before .before .before .pre in
     let ghost-at = c .before .before .before .before .before .before .before .ghost-at in
     let make = c .before .before .before .before .make in
-    (pre, ghosts-indexed _ _ _ _ _ pre (ghost-at .ensures) (make .ensures))
+    (ghosts-marked _ _ _ pre (omega (arith, pre .laid .most)) (ghosts-indexed _ _ _ _ _ pre (ghost-at .ensures) (make .ensures)), ghosts-indexed _ _ _ _ _ pre (ghost-at .ensures) (make .ensures))
 
 returns : tie.Need-returns
 returns c = search needs

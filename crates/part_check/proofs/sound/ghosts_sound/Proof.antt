@@ -1,33 +1,49 @@
-use Rattle.mesh.specs.Means.{linkByDimension}
+use Rattle.part_check.proofs.Checking.{summed-refused, summed-all}
+use Rattle.part_check.specs.Means.{ghostUps, ghostDowns, ghostFromOneEnd}
 use Rattle.part.specs.Means.{ghostCore}
-use Rattle.part_check.specs.Means.{ghostStored}
-use Rattle.part.specs.Part.{storedTree}
-use Rattle.encoding.proofs.Below.{all-more, all-fails, all-to}
-use Rattle.encoding.specs.Below.{allBelow}
+use Rattle.mesh.proofs.Checking.{sum-next}
+use Rattle.mesh.specs.Means.{linkByDimension}
+use Rattle.encoding.proofs.Below.{all-more, all-fails}
+use Rattle.encoding.specs.Below.{allBelow, sumBelow}
 use borrow.Author.Tests.{not-true, not-false}
 use native.Mathlib.Omega.{arith}
 use mathlib.Core.Bool.{true}
 use mathlib.Core.Path.{_≡_, sym, _∙_}
-use Prim.Native.Nat.{_≤_, _-_}
+use Prim.Native.Nat.{_*_, _≤_, _-_}
 use borrow.Author.Needs.{needs}
 use Rattle.part_check.proofs.sound.ghosts_sound.Statement.{statement}
 use Rattle.part_check.proofs.sound.ghosts_sound.Tie as tie
 
 abbrev Inv-loop : tie.InvT-loop
-Inv-loop part first count ghosts dimension trees marks behind j₀ j = (j ≤ ghosts) × (allBelow j (ghostStored (linkByDimension dimension) first count ghosts (storedTree part) (ghostCore part count) dimension trees) ≡ true)
+Inv-loop part first count ghosts dimension trees marks behind j₀ ups₀ downs₀ j ups downs =
+    (j ≤ ghosts) × (allBelow j (ghostFromOneEnd (linkByDimension dimension) ghosts (ghostCore part count) first count dimension trees) ≡ true)
+    × ((ups ≡ sumBelow j (ghostUps first count ghosts (ghostCore part count))) × (ups ≤ 6 * j)) × ((downs ≡ sumBelow j (ghostDowns ghosts (ghostCore part count))) × (downs ≤ 6 * j))
 
 abbrev μ-loop : tie.MeasureT-loop
-μ-loop part first count ghosts dimension trees marks behind j₀ j = ghosts - j
+μ-loop part first count ghosts dimension trees marks behind j₀ ups₀ downs₀ j ups downs = ghosts - j
 
 loop-holds : tie.Need-loop-holds Inv-loop μ-loop
-unfolding allBelow
+unfolding allBelow sumBelow
 loop-holds c = search needs
 
 ghost-sound-requires : tie.Need-ghost-sound-requires Inv-loop μ-loop
 ghost-sound-requires c κs = search needs
 
+refused-requires : tie.Need-refused-requires Inv-loop μ-loop
+refused-requires c κs = search needs
+
 returns : tie.Need-returns Inv-loop μ-loop
-returns c = sym (all-fails _ _ _ (c .before .before .loop-test .taken) (sym (c .before .ghost-sound .ensures) ∙ not-true _ (c .if1 .taken)))
+returns c =
+    let loop-test = c .before .before .before .before .loop-test in
+    let ghost-sound = c .before .before .before .ghost-sound in
+    let if1 = c .before .if1 in
+    summed-refused (all-fails _ _ _ (loop-test .taken) (sym (ghost-sound .ensures .tested) ∙ not-true _ (if1 .taken))) (c .refused .ensures)
+
+add-ups : tie.Need-add-ups Inv-loop μ-loop
+add-ups c = omega (arith, c .before .before .before .ghost-sound .ensures .few .0)
+
+add-downs : tie.Need-add-downs Inv-loop μ-loop
+add-downs c = omega (arith, c .before .before .before .before .ghost-sound .ensures .few .1)
 
 add-j : tie.Need-add-j Inv-loop μ-loop
 add-j c = search needs
@@ -36,10 +52,14 @@ loop-less : tie.Need-loop-less Inv-loop μ-loop
 loop-less c = search needs
 
 loop-again : tie.Need-loop-again Inv-loop μ-loop
-loop-again c = (omega arith, all-more _ _ (c .before .before .before .loop .inv .1) (sym (c .before .ghost-sound .ensures) ∙ not-false _ (c .if1 .left)))
+loop-again c =
+    let loop = c .before .before .before .before .before .before .loop in
+    let ghost-sound = c .before .before .before .before .ghost-sound in
+    let if1 = c .before .before .if1 in
+    (omega arith, all-more _ _ (loop .inv .1) (sym (ghost-sound .ensures .tested) ∙ not-false _ (if1 .left)), (sum-next _ _ (ghost-sound .ensures .upward (not-false _ (if1 .left))) (loop .inv .2 .0), omega (arith, ghost-sound .ensures .few .0)), (sum-next _ _ (ghost-sound .ensures .downward (not-false _ (if1 .left))) (loop .inv .3 .0), omega (arith, ghost-sound .ensures .few .1)))
 
 returns-2 : tie.Need-returns-2 Inv-loop μ-loop
-returns-2 c = sym (all-to _ _ _ (c .before .loop .inv .0) (omega arith) (c .before .loop .inv .1))
+returns-2 c = summed-all _ _ _ _ _ (c .before .loop .inv .0) (omega arith) (c .before .loop .inv .1) (c .before .loop .inv .2) (c .before .loop .inv .3)
 
 pub ghosts-sound-spec : {M : Type 1} → statement M
 ghosts-sound-spec =
@@ -49,7 +69,10 @@ ghosts-sound-spec =
     μ-loop
     loop-holds
     ghost-sound-requires
+    refused-requires
     returns
+    add-ups
+    add-downs
     add-j
     loop-less
     loop-again

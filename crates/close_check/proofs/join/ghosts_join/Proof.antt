@@ -15,7 +15,11 @@ use Rattle.close_check.proofs.join.ghosts_join.Statement.{statement}
 use Rattle.close_check.proofs.join.ghosts_join.Tie as tie
 
 abbrev Inv-loop : tie.InvT-loop
-Inv-loop area at first count ghosts dimension trees marks behind j₀ ups₀ downs₀ j ups downs = (j ≤ ghosts) × ((allBelow j (ghostFromOneEnd (linkByDimension dimension) (inSet marks) area at first count ghosts dimension trees) ≡ true) × (((ups ≡ sumBelow j (ghostUps (inSet marks) area at first count)) × (ups ≤ 6 * j)) × ((downs ≡ sumBelow j (ghostDowns (inSet marks) area at count)) × (downs ≤ 6 * j))))
+Inv-loop area at first count ghosts dimension trees marks behind j₀ ups₀ downs₀ j ups downs =
+    (j ≤ ghosts)
+    × ((allBelow j (ghostFromOneEnd (linkByDimension dimension) (inSet marks) area at first count ghosts dimension trees) ≡ true)
+    × (((ups ≡ sumBelow j (ghostUps (inSet marks) area at first count)) × (ups ≤ 6 * j))
+    × ((downs ≡ sumBelow j (ghostDowns (inSet marks) area at count)) × (downs ≤ 6 * j))))
 
 abbrev μ-loop : tie.MeasureT-loop
 μ-loop area at first count ghosts dimension trees marks behind j₀ ups₀ downs₀ j ups downs = ghosts - j
@@ -54,7 +58,18 @@ loop-again c =
     let ghost-joins = c .before .before .before .before .ghost-joins in
     let if1 = c .before .before .if1 in
     let loop = c .before .before .before .before .before .before .loop in
-    let seen = ghost-joins .ensures in let passes = not-false _ (if1 .left) in let inv = loop .inv in (omega arith, (all-more _ _ (inv .1 .0) (sym (seen .tested) ∙ passes), ((sum-next _ _ (seen .upward passes) (inv .1 .1 .0 .0), omega (arith, seen .few .0)), (sum-next _ _ (seen .downward passes) (inv .1 .1 .1 .0), omega (arith, seen .few .1)))))
+    let seen = ghost-joins .ensures in
+    let passes = not-false _ (if1 .left) in
+    let inv = loop .inv in (
+      omega arith,
+      (
+        all-more _ _ (inv .1 .0) (sym (seen .tested) ∙ passes),
+        (
+          (sum-next _ _ (seen .upward passes) (inv .1 .1 .0 .0), omega (arith, seen .few .0)),
+          (sum-next _ _ (seen .downward passes) (inv .1 .1 .1 .0), omega (arith, seen .few .1)),
+        ),
+      ),
+    )
 
 returns-2 : tie.Need-returns-2 Inv-loop μ-loop
 returns-2 c = let inv = c .before .loop .inv in all-seen _ _ _ _ _ (inv .0) (omega arith) (inv .1 .0) (inv .1 .1 .0) (inv .1 .1 .1)

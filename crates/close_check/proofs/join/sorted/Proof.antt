@@ -18,7 +18,12 @@ use Rattle.close_check.proofs.join.sorted.Statement.{statement}
 use Rattle.close_check.proofs.join.sorted.Tie as tie
 
 abbrev Inv-loop : tie.InvT-loop
-Inv-loop area from first count trees marks faces own face₀ list₀ ups₀ downs₀ met₀ face list ups downs met = (face ≤ faces) × ((allBelow face (ghostInside trees (piece area from coreSize)) ≡ true) × (((ups ≡ countBelow face (ghostLeadsUp (inSet marks) first count (piece area from coreSize))) × (ups ≤ face)) × (((downs ≡ countBelow face (ghostLeadsDown (inSet marks) (piece area from coreSize))) × (downs ≤ face)) × ((list ≡ packed face (ghostListed (inSet marks) (piece area from coreSize))) × (met ≡ anyBelow face (neighbourIn first (first + count) (piece area from coreSize)))))))
+Inv-loop area from first count trees marks faces own face₀ list₀ ups₀ downs₀ met₀ face list ups downs met =
+    (face ≤ faces)
+    × ((allBelow face (ghostInside trees (piece area from coreSize)) ≡ true)
+    × (((ups ≡ countBelow face (ghostLeadsUp (inSet marks) first count (piece area from coreSize))) × (ups ≤ face))
+    × (((downs ≡ countBelow face (ghostLeadsDown (inSet marks) (piece area from coreSize))) × (downs ≤ face))
+    × ((list ≡ packed face (ghostListed (inSet marks) (piece area from coreSize))) × (met ≡ anyBelow face (neighbourIn first (first + count) (piece area from coreSize)))))))
 
 abbrev μ-loop : tie.MeasureT-loop
 μ-loop area from first count trees marks faces own face₀ list₀ ups₀ downs₀ met₀ face list ups downs met = faces - face
@@ -81,7 +86,29 @@ loop-again c =
     let if1 = c .before .before .before .before .before .if1 in
     let one = c .before .one in
     let pushed = c .before .before .pushed in
-    let neighbour = neighbour-of .ensures in let inv = loop .inv in let own = number-of .ensures in let held = marked .ensures in let inside = within .ensures in (omega arith, (all-more _ _ (inv .1 .0) (inside-is _ _ neighbour _ (orientation-ok .ensures) (if1 .left)), ((count-next _ _ (one .ensures .0) (up-read _ _ neighbour _ held _ _ own inside) (inv .1 .1 .0 .0), omega arith), ((count-next _ _ (c .one2 .ensures .0) (down-read _ _ neighbour _ held own) (inv .1 .1 .1 .0 .0), omega arith), (packed-more _ _ (inv .1 .1 .1 .1 .0) (listed-read _ _ neighbour _ held own) (pushed .ensures), any-next _ _ (inv .1 .1 .1 .1 .1) (met-read _ _ neighbour _ _ inside))))))
+    let neighbour = neighbour-of .ensures in
+    let inv = loop .inv in
+    let own = number-of .ensures in
+    let held = marked .ensures in
+    let inside = within .ensures in (
+      omega arith,
+      (
+        all-more _ _ (inv .1 .0) (inside-is _ _ neighbour _ (orientation-ok .ensures) (if1 .left)),
+        (
+          (
+            count-next _ _ (one .ensures .0) (up-read _ _ neighbour _ held _ _ own inside) (inv .1 .1 .0 .0),
+            omega arith,
+          ),
+          (
+            (count-next _ _ (c .one2 .ensures .0) (down-read _ _ neighbour _ held own) (inv .1 .1 .1 .0 .0), omega arith),
+            (
+              packed-more _ _ (inv .1 .1 .1 .1 .0) (listed-read _ _ neighbour _ held own) (pushed .ensures),
+              any-next _ _ (inv .1 .1 .1 .1 .1) (met-read _ _ neighbour _ _ inside),
+            ),
+          ),
+        ),
+      ),
+    )
 
 returns-2 : tie.Need-returns-2 Inv-loop μ-loop
 returns-2 c =

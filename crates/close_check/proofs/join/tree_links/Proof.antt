@@ -15,7 +15,11 @@ use Rattle.close_check.proofs.join.tree_links.Statement.{statement}
 use Rattle.close_check.proofs.join.tree_links.Tie as tie
 
 abbrev Inv-loop : tie.InvT-loop
-Inv-loop area at first count ghosts dimension marks behind tree faces i from next₀ ups₀ downs₀ next ups downs = (next ≤ faces) × ((allBelow next (treeFace (linkByDimension dimension) area at first count ghosts (tree .0)) ≡ true) × (((ups ≡ countBelow next (treeLeadsUp area at first count (tree .0))) × (ups ≤ next)) × ((downs ≡ countBelow next (treeLeadsDown area at first count (tree .0))) × (downs ≤ next))))
+Inv-loop area at first count ghosts dimension marks behind tree faces i from next₀ ups₀ downs₀ next ups downs =
+    (next ≤ faces)
+    × ((allBelow next (treeFace (linkByDimension dimension) area at first count ghosts (tree .0)) ≡ true)
+    × (((ups ≡ countBelow next (treeLeadsUp area at first count (tree .0))) × (ups ≤ next))
+    × ((downs ≡ countBelow next (treeLeadsDown area at first count (tree .0))) × (downs ≤ next))))
 
 abbrev μ-loop : tie.MeasureT-loop
 μ-loop area at first count ghosts dimension marks behind tree faces i from next₀ ups₀ downs₀ next ups downs = faces - next
@@ -55,7 +59,24 @@ loop-again c =
     let place-near = c .before .before .place-near in
     let pre = c .before .before .before .before .before .before .before .before .before .pre in
     let if1 = c .before .if1 in
-    let inv = loop .inv in let read = neighbour-of .ensures in let placed = place-near .ensures in (omega arith, (all-more _ _ (inv .1 .0) (up-face _ _ _ _ _ _ read (omega (arith, pre .0 .most)) (omega arith) placed (if1 .taken) (c .if2 .taken) _ _), ((count-next _ _ refl (up-up _ _ _ _ _ _ read (omega (arith, pre .0 .most)) (omega arith) placed (if1 .taken) (c .if2 .taken)) (inv .1 .1 .0 .0), omega arith), (count-stays _ _ (up-down _ _ _ _ _ _ read (omega (arith, pre .0 .most)) (omega arith) placed (if1 .taken) (c .if2 .taken)) (inv .1 .1 .1 .0), omega arith))))
+    let inv = loop .inv in
+    let read = neighbour-of .ensures in
+    let placed = place-near .ensures in (
+      omega arith,
+      (
+        all-more _ _ (inv .1 .0) (up-face _ _ _ _ _ _ read (omega (arith, pre .0 .most)) (omega arith) placed (if1 .taken) (c .if2 .taken) _ _),
+        (
+          (
+            count-next _ _ refl (up-up _ _ _ _ _ _ read (omega (arith, pre .0 .most)) (omega arith) placed (if1 .taken) (c .if2 .taken)) (inv .1 .1 .0 .0),
+            omega arith,
+          ),
+          (
+            count-stays _ _ (up-down _ _ _ _ _ _ read (omega (arith, pre .0 .most)) (omega arith) placed (if1 .taken) (c .if2 .taken)) (inv .1 .1 .1 .0),
+            omega arith,
+          ),
+        ),
+      ),
+    )
 
 add-link-down : tie.Need-add-link-down Inv-loop μ-loop
 add-link-down c = search needs
@@ -85,7 +106,8 @@ returns c =
     let if2 = c .before .before .before .if2 in
     let link-down = c .before .before .link-down in
     let if3 = c .before .if3 in
-    seen-refused (all-fails _ _ _ (loop-test .taken) (down-face _ _ _ _ _ _ (neighbour-of .ensures) (omega (arith, pre .0 .most)) (omega arith) (place-near .ensures) (if1 .taken) (if2 .left) _ _ (link-down .ensures) ∙ not-true _ (if3 .taken))) (c .refused .ensures)
+    let face = down-face _ _ _ _ _ _ (neighbour-of .ensures) (omega (arith, pre .0 .most)) (omega arith) (place-near .ensures) (if1 .taken) (if2 .left) _ _ (link-down .ensures) in
+    seen-refused (all-fails _ _ _ (loop-test .taken) (face ∙ not-true _ (if3 .taken))) (c .refused .ensures)
 
 one-requires : tie.Need-one-requires Inv-loop μ-loop
 one-requires c κs = search needs
@@ -106,7 +128,24 @@ loop-again-2 c =
     let if2 = c .before .before .before .if2 in
     let link-down = c .before .before .link-down in
     let if3 = c .before .if3 in
-    let inv = loop .inv in let read = neighbour-of .ensures in let placed = place-near .ensures in (omega arith, (all-more _ _ (inv .1 .0) (down-face _ _ _ _ _ _ read (omega (arith, pre .0 .most)) (omega arith) placed (if1 .taken) (if2 .left) _ _ (link-down .ensures) ∙ not-false _ (if3 .left)), ((count-stays _ _ (down-up _ _ _ _ _ _ read (omega (arith, pre .0 .most)) (omega arith) placed (if1 .taken) (if2 .left)) (inv .1 .1 .0 .0), omega arith), (count-next _ _ (c .one .ensures .0) (down-is _ _ _ _ _ _ read (omega (arith, pre .0 .most)) (omega arith) placed (if1 .taken)) (inv .1 .1 .1 .0), omega arith))))
+    let inv = loop .inv in
+    let read = neighbour-of .ensures in
+    let placed = place-near .ensures in (
+      omega arith,
+      (
+        all-more _ _ (inv .1 .0) (down-face _ _ _ _ _ _ read (omega (arith, pre .0 .most)) (omega arith) placed (if1 .taken) (if2 .left) _ _ (link-down .ensures) ∙ not-false _ (if3 .left)),
+        (
+          (
+            count-stays _ _ (down-up _ _ _ _ _ _ read (omega (arith, pre .0 .most)) (omega arith) placed (if1 .taken) (if2 .left)) (inv .1 .1 .0 .0),
+            omega arith,
+          ),
+          (
+            count-next _ _ (c .one .ensures .0) (down-is _ _ _ _ _ _ read (omega (arith, pre .0 .most)) (omega arith) placed (if1 .taken)) (inv .1 .1 .1 .0),
+            omega arith,
+          ),
+        ),
+      ),
+    )
 
 link-out-requires : tie.Need-link-out-requires Inv-loop μ-loop
 link-out-requires c κs =
@@ -127,7 +166,8 @@ returns-2 c =
     let if1 = c .before .before .before .if1 in
     let link-out = c .before .before .link-out in
     let if4 = c .before .if4 in
-    seen-refused (all-fails _ _ _ (loop-test .taken) (out-face _ _ _ _ _ _ (neighbour-of .ensures) (place-out _ _ _ _ _ _ (neighbour-of .ensures) (omega (arith, pre .0 .most)) (omega arith) (place-near .ensures) (if1 .left)) _ _ (link-out .ensures) ∙ not-true _ (if4 .taken))) (c .refused2 .ensures)
+    let out = place-out _ _ _ _ _ _ (neighbour-of .ensures) (omega (arith, pre .0 .most)) (omega arith) (place-near .ensures) (if1 .left) in
+    seen-refused (all-fails _ _ _ (loop-test .taken) (out-face _ _ _ _ _ _ (neighbour-of .ensures) out _ _ (link-out .ensures) ∙ not-true _ (if4 .taken))) (c .refused2 .ensures)
 
 add-downs-2 : tie.Need-add-downs-2 Inv-loop μ-loop
 add-downs-2 c = search needs
@@ -143,7 +183,18 @@ loop-again-3 c =
     let place-near = c .before .before .before .place-near in
     let if1 = c .before .before .if1 in
     let link-out = c .before .link-out in
-    let inv = loop .inv in let read = neighbour-of .ensures in let out = place-out _ _ _ _ _ _ (neighbour-of .ensures) (omega (arith, pre .0 .most)) (omega arith) (place-near .ensures) (if1 .left) in (omega arith, (all-more _ _ (inv .1 .0) (out-face _ _ _ _ _ _ read out _ _ (link-out .ensures) ∙ not-false _ (c .if4 .left)), ((count-stays _ _ (out-up _ _ _ _ _ _ read out) (inv .1 .1 .0 .0), omega arith), (count-next _ _ refl (out-down _ _ _ _ _ _ read out) (inv .1 .1 .1 .0), omega arith))))
+    let inv = loop .inv in
+    let read = neighbour-of .ensures in
+    let out = place-out _ _ _ _ _ _ (neighbour-of .ensures) (omega (arith, pre .0 .most)) (omega arith) (place-near .ensures) (if1 .left) in (
+      omega arith,
+      (
+        all-more _ _ (inv .1 .0) (out-face _ _ _ _ _ _ read out _ _ (link-out .ensures) ∙ not-false _ (c .if4 .left)),
+        (
+          (count-stays _ _ (out-up _ _ _ _ _ _ read out) (inv .1 .1 .0 .0), omega arith),
+          (count-next _ _ refl (out-down _ _ _ _ _ _ read out) (inv .1 .1 .1 .0), omega arith),
+        ),
+      ),
+    )
 
 returns-3 : tie.Need-returns-3 Inv-loop μ-loop
 returns-3 c =

@@ -14,7 +14,11 @@ use Rattle.close_check.proofs.join.trees_join.Statement.{statement}
 use Rattle.close_check.proofs.join.trees_join.Tie as tie
 
 abbrev Inv-loop : tie.InvT-loop
-Inv-loop area at first count ghosts dimension marks behind i₀ ups₀ downs₀ i ups downs = (i ≤ count) × ((allBelow i (treeFromOneEnd (linkByDimension dimension) area at first count ghosts dimension) ≡ true) × (((ups ≡ sumBelow i (treeUps area at first count)) × (ups ≤ 6 * i)) × ((downs ≡ sumBelow i (treeDowns area at first count)) × (downs ≤ 6 * i))))
+Inv-loop area at first count ghosts dimension marks behind i₀ ups₀ downs₀ i ups downs =
+    (i ≤ count)
+    × ((allBelow i (treeFromOneEnd (linkByDimension dimension) area at first count ghosts dimension) ≡ true)
+    × (((ups ≡ sumBelow i (treeUps area at first count)) × (ups ≤ 6 * i))
+    × ((downs ≡ sumBelow i (treeDowns area at first count)) × (downs ≤ 6 * i))))
 
 abbrev μ-loop : tie.MeasureT-loop
 μ-loop area at first count ghosts dimension marks behind i₀ ups₀ downs₀ i ups downs = count - i
@@ -53,7 +57,18 @@ loop-again c =
     let tree-joins = c .before .before .before .before .tree-joins in
     let if1 = c .before .before .if1 in
     let loop = c .before .before .before .before .before .before .loop in
-    let seen = tree-joins .ensures in let passes = not-false _ (if1 .left) in let inv = loop .inv in (omega arith, (all-more _ _ (inv .1 .0) (sym (seen .tested) ∙ passes), ((sum-next _ _ (seen .upward passes) (inv .1 .1 .0 .0), omega (arith, seen .few .0)), (sum-next _ _ (seen .downward passes) (inv .1 .1 .1 .0), omega (arith, seen .few .1)))))
+    let seen = tree-joins .ensures in
+    let passes = not-false _ (if1 .left) in
+    let inv = loop .inv in (
+      omega arith,
+      (
+        all-more _ _ (inv .1 .0) (sym (seen .tested) ∙ passes),
+        (
+          (sum-next _ _ (seen .upward passes) (inv .1 .1 .0 .0), omega (arith, seen .few .0)),
+          (sum-next _ _ (seen .downward passes) (inv .1 .1 .1 .0), omega (arith, seen .few .1)),
+        ),
+      ),
+    )
 
 returns-2 : tie.Need-returns-2 Inv-loop μ-loop
 returns-2 c = let inv = c .before .loop .inv in all-seen _ _ _ _ _ (inv .0) (omega arith) (inv .1 .0) (inv .1 .1 .0) (inv .1 .1 .1)

@@ -12,14 +12,14 @@ use Rattle.encoding.proofs.Below.{and-fst, either, all-same}
 use Rattle.offsets.specs.Limits.{maxTrees}
 use Rattle.offsets.specs.Table.{firstTree}
 use Rattle.offsets.proofs.Tables.{trees-high}
-use Rattle.records.specs.Shape.{faceCount}
+use Rattle.records.specs.Shape.{shapeOk, faceCount}
 use Rattle.records.specs.Record.{treeSize, numberOf, shapeOf, inForm}
 use Rattle.records.proofs.Forms.{form-shape}
 use Rattle.part.specs.Means.{isLocal, treeLink, ghostLink, localSound, ghostAfter, ghostBeside, ghostSound, viewSound, inRange, neighbourIn}
 use Rattle.mesh.specs.Means.{linkByDimension, linkBetween}
 use Rattle.positions.specs.Means.{Indexed}
 use Rattle.area.specs.Layout.{slotsPlace, ghostSlotsPlace}
-use Rattle.area.specs.Area.{areaDimension, areaK, areaP, areaRank, areaCount, areaGhosts, areaOld, areaNew, areaFirst, heard, treeSlotCore, ghostSlot, areaSound}
+use Rattle.area.specs.Area.{areaDimension, areaK, areaP, areaRank, areaCount, areaGhosts, areaOld, areaNew, areaFirst, treeSlotCore, ghostSlot, areaSound}
 use Rattle.area.specs.Close.{allHeard}
 use Rattle.area.specs.Means.{HeaderHolds}
 use Rattle.area.proofs.Headers.{slots-place-is}
@@ -97,11 +97,20 @@ module _ (a : List ℕ) (bytes : Bytes a) (sound : areaSound a ≡ true) where
           ascends = held-ghosts .ascends;
         }
 
+    tree-shaped : (i : ℕ) → i < areaCount a → shapeOk (shapeOf (treeFrom a (slotsPlace (areaP a)) i)) ≡ true
+    tree-shaped i h = form-shape (first + i) (tree i) (and-fst (inForm (first + i) (tree i)) (eqb (numberOf (tree i)) (first + i)) (form-number i h))
+
+    ghost-shaped : (j : ℕ) → j < areaGhosts a → shapeOk (shapeOf (ghostFrom a (slotsPlace (areaP a)) (areaCount a) j)) ≡ true
+    ghost-shaped j h = form-shape (numberOf (ghostly j)) (ghostly j) (held-ghosts .form j h)
+
     pub area-numbered : SlotsNumbered a (slotsPlace (areaP a)) (areaFirst a) (areaCount a) (areaGhosts a) (areaK a)
     area-numbered =
         record {
           slots = area-slots;
           below = held-ghosts .below;
+          range = omega (arith, H .treesAre, range-trees a H);
+          treesShaped = tree-shaped;
+          ghostsShaped = ghost-shaped;
           few = omega (arith, H .treesAre, trees-high (areaOld a) (H .tables .oldBytes) (H .tables .oldRanks) (H .tables .oldValid));
         }
 
@@ -137,9 +146,7 @@ module _ (a : List ℕ) (bytes : Bytes a) (sound : areaSound a ≡ true) where
         ∙ ap₂ (λ (x y : Bool). x && y)
         (all-same n (localSound first n g tree ghostly (areaDimension a)) (treeJoins linkBetween a at first n g (areaDimension a)) (tree-same (areaDimension a)))
         (all-same g (ghostSound first n g tree ghostly (areaDimension a) (areaK a)) (ghostJoins linkBetween a at first n g (areaDimension a) (areaK a)) (ghost-same (areaDimension a)))
-        ∙ sym (records-by-dimension (areaDimension a) a at first n g (areaK a)
-        (λ i h. form-shape (first + i) (tree i) (and-fst (inForm (first + i) (tree i)) (eqb (numberOf (tree i)) (first + i)) (form-number i h)))
-        (λ j h. form-shape (numberOf (ghostly j)) (ghostly j) (held-ghosts .form j h)))
+        ∙ sym (records-by-dimension (areaDimension a) a at first n g (areaK a) tree-shaped ghost-shaped)
 
 -- the same with what the code has read
 module _ (a new : List ℕ) (bytes : Bytes a) (C : Complete a new) {rank first : ℕ} (is-rank : rank ≡ areaRank a) (is-first : first ≡ firstTree new rank) where
@@ -163,9 +170,9 @@ module _ {a : List ℕ} (bytes : Bytes a) (C : Complete a (areaNew a)) {first P 
   unfolding areaFirst
   first-entry = is-first
 
-  pub slots-by : {marks behind : List ℕ} → GhostsIndexed a marks behind → Slots a at first n g × Indexed a (at + treeSize * n) g marks behind
+  pub slots-by : {marks behind : List ℕ} {K : ℕ} → GhostsIndexed a marks behind → K ≡ areaK a → SlotsNumbered a at first n g K × Indexed a (at + treeSize * n) g marks behind
   unfolding ghostSlotsPlace
-  slots-by x = (numbered-read a (areaNew a) bytes C refl first-entry is-P is-at is-n is-g refl .slots, rw (is-at, is-P, is-n, is-g) x)
+  slots-by x k = (numbered-read a (areaNew a) bytes C refl first-entry is-P is-at is-n is-g k, rw (is-at, is-P, is-n, is-g) x)
 
   pub joined-by : {D K : ℕ} {r : Bool} → D ≡ areaDimension a → K ≡ areaK a → r ≡ recordsJoin (linkByDimension D) a at first n g D K → r ≡ joinSound a
   joined-by = join-read a (areaNew a) bytes C refl first-entry is-P is-at is-n is-g

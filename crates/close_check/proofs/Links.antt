@@ -1,23 +1,20 @@
 -- The links that the code follows in the slots are those of the definition.
-use Prim.Native.Nat.{ℕ, _+_, _*_, _≤_, _<_}
+use Prim.Native.Nat.{ℕ, _+_, _-_, _*_, _%_, _≤_, _<_}
 use native.Mathlib.Omega.{arith}
-use mathlib.Core.Path.{_≡_, refl, sym, ap, _∙_}
-use mathlib.Core.Bool.{Bool, true, false, _&&_}
+use mathlib.Core.Path.{_≡_, refl, sym, _∙_}
+use mathlib.Core.Bool.{Bool, true, false}
 use mathlib.Core.List.{List}
-use lib.Dec.{ltb, eqb}
-use lib.ListN.{length}
-use borrow.Author.Tests.{eq-eqb, ne-eqb}
-use Rattle.encoding.specs.Below.{allBelow, anyBelow}
+use lib.Dec.{leb, ltb}
+use borrow.Author.Tests.{leb-true, leb-false, eq-eqb, ne-eqb, lt-ltb, le-ltb}
+use Rattle.encoding.specs.Below.{anyBelow, leastBelow}
 use Rattle.encoding.specs.Pieces.{piece}
-use Rattle.encoding.proofs.Below.{least-is}
-use Rattle.records.specs.Shape.{dimensionOf, faceCount}
-use Rattle.records.specs.Record.{coreSize, treeSize, numberOf, shapeOf, neighbourOf}
-use Rattle.mesh.specs.Link.{orientationOk, linkOk}
-use Rattle.part.specs.Means.{isLocal, ghostIs, held, heldCore, treeLink, ghostLink, inRange, neighbourIn}
+use Rattle.encoding.proofs.Below.{tests, either, and-fst, iff-eq, least-is}
+use Rattle.records.specs.Record.{coreSize, treeSize, numberOf, neighbourOf}
+use Rattle.mesh.specs.Link.{linkOk}
+use Rattle.part.specs.Means.{isLocal, ghostIs, held, heldCore, treeLink, ghostLink, inRange, neighbourIn, ghostHas}
 use Rattle.mesh.specs.Means.{linkByDimension, linkBetween}
 use Rattle.part.proofs.Views.{core-tree}
-use Rattle.close_check.specs.Means.{treeFrom, ghostFrom, Slots, placeOf, treeTo, linkOfTree, ghostTo, linkOfGhost, treeJoins, ghostJoins}
-use Rattle.close_check.proofs.Places.{Found, place-found, place-none}
+use Rattle.close_check.specs.Means.{treeFrom, ghostFrom, Slots, treeTo, linkOfTree, ghostTo, linkOfGhost, treeLeadsUp, treeLeadsDown, treeFace, ghostListed, linkAmongGhosts, listedLink}
 
 link-is : (core : ℕ → List ℕ) (k f : ℕ) → linkOk core k f ≡ linkBetween k (core k) f (core (neighbourOf (core k) f))
 unfolding linkOk linkBetween
@@ -33,23 +30,6 @@ module _ (a : List ℕ) (at first n g : ℕ) (S : Slots a at first n g) where
   abbrev core : ℕ → List ℕ
   core = heldCore first n g (treeFrom a at) (ghostFrom a at n)
 
-  -- the place of a record that is held
-  module _ (k : ℕ) {to : ℕ} (is-to : to ≡ placeOf a at first n g k) where
-    to-found : (to ≡ 0 → ⊥) → Found a at first n g S k
-    to-found z = place-found a at first n g S k (λ e. z (is-to ∙ e))
-
-    pub to-fits : (to ≡ 0 → ⊥) → to + coreSize ≤ length a
-    to-fits z = omega (arith, to-found z .fits)
-
-    to-held : (to ≡ 0 → ⊥) → held first n g (treeFrom a at) (ghostFrom a at n) k ≡ true
-    to-held z = to-found z .has
-
-    to-core : (to ≡ 0 → ⊥) → piece a to coreSize ≡ heldCore first n g (treeFrom a at) (ghostFrom a at n) k
-    to-core z = ap (λ (x : ℕ). piece a x coreSize) is-to ∙ to-found z .is
-
-    to-none : to ≡ 0 → held first n g (treeFrom a at) (ghostFrom a at n) k ≡ false
-    to-none z = place-none a at first n g S k (sym is-to ∙ z)
-
   -- ---- trees
 
   module _ (i : ℕ) (h : i < n) where
@@ -57,20 +37,10 @@ module _ (a : List ℕ) (at first n g : ℕ) (S : Slots a at first n g) where
     unfolding linkOfTree treeTo treeLink
     tree-link-is f = rw (link-is core (first + i) f, core-tree first n g (treeFrom a at) (ghostFrom a at n) i h)
 
-    module _ (D f : ℕ) {k to : ℕ} (read : k ≡ neighbourOf (piece a (at + treeSize * i) coreSize) f) (is-to : to ≡ placeOf a at first n g k) where
-      pub tree-none : to ≡ 0 → false ≡ linkOfTree (linkByDimension D) a at first n g i f
-      unfolding linkOfTree treeTo treeFrom
-      tree-none z = rw (← read, to-none k is-to z)
-
-      pub tree-some : {v : ℕ} {r : Bool} → (to ≡ 0 → ⊥) → v ≡ numberOf (piece a (at + treeSize * i) coreSize) → r ≡ linkByDimension D v (piece a (at + treeSize * i) coreSize) f (piece a to coreSize)
-          → r ≡ linkOfTree (linkByDimension D) a at first n g i f
-      unfolding linkOfTree treeTo treeFrom
-      tree-some z v e = e ∙ rw (v ∙ S .numbered i h, ← read, to-held k is-to z, to-core k is-to z)
-
   -- ---- ghosts
 
   module _ (j : ℕ) (h : j < g) where
-    ghost-here : heldCore first n g (treeFrom a at) (ghostFrom a at n) (numberOf (ghostFrom a at n j)) ≡ ghostFrom a at n j
+    pub ghost-here : heldCore first n g (treeFrom a at) (ghostFrom a at n) (numberOf (ghostFrom a at n j)) ≡ ghostFrom a at n j
     unfolding heldCore isLocal ghostIs inRange
     ghost-here =
         let k : ℕ = numberOf (ghostFrom a at n j) in
@@ -80,26 +50,124 @@ module _ (a : List ℕ) (at first n g : ℕ) (S : Slots a at first n g) where
     unfolding linkOfGhost ghostTo ghostLink
     ghost-link-is K f = rw (link-is core (numberOf (ghostFrom a at n j)) f, ghost-here)
 
-    module _ (D f : ℕ) (K : ℕ) {k to : ℕ} (read : k ≡ neighbourOf (piece a (at + treeSize * n + coreSize * j) coreSize) f) (is-to : to ≡ placeOf a at first n g k) where
-      pub ghost-none : {q : Bool} → to ≡ 0 → q ≡ orientationOk (piece a (at + treeSize * n + coreSize * j) coreSize) f → (ltb k K && q) ≡ linkOfGhost (linkByDimension D) a at first n g K j f
-      unfolding linkOfGhost ghostTo ghostFrom
-      ghost-none z e = rw (← read, to-none k is-to z, e)
+-- ---- what the code finds of a tree's link
 
-      pub ghost-some : {v : ℕ} {r : Bool} → (to ≡ 0 → ⊥) → v ≡ numberOf (piece a (at + treeSize * n + coreSize * j) coreSize) → r ≡ linkByDimension D v (piece a (at + treeSize * n + coreSize * j) coreSize) f (piece a to coreSize)
-          → r ≡ linkOfGhost (linkByDimension D) a at first n g K j f
-      unfolding linkOfGhost ghostTo ghostFrom
-      ghost-some z v e = e ∙ rw (v, ← read, to-held k is-to z, to-core k is-to z)
+-- the place of a number among those from first on, by one comparison
+pub within-is : (first n k : ℕ) {p : ℕ} → first + n ≤ 4294967296 → k < 4294967296 → p ≡ (0 + k + (4294967296 - first)) % 4294967296 → ltb p n ≡ inRange first (first + n) k
+unfolding inRange
+within-is first n k {p} h l e =
+    either (leb first k)
+    (λ q.
+    let b : first ≤ k = leb-true first k q in
+    let d : p ≡ k - first = omega (arith, e) in
+    rw (q, d) (iff-eq (ltb (k - first) n) (ltb k (first + n)) (λ t. lt-ltb k (first + n) (omega tests)) (λ t. lt-ltb (k - first) n (omega tests))))
+    (λ q.
+    let b : k < first = leb-false first k q in
+    let d : p ≡ k + (4294967296 - first) = omega (arith, e) in
+    rw (q, le-ltb p n (omega (arith, d))))
 
--- ---- whole records
+-- across face f of tree i is number k, at place p
+module _ (a : List ℕ) (at first n i f : ℕ) {k : ℕ} (read : k ≡ neighbourOf (piece a (at + treeSize * i) coreSize) f) where
+  -- a number out of the range
+  module _ (out : inRange first (first + n) k ≡ false) where
+    pub out-up : false ≡ treeLeadsUp a at first n i f
+    unfolding treeLeadsUp neighbourIn treeFrom
+    out-up = rw (← read, out)
 
-module _ (a : List ℕ) (at first n g : ℕ) where
-  pub tree-read : (D i : ℕ) {shape dimension faces : ℕ} {b : Bool} → shape ≡ shapeOf (piece a (at + treeSize * i) coreSize) → faces ≡ faceCount shape → dimension ≡ dimensionOf shape
-      → b ≡ allBelow faces (linkOfTree (linkByDimension D) a at first n g i) → (eqb dimension D && b) ≡ treeJoins (linkByDimension D) a at first n g D i
-  unfolding treeJoins treeFrom
-  tree-read D i s f d e = rw (e, d, f, s)
+    pub out-down : true ≡ treeLeadsDown a at first n i f
+    unfolding treeLeadsDown neighbourIn treeFrom
+    out-down = rw (← read, out)
 
-  pub ghost-read : (D K j : ℕ) {shape dimension faces : ℕ} {q b : Bool} → shape ≡ shapeOf (piece a (at + treeSize * n + coreSize * j) coreSize) → faces ≡ faceCount shape → dimension ≡ dimensionOf shape
-      → q ≡ anyBelow faces (neighbourIn first (first + n) (piece a (at + treeSize * n + coreSize * j) coreSize)) → b ≡ allBelow faces (linkOfGhost (linkByDimension D) a at first n g K j)
-      → (eqb dimension D && q && b) ≡ ghostJoins (linkByDimension D) a at first n g D K j
-  unfolding ghostJoins ghostFrom
-  ghost-read D K j s f d e p = rw (e, p, d, f, s)
+    module _ (D g : ℕ) where
+      held-out : held first n g (treeFrom a at) (ghostFrom a at n) k ≡ anyBelow g (ghostHas (ghostFrom a at n) k)
+      unfolding held isLocal ghostIs ghostHas inRange
+      held-out = rw out
+
+      core-out : heldCore first n g (treeFrom a at) (ghostFrom a at n) k ≡ ghostFrom a at n (leastBelow g (ghostHas (ghostFrom a at n) k))
+      unfolding heldCore isLocal ghostIs ghostHas inRange
+      core-out = rw out
+
+      pub out-none : anyBelow g (ghostHas (ghostFrom a at n) k) ≡ false → false ≡ linkOfTree (linkByDimension D) a at first n g i f
+      unfolding linkOfTree treeTo treeFrom
+      out-none e = rw (← read, held-out, e)
+
+      pub out-some : {p : ℕ} {r : Bool} → anyBelow g (ghostHas (ghostFrom a at n) k) ≡ true → p ≡ leastBelow g (ghostHas (ghostFrom a at n) k)
+          → r ≡ linkByDimension D (first + i) (piece a (at + treeSize * i) coreSize) f (piece a (at + treeSize * n + coreSize * p) coreSize)
+          → r ≡ linkOfTree (linkByDimension D) a at first n g i f
+      unfolding linkOfTree treeTo treeFrom ghostFrom
+      out-some e is q = q ∙ rw (← read, held-out, e, core-out, is)
+
+      pub out-face : {r : Bool} → r ≡ linkOfTree (linkByDimension D) a at first n g i f → treeFace (linkByDimension D) a at first n g i f ≡ r
+      unfolding treeFace
+      out-face e = rw (← out-up) (sym e)
+
+  module _ {p : ℕ} (few : first + n ≤ 4294967296) (word : k < 4294967296) (placed : p ≡ (0 + k + (4294967296 - first)) % 4294967296) where
+    pub place-out : n ≤ p → inRange first (first + n) k ≡ false
+    place-out h = sym (within-is first n k few word placed) ∙ le-ltb p n h
+
+    -- a number in the range
+    module _ (h : p < n) where
+      in-range : inRange first (first + n) k ≡ true
+      in-range = sym (within-is first n k few word placed) ∙ lt-ltb p n h
+
+      place-is : k ≡ first + p
+      unfolding inRange
+      place-is = let l : first ≤ k = leb-true first k (and-fst (leb first k) (ltb k (first + n)) in-range) in omega (arith, placed)
+
+      up-is : treeLeadsUp a at first n i f ≡ ltb i p
+      unfolding treeLeadsUp neighbourIn treeFrom
+      up-is =
+          rw (← read, in-range, place-is)
+          (iff-eq (ltb (first + i) (first + p)) (ltb i p) (λ t. lt-ltb i p (omega tests)) (λ t. lt-ltb (first + i) (first + p) (omega tests)))
+
+      pub down-is : ltb p i ≡ treeLeadsDown a at first n i f
+      unfolding treeLeadsDown neighbourIn treeFrom
+      down-is =
+          rw (← read, in-range, place-is)
+          (iff-eq (ltb p i) (ltb (first + p) (first + i)) (λ t. lt-ltb (first + p) (first + i) (omega tests)) (λ t. lt-ltb p i (omega tests)))
+
+      -- which leads up
+      module _ (l : i < p) where
+        pub up-up : true ≡ treeLeadsUp a at first n i f
+        up-up = sym (up-is ∙ lt-ltb i p l)
+
+        pub up-down : false ≡ treeLeadsDown a at first n i f
+        up-down = sym (le-ltb p i (omega arith)) ∙ down-is
+
+        pub up-face : (D g : ℕ) → treeFace (linkByDimension D) a at first n g i f ≡ true
+        unfolding treeFace
+        up-face D g = rw (← up-up)
+
+      -- or doesn't
+      module _ (l : p ≤ i) where
+        pub down-up : false ≡ treeLeadsUp a at first n i f
+        down-up = sym (up-is ∙ le-ltb i p l)
+
+        pub down-face : (D g : ℕ) {r : Bool} → r ≡ linkByDimension D (first + i) (piece a (at + treeSize * i) coreSize) f (piece a (at + treeSize * p) coreSize)
+            → treeFace (linkByDimension D) a at first n g i f ≡ r
+        unfolding treeFace linkOfTree treeTo treeFrom held heldCore isLocal inRange
+        down-face D g e =
+            let s : k - first ≡ p = omega (arith, place-is) in
+            rw (← down-up, ← read, in-range, s) (sym e)
+
+-- ---- and of a ghost's
+
+module _ (a : List ℕ) (at n j f : ℕ) {k : ℕ} (read : k ≡ neighbourOf (piece a (at + treeSize * n + coreSize * j) coreSize) f) where
+  pub listed-marked : (marked : ℕ → Bool) → ghostListed marked (ghostFrom a at n j) f ≡ true → marked k ≡ true
+  unfolding ghostListed ghostFrom
+  listed-marked marked e = rw read (and-fst (marked (neighbourOf (piece a (at + treeSize * n + coreSize * j) coreSize) f)) _ e)
+
+  pub ghost-some : (D g : ℕ) {v p : ℕ} {r : Bool} → v ≡ numberOf (piece a (at + treeSize * n + coreSize * j) coreSize) → p ≡ leastBelow g (ghostHas (ghostFrom a at n) k)
+      → r ≡ linkByDimension D v (piece a (at + treeSize * n + coreSize * j) coreSize) f (piece a (at + treeSize * n + coreSize * p) coreSize)
+      → r ≡ linkAmongGhosts (linkByDimension D) a at n g j f
+  unfolding linkAmongGhosts ghostFrom
+  ghost-some D g v is e = e ∙ rw (v, ← read, is)
+
+module _ (D : ℕ) (marked : ℕ → Bool) (a : List ℕ) (at n g j : ℕ) where
+  pub not-listed : (f : ℕ) → ghostListed marked (ghostFrom a at n j) f ≡ false → listedLink (linkByDimension D) marked a at n g j f ≡ true
+  unfolding listedLink
+  not-listed f e = rw e
+
+  pub is-listed : (f : ℕ) → ghostListed marked (ghostFrom a at n j) f ≡ true → listedLink (linkByDimension D) marked a at n g j f ≡ linkAmongGhosts (linkByDimension D) a at n g j f
+  unfolding listedLink
+  is-listed f e = rw e

@@ -1,67 +1,51 @@
-// Whether the records in an area's slots make a sound part. Trees and ghosts have global numbers here, and links are followed by these.
+// Whether the records in an area's slots make a sound part. Trees and ghosts have global numbers here, and links are followed by these. Each link is looked at from one end: between a tree and a ghost from the tree, else from the record with the higher number. Where as many links lead up as down, each link up is then the answer to one down (proofs/FromOneEnd.antt).
 use mesh::link::link_ok;
-use part::range::beside;
-use part::range::in_range;
+use mesh::sound::Links;
+use mesh::sound::Seen;
+use mesh::sound::one;
+use mesh::sound::pushed;
+use mesh::sound::refused;
+use part::layout::place_near;
 use records::index::GlobalIndex;
 use records::index::LocalIndex;
-use records::index::to_local;
 ghost use mathlib.Core.Path.{_≡_};
-ghost use mathlib.Core.Bool.{false};
+ghost use mathlib.Core.Bool.{true, false, _&&_};
 ghost use Prim.Native.Nat.{_+_, _*_, _≤_, _<_};
-ghost use Rattle.encoding.specs.Below.{allBelow};
-ghost use Rattle.records.specs.Record.{treeSize};
-ghost use Rattle.part.specs.Means.{inRange};
+ghost use lib.ListN.{length};
+ghost use Rattle.encoding.specs.Below.{allBelow, anyBelow, countBelow, sumBelow};
+ghost use Rattle.encoding.specs.Pieces.{piece};
+ghost use Rattle.bits.specs.Bits.{inSet};
+ghost use Rattle.records.specs.Record.{coreSize, treeSize, neighbourOf};
+ghost use Rattle.part.specs.Means.{inRange, neighbourIn};
 ghost use Rattle.positions.specs.Means.{Indexed};
-ghost use Rattle.mesh.specs.Means.{linkByDimension};
+ghost use Rattle.mesh.specs.Means.{packed, linkByDimension, SeenAs};
 ghost use Rattle.area.specs.Area.{areaNew, areaFirst};
-ghost use Rattle.close_check.specs.Means.{Slots, SlotsNumbered, placeOf, linkOfTree, linkOfGhost, treeJoins, ghostJoins, recordsJoin, joinSound, Complete, GhostsIndexed};
-
-// Where the ghost with the number begins; 0 where none has it.
-fn ghost_place(
-    area: &[u8],
-    at: usize,
-    first: u32,
-    count: u32,
-    ghosts: u32,
-    marks: &[u64],
-    behind: &[u32],
-    number: GlobalIndex,
-) -> usize
-    requires { ⌜ Slots (now area) at first count ghosts × (inRange first (first + count) (number .0) ≡ false) × Indexed (now area) (at + treeSize * count) ghosts (now marks) (now behind) ⌝ }
-    ensures { λ r. ⌜ r ≡ placeOf (now (area .entry)) at first count ghosts (number .0) ⌝ }
-{
-    let position = positions::index::find(marks, behind, ghosts, number);
-    if ghosts <= position {
-        return 0;
-    }
-    at + 64 * (count as usize) + 40 * (position as usize)
-}
-
-// Where the record with the number begins, a tree by subtraction; 0 where no slot has it.
-fn place_of(
-    area: &[u8],
-    at: usize,
-    first: u32,
-    count: u32,
-    ghosts: u32,
-    marks: &[u64],
-    behind: &[u32],
-    number: GlobalIndex,
-) -> usize
-    requires { ⌜ Slots (now area) at first count ghosts × Indexed (now area) (at + treeSize * count) ghosts (now marks) (now behind) ⌝ }
-    ensures { λ r. ⌜ r ≡ placeOf (now (area .entry)) at first count ghosts (number .0) ⌝ }
-{
-    if in_range(first, first + count, number) {
-        let tree = to_local(number, GlobalIndex(first));
-        let i = tree.0;
-        return at + 64 * (i as usize);
-    }
-    ghost_place(area, at, first, count, ghosts, marks, behind, number)
-}
+ghost use Rattle.close_check.specs.Means.{ghostFrom, Slots, SlotsNumbered, linkOfTree, recordsJoin, treeLeadsUp, treeLeadsDown, treeFace, treeFromOneEnd, treeUps, treeDowns, ghostLeadsUp, ghostLeadsDown, ghostInside, ghostListed, linkAmongGhosts, listedLink, ghostFromOneEnd, ghostUps, ghostDowns, AllSeen, joinSound, Complete, GhostsIndexed};
 
 // ---- trees
 
-fn tree_link(
+// The rule of a link, as `link_ok` has it: a function with one caller costs no call.
+fn link_down(area: &[u8], dimension: u32, back: u32, from: usize, face: u32, to: usize) -> bool
+    requires { ⌜ (from + coreSize ≤ length (now area)) × (face < 6) × (to + coreSize ≤ length (now area)) ⌝ }
+    ensures { λ r. ⌜ r ≡ linkByDimension dimension back (piece (now (area .entry)) from coreSize) face (piece (now (area .entry)) to coreSize) ⌝ }
+{
+    let code = records::read::code_of(area, from, face);
+    let across = mesh::link::parted(dimension, code);
+    let there = across.face;
+    if !mesh::link::answered_there(area, back, code, face, to, there) {
+        return false;
+    }
+    mesh::link::corners_fit(
+        across.orientation,
+        records::read::shape_of(area, from),
+        face,
+        records::read::shape_of(area, to),
+        there,
+    )
+}
+
+// A link of a tree to a number outside the range: a ghost has it.
+fn link_out(
     area: &[u8],
     at: usize,
     first: u32,
@@ -72,30 +56,27 @@ fn tree_link(
     behind: &[u32],
     tree: LocalIndex,
     face: u32,
+    number: GlobalIndex,
 ) -> bool
-    requires { ⌜ Slots (now area) at first count ghosts × (tree .0 < count) × (face < 6) × Indexed (now area) (at + treeSize * count) ghosts (now marks) (now behind) ⌝ }
+    requires { ⌜ Slots (now area) at first count ghosts × (tree .0 < count) × (face < 6) × Indexed (now area) (at + treeSize * count) ghosts (now marks) (now behind) × (number .0 ≡ neighbourOf (piece (now area) (at + treeSize * (tree .0)) coreSize) face) × (inRange first (first + count) (number .0) ≡ false) ⌝ }
     ensures { λ r. ⌜ r ≡ linkOfTree (linkByDimension dimension) (now (area .entry)) at first count ghosts (tree .0) face ⌝ }
 {
     let i = tree.0;
-    let from = at + 64 * (i as usize);
-    let k = records::read::neighbour_of(area, from, face);
-    let to = place_of(
-        area,
-        at,
-        first,
-        count,
-        ghosts,
-        marks,
-        behind,
-        GlobalIndex(k),
-    );
-    if to != 0 {
-        let number = records::read::number_of(area, from);
-        return link_ok(area, dimension, number, from, face, to);
+    let position = positions::index::find(marks, behind, ghosts, number);
+    if position < ghosts {
+        return link_ok(
+            area,
+            dimension,
+            first + i,
+            at + 64 * (i as usize),
+            face,
+            at + 64 * (count as usize) + 40 * (position as usize),
+        );
     }
     false
 }
 
+// A link up is only counted.
 fn tree_links(
     area: &[u8],
     at: usize,
@@ -107,29 +88,60 @@ fn tree_links(
     behind: &[u32],
     tree: LocalIndex,
     faces: u32,
-) -> bool
+) -> Seen
     requires { ⌜ Slots (now area) at first count ghosts × (tree .0 < count) × (faces ≤ 6) × Indexed (now area) (at + treeSize * count) ghosts (now marks) (now behind) ⌝ }
-    ensures { λ r. ⌜ r ≡ allBelow faces (linkOfTree (linkByDimension dimension) (now (area .entry)) at first count ghosts (tree .0)) ⌝ }
+    ensures { λ r. ⌜ SeenAs (allBelow faces (treeFace (linkByDimension dimension) (now (area .entry)) at first count ghosts (tree .0))) (countBelow faces (treeLeadsUp (now (area .entry)) at first count (tree .0))) (countBelow faces (treeLeadsDown (now (area .entry)) at first count (tree .0))) (r .ok) (r .ups) (r .downs) ⌝ }
 {
-    let mut face = 0;
-    while face < faces {
-        if !tree_link(
-            area,
-            at,
-            first,
-            count,
-            ghosts,
-            dimension,
-            marks,
-            behind,
-            tree,
-            face,
-        ) {
-            return false;
+    let i = tree.0;
+    let from = at + 64 * (i as usize);
+    let mut next = 0;
+    let mut ups = 0;
+    let mut downs = 0;
+    while next < faces {
+        let face = next;
+        next += 1;
+        let k = records::read::neighbour_of(area, from, face);
+        let place = place_near(0, first, k);
+        if place < count {
+            if i < place {
+                ups += 1;
+            } else {
+                if !link_down(
+                    area,
+                    dimension,
+                    first + i,
+                    from,
+                    face,
+                    at + 64 * (place as usize),
+                ) {
+                    return refused();
+                }
+                downs += one(place < i);
+            }
+        } else {
+            if !link_out(
+                area,
+                at,
+                first,
+                count,
+                ghosts,
+                dimension,
+                marks,
+                behind,
+                tree,
+                face,
+                GlobalIndex(k),
+            ) {
+                return refused();
+            }
+            downs += 1;
         }
-        face += 1;
     }
-    true
+    Seen {
+        ok: true,
+        ups,
+        downs,
+    }
 }
 
 fn tree_joins(
@@ -142,26 +154,28 @@ fn tree_joins(
     marks: &[u64],
     behind: &[u32],
     tree: LocalIndex,
-) -> bool
+) -> Seen
     requires { ⌜ Slots (now area) at first count ghosts × (tree .0 < count) × Indexed (now area) (at + treeSize * count) ghosts (now marks) (now behind) ⌝ }
-    ensures { λ r. ⌜ r ≡ treeJoins (linkByDimension dimension) (now (area .entry)) at first count ghosts dimension (tree .0) ⌝ }
+    ensures { λ r. ⌜ SeenAs (treeFromOneEnd (linkByDimension dimension) (now (area .entry)) at first count ghosts dimension (tree .0)) (treeUps (now (area .entry)) at first count (tree .0)) (treeDowns (now (area .entry)) at first count (tree .0)) (r .ok) (r .ups) (r .downs) ⌝ }
 {
     let i = tree.0;
     let shape = records::read::shape_of(area, at + 64 * (i as usize));
+    if records::shape::dimension_of(shape) != dimension {
+        return refused();
+    }
     let faces = records::shape::face_count(shape);
-    (records::shape::dimension_of(shape) == dimension)
-        & tree_links(
-            area,
-            at,
-            first,
-            count,
-            ghosts,
-            dimension,
-            marks,
-            behind,
-            tree,
-            faces,
-        )
+    tree_links(
+        area,
+        at,
+        first,
+        count,
+        ghosts,
+        dimension,
+        marks,
+        behind,
+        tree,
+        faces,
+    )
 }
 
 fn trees_join(
@@ -173,13 +187,15 @@ fn trees_join(
     dimension: u32,
     marks: &[u64],
     behind: &[u32],
-) -> bool
+) -> Seen
     requires { ⌜ Slots (now area) at first count ghosts × Indexed (now area) (at + treeSize * count) ghosts (now marks) (now behind) ⌝ }
-    ensures { λ r. ⌜ r ≡ allBelow count (treeJoins (linkByDimension dimension) (now (area .entry)) at first count ghosts dimension) ⌝ }
+    ensures { λ r. ⌜ AllSeen count (allBelow count (treeFromOneEnd (linkByDimension dimension) (now (area .entry)) at first count ghosts dimension)) (sumBelow count (treeUps (now (area .entry)) at first count)) (sumBelow count (treeDowns (now (area .entry)) at first count)) (r .ok) (r .ups) (r .downs) ⌝ }
 {
     let mut i = 0;
+    let mut ups = 0;
+    let mut downs = 0;
     while i < count {
-        if !tree_joins(
+        let seen = tree_joins(
             area,
             at,
             first,
@@ -189,86 +205,148 @@ fn trees_join(
             marks,
             behind,
             LocalIndex(i),
-        ) {
-            return false;
+        );
+        if !seen.ok {
+            return refused();
         }
+        ups += seen.ups;
+        downs += seen.downs;
         i += 1;
     }
-    true
+    Seen {
+        ok: true,
+        ups,
+        downs,
+    }
 }
 
 // ---- ghosts
 
-// A link of a ghost to a tree that isn't held has a number below K and an orientation below the corners.
+// Whether a tree is in the range, by one comparison.
+fn within(first: u32, count: u32, tree: u32) -> bool
+    requires { ⌜ first + count ≤ 4294967296 ⌝ }
+    ensures { λ r. ⌜ r ≡ inRange first (first + count) tree ⌝ }
+{
+    place_near(0, first, tree) < count
+}
+
+// Whether a ghost has the number.
+fn marked(marks: &[u64], k: u32) -> bool
+    ensures { λ r. ⌜ r ≡ inSet (now (marks .entry)) k ⌝ }
+{
+    if marks.len() <= (k / 64) as usize {
+        return false;
+    }
+    bits::set::in_set(marks, k)
+}
+
+// The links of the ghost at byte `from`, sorted: those to a ghost with no higher number as digits to base 8, and how many lead up and down. No branch hangs on where a link leads.
+fn sorted(
+    area: &[u8],
+    from: usize,
+    first: u32,
+    count: u32,
+    trees: u32,
+    marks: &[u64],
+    faces: u32,
+) -> Links
+    requires { ⌜ (from + coreSize ≤ length (now area)) × (first + count ≤ 4294967296) × (faces ≤ 6) ⌝ }
+    ensures { λ r. ⌜ (SeenAs (allBelow faces (ghostInside trees (piece (now (area .entry)) from coreSize)) && anyBelow faces (neighbourIn first (first + count) (piece (now (area .entry)) from coreSize))) (countBelow faces (ghostLeadsUp (inSet (now (marks .entry))) first count (piece (now (area .entry)) from coreSize))) (countBelow faces (ghostLeadsDown (inSet (now (marks .entry))) (piece (now (area .entry)) from coreSize))) (r .ok) (r .ups) (r .downs)) × (r .ok ≡ true → r .list ≡ packed faces (ghostListed (inSet (now (marks .entry))) (piece (now (area .entry)) from coreSize))) ⌝ }
+{
+    let own = records::read::number_of(area, from);
+    let mut face = 0;
+    let mut list = 0;
+    let mut ups = 0;
+    let mut downs = 0;
+    let mut met = false;
+    while face < faces {
+        let k = records::read::neighbour_of(area, from, face);
+        if (trees <= k) | !mesh::link::orientation_ok(area, from, face) {
+            return Links {
+                ok: false,
+                list: 0,
+                ups: 0,
+                downs: 0,
+            };
+        }
+        let inside = within(first, count, k);
+        let held = marked(marks, k);
+        list = pushed(list, face, held & (k <= own));
+        ups += one(inside | (held & (own < k)));
+        downs += one(held & (k < own));
+        met = met | inside;
+        face += 1;
+    }
+    Links {
+        ok: met,
+        list,
+        ups,
+        downs,
+    }
+}
+
+// A link to a ghost with no higher number.
 fn ghost_link(
     area: &[u8],
     at: usize,
-    first: u32,
     count: u32,
     ghosts: u32,
     dimension: u32,
-    trees: u32,
     marks: &[u64],
     behind: &[u32],
     j: u32,
     face: u32,
 ) -> bool
-    requires { ⌜ Slots (now area) at first count ghosts × (j < ghosts) × (face < 6) × Indexed (now area) (at + treeSize * count) ghosts (now marks) (now behind) ⌝ }
-    ensures { λ r. ⌜ r ≡ linkOfGhost (linkByDimension dimension) (now (area .entry)) at first count ghosts trees j face ⌝ }
+    requires { ⌜ (at + treeSize * count + coreSize * ghosts ≤ length (now area)) × (j < ghosts) × (face < 6) × Indexed (now area) (at + treeSize * count) ghosts (now marks) (now behind) × (ghostListed (inSet (now marks)) (ghostFrom (now area) at count j) face ≡ true) ⌝ }
+    ensures { λ r. ⌜ r ≡ linkAmongGhosts (linkByDimension dimension) (now (area .entry)) at count ghosts j face ⌝ }
 {
-    let from = at + 64 * (count as usize) + 40 * (j as usize);
+    let ghosts_at = at + 64 * (count as usize);
+    let from = ghosts_at + 40 * (j as usize);
+    let own = records::read::number_of(area, from);
     let k = records::read::neighbour_of(area, from, face);
-    let to = place_of(
+    let position = positions::index::find(marks, behind, ghosts, GlobalIndex(k));
+    link_ok(
         area,
-        at,
-        first,
-        count,
-        ghosts,
-        marks,
-        behind,
-        GlobalIndex(k),
-    );
-    if to == 0 {
-        return (k < trees) & mesh::link::orientation_ok(area, from, face);
-    }
-    let number = records::read::number_of(area, from);
-    link_ok(area, dimension, number, from, face, to)
+        dimension,
+        own,
+        from,
+        face,
+        ghosts_at + 40 * (position as usize),
+    )
 }
 
+// The faces of a list, the last first.
 fn ghost_links(
     area: &[u8],
     at: usize,
-    first: u32,
     count: u32,
     ghosts: u32,
     dimension: u32,
-    trees: u32,
     marks: &[u64],
     behind: &[u32],
     j: u32,
     faces: u32,
+    list: u32,
 ) -> bool
-    requires { ⌜ Slots (now area) at first count ghosts × (j < ghosts) × (faces ≤ 6) × Indexed (now area) (at + treeSize * count) ghosts (now marks) (now behind) ⌝ }
-    ensures { λ r. ⌜ r ≡ allBelow faces (linkOfGhost (linkByDimension dimension) (now (area .entry)) at first count ghosts trees j) ⌝ }
+    requires { ⌜ (at + treeSize * count + coreSize * ghosts ≤ length (now area)) × (j < ghosts) × (faces ≤ 6) × Indexed (now area) (at + treeSize * count) ghosts (now marks) (now behind) × (list ≡ packed faces (ghostListed (inSet (now marks)) (ghostFrom (now area) at count j))) ⌝ }
+    ensures { λ r. ⌜ r ≡ allBelow faces (listedLink (linkByDimension dimension) (inSet (now (marks .entry))) (now (area .entry)) at count ghosts j) ⌝ }
 {
-    let mut face = 0;
-    while face < faces {
+    let mut left = list;
+    while 0 < left {
         if !ghost_link(
             area,
             at,
-            first,
             count,
             ghosts,
             dimension,
-            trees,
             marks,
             behind,
             j,
-            face,
+            left % 8 - 1,
         ) {
             return false;
         }
-        face += 1;
+        left = left / 8;
     }
     true
 }
@@ -284,28 +362,39 @@ fn ghost_joins(
     marks: &[u64],
     behind: &[u32],
     j: u32,
-) -> bool
+) -> Seen
     requires { ⌜ Slots (now area) at first count ghosts × (j < ghosts) × Indexed (now area) (at + treeSize * count) ghosts (now marks) (now behind) ⌝ }
-    ensures { λ r. ⌜ r ≡ ghostJoins (linkByDimension dimension) (now (area .entry)) at first count ghosts dimension trees j ⌝ }
+    ensures { λ r. ⌜ SeenAs (ghostFromOneEnd (linkByDimension dimension) (inSet (now (marks .entry))) (now (area .entry)) at first count ghosts dimension trees j) (ghostUps (inSet (now (marks .entry))) (now (area .entry)) at first count j) (ghostDowns (inSet (now (marks .entry))) (now (area .entry)) at count j) (r .ok) (r .ups) (r .downs) ⌝ }
 {
     let from = at + 64 * (count as usize) + 40 * (j as usize);
     let shape = records::read::shape_of(area, from);
+    if records::shape::dimension_of(shape) != dimension {
+        return refused();
+    }
     let faces = records::shape::face_count(shape);
-    (records::shape::dimension_of(shape) == dimension)
-        & beside(area, from, faces, first, first + count)
-        & ghost_links(
-            area,
-            at,
-            first,
-            count,
-            ghosts,
-            dimension,
-            trees,
-            marks,
-            behind,
-            j,
-            faces,
-        )
+    let links = sorted(area, from, first, count, trees, marks, faces);
+    if !links.ok {
+        return refused();
+    }
+    if !ghost_links(
+        area,
+        at,
+        count,
+        ghosts,
+        dimension,
+        marks,
+        behind,
+        j,
+        faces,
+        links.list,
+    ) {
+        return refused();
+    }
+    Seen {
+        ok: true,
+        ups: links.ups,
+        downs: links.downs,
+    }
 }
 
 fn ghosts_join(
@@ -318,13 +407,15 @@ fn ghosts_join(
     trees: u32,
     marks: &[u64],
     behind: &[u32],
-) -> bool
+) -> Seen
     requires { ⌜ Slots (now area) at first count ghosts × Indexed (now area) (at + treeSize * count) ghosts (now marks) (now behind) ⌝ }
-    ensures { λ r. ⌜ r ≡ allBelow ghosts (ghostJoins (linkByDimension dimension) (now (area .entry)) at first count ghosts dimension trees) ⌝ }
+    ensures { λ r. ⌜ AllSeen ghosts (allBelow ghosts (ghostFromOneEnd (linkByDimension dimension) (inSet (now (marks .entry))) (now (area .entry)) at first count ghosts dimension trees)) (sumBelow ghosts (ghostUps (inSet (now (marks .entry))) (now (area .entry)) at first count)) (sumBelow ghosts (ghostDowns (inSet (now (marks .entry))) (now (area .entry)) at count)) (r .ok) (r .ups) (r .downs) ⌝ }
 {
     let mut j = 0;
+    let mut ups = 0;
+    let mut downs = 0;
     while j < ghosts {
-        if !ghost_joins(
+        let seen = ghost_joins(
             area,
             at,
             first,
@@ -335,14 +426,22 @@ fn ghosts_join(
             marks,
             behind,
             j,
-        ) {
-            return false;
+        );
+        if !seen.ok {
+            return refused();
         }
+        ups += seen.ups;
+        downs += seen.downs;
         j += 1;
     }
-    true
+    Seen {
+        ok: true,
+        ups,
+        downs,
+    }
 }
 
+// All records, and as many links up as down.
 fn records_join(
     area: &[u8],
     at: usize,
@@ -354,21 +453,28 @@ fn records_join(
     marks: &[u64],
     behind: &[u32],
 ) -> bool
-    requires { ⌜ Slots (now area) at first count ghosts × Indexed (now area) (at + treeSize * count) ghosts (now marks) (now behind) ⌝ }
+    requires { ⌜ SlotsNumbered (now area) at first count ghosts trees × Indexed (now area) (at + treeSize * count) ghosts (now marks) (now behind) ⌝ }
     ensures { λ r. ⌜ r ≡ recordsJoin (linkByDimension dimension) (now (area .entry)) at first count ghosts dimension trees ⌝ }
 {
-    trees_join(area, at, first, count, ghosts, dimension, marks, behind)
-        & ghosts_join(
-            area,
-            at,
-            first,
-            count,
-            ghosts,
-            dimension,
-            trees,
-            marks,
-            behind,
-        )
+    let of_trees = trees_join(area, at, first, count, ghosts, dimension, marks, behind);
+    if !of_trees.ok {
+        return false;
+    }
+    let of_ghosts = ghosts_join(
+        area,
+        at,
+        first,
+        count,
+        ghosts,
+        dimension,
+        trees,
+        marks,
+        behind,
+    );
+    if !of_ghosts.ok {
+        return false;
+    }
+    of_trees.ups + of_ghosts.ups == of_trees.downs + of_ghosts.downs
 }
 
 // The same, with an index for as many trees as there can be.

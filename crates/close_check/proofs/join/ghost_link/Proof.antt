@@ -1,7 +1,15 @@
-use Rattle.close_check.proofs.Links.{to-fits, ghost-none, ghost-some}
+use native.Mathlib.Omega.{arith}
+use Rattle.close_check.proofs.Places.{position-is, found-less}
+use Rattle.close_check.proofs.Links.{listed-marked, ghost-some}
 use borrow.Author.Needs.{needs}
 use Rattle.close_check.proofs.join.ghost_link.Statement.{statement}
 use Rattle.close_check.proofs.join.ghost_link.Tie as tie
+
+mul-ghosts-at : tie.Need-mul-ghosts-at
+mul-ghosts-at c = search needs
+
+add-ghosts-at : tie.Need-add-ghosts-at
+add-ghosts-at c = search needs
 
 mul-from : tie.Need-mul-from
 mul-from c = search needs
@@ -9,60 +17,51 @@ mul-from c = search needs
 add-from : tie.Need-add-from
 add-from c = search needs
 
-mul-from-2 : tie.Need-mul-from-2
-mul-from-2 c = search needs
-
-add-from-2 : tie.Need-add-from-2
-add-from-2 c = search needs
+number-of-requires : tie.Need-number-of-requires
+number-of-requires c κs = search needs
 
 neighbour-of-requires : tie.Need-neighbour-of-requires
 neighbour-of-requires c κs = search needs
 
-place-of-requires : tie.Need-place-of-requires
-place-of-requires c κs = search needs
+find-requires : tie.Need-find-requires
+find-requires c κs = c .before .before .before .before .before .pre .3 .counted
 
-orientation-ok-requires : tie.Need-orientation-ok-requires
-orientation-ok-requires c κs = search needs
+cast-link-ok : tie.Need-cast-link-ok
+cast-link-ok c = search needs
 
-returns : tie.Need-returns
-returns c =
-    let pre = c .before .before .before .before .before .before .before .pre in
-    let neighbour-of = c .before .before .before .neighbour-of in
-    let place-of = c .before .before .place-of in
-    let if1 = c .before .if1 in
-    ghost-none _ _ _ _ _ (pre .0) _ (pre .1) _ _ _ (neighbour-of .ensures) (place-of .ensures) (if1 .taken) (c .orientation-ok .ensures)
+mul-link-ok : tie.Need-mul-link-ok
+mul-link-ok c = search needs
 
-number-of-requires : tie.Need-number-of-requires
-number-of-requires c κs = search needs
+add-link-ok : tie.Need-add-link-ok
+add-link-ok c = search needs
 
 link-ok-requires : tie.Need-link-ok-requires
 link-ok-requires c κs =
-    let pre = c .before .before .before .before .before .before .before .pre in
-    let place-of = c .before .before .place-of in
-    let if1 = c .before .if1 in
-    (search needs, search needs, to-fits _ _ _ _ _ (pre .0) _ (place-of .ensures) (if1 .left))
+    let pre = c .before .before .before .before .before .before .pre in
+    let neighbour-of = c .before .neighbour-of in
+    let less = found-less _ _ _ (pre .3) _ (c .find .ensures .0) (listed-marked _ _ _ _ _ (neighbour-of .ensures) _ (pre .4)) in (search needs, search needs, omega (arith, less))
 
-returns-2 : tie.Need-returns-2
-returns-2 c =
-    let pre = c .before .before .before .before .before .before .before .before .pre in
-    let neighbour-of = c .before .before .before .before .neighbour-of in
-    let place-of = c .before .before .before .place-of in
-    let if1 = c .before .before .if1 in
-    let number-of = c .before .number-of in
-    ghost-some _ _ _ _ _ (pre .0) _ (pre .1) _ _ _ (neighbour-of .ensures) (place-of .ensures) (if1 .left) (number-of .ensures) (c .link-ok .ensures)
+returns : tie.Need-returns
+returns c =
+    let neighbour-of = c .before .before .neighbour-of in
+    let number-of = c .before .before .before .number-of in
+    let pre = c .before .before .before .before .before .before .before .pre in
+    let find = c .before .find in
+    ghost-some _ _ _ _ _ (neighbour-of .ensures) _ _ (number-of .ensures) (position-is _ _ _ (pre .3) _ (find .ensures .0)) (c .link-ok .ensures)
 
 pub ghost-link-spec : {M : Type 1} → statement M
 ghost-link-spec =
     tie.close
     (tie.spec
+    mul-ghosts-at
+    add-ghosts-at
     mul-from
     add-from
-    mul-from-2
-    add-from-2
-    neighbour-of-requires
-    place-of-requires
-    orientation-ok-requires
-    returns
     number-of-requires
+    neighbour-of-requires
+    find-requires
+    cast-link-ok
+    mul-link-ok
+    add-link-ok
     link-ok-requires
-    returns-2)
+    returns)

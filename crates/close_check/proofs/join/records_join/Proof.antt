@@ -1,4 +1,6 @@
-use Rattle.close_check.specs.Means.{recordsJoin}
+use mathlib.Core.Path.{sym, _∙_}
+use borrow.Author.Tests.{not-true, not-false}
+use Rattle.close_check.proofs.FromOneEnd.{trees-fail, ghosts-fail, links-counted}
 use borrow.Author.Needs.{needs}
 use Rattle.close_check.proofs.join.records_join.Statement.{statement}
 use Rattle.close_check.proofs.join.records_join.Tie as tie
@@ -6,12 +8,44 @@ use Rattle.close_check.proofs.join.records_join.Tie as tie
 trees-join-requires : tie.Need-trees-join-requires
 trees-join-requires c κs = search needs
 
+returns : tie.Need-returns
+returns c =
+    let pre = c .before .before .before .before .before .before .pre in
+    let trees-join = c .before .before .trees-join in
+    trees-fail _ (pre .0) (pre .1) (sym (trees-join .ensures .tested) ∙ not-true _ (c .if1 .taken))
+
 ghosts-join-requires : tie.Need-ghosts-join-requires
 ghosts-join-requires c κs = search needs
 
-returns : tie.Need-returns
-unfolding recordsJoin
-returns c = rw (c .before .trees-join .ensures, c .ghosts-join .ensures)
+returns-2 : tie.Need-returns-2
+returns-2 c =
+    let pre = c .before .before .before .before .before .before .before .before .before .pre in
+    let ghosts-join = c .before .before .ghosts-join in
+    ghosts-fail _ (pre .0) (pre .1) (sym (ghosts-join .ensures .tested) ∙ not-true _ (c .if2 .taken))
+
+add-result : tie.Need-add-result
+add-result c = search needs
+
+add-result-2 : tie.Need-add-result-2
+add-result-2 c = search needs
+
+returns-3 : tie.Need-returns-3
+returns-3 c =
+    let pre = c .before .before .before .before .before .before .before .before .before .before .before .before .before .pre in
+    let trees-join = c .before .before .before .before .before .before .before .before .before .trees-join in
+    let if1 = c .before .before .before .before .before .before .before .if1 in
+    let ghosts-join = c .before .before .before .before .before .before .ghosts-join in
+    let if2 = c .before .before .before .before .if2 in
+    links-counted _ (pre .0) (pre .1) (trees-join .ensures) (not-false _ (if1 .left)) (ghosts-join .ensures) (not-false _ (if2 .left))
 
 pub records-join-spec : {M : Type 1} → statement M
-records-join-spec = tie.close (tie.spec trees-join-requires ghosts-join-requires returns)
+records-join-spec =
+    tie.close
+    (tie.spec
+    trees-join-requires
+    returns
+    ghosts-join-requires
+    returns-2
+    add-result
+    add-result-2
+    returns-3)

@@ -1,24 +1,21 @@
-use Rattle.message_ghosts.proofs.Reading.{rank-row, rank-new-row}
-use Rattle.message_ghosts.specs.Means.{sentBefore}
 use borrow.Author.Needs.{needs}
 use Rattle.message_ghosts.proofs.rule.sent_before.Statement.{statement}
 use Rattle.message_ghosts.proofs.rule.sent_before.Tie as tie
+use Rattle.message_ghosts.proofs.rule.sent_before.Reads as reads
+use Rattle.message_ghosts.proofs.rule.sent_before.Lts as lts
+use Rattle.message_ghosts.proofs.read.within.Reads as within-reads
 
-cast-holds : tie.Need-cast-holds
-cast-holds c = search needs
+-- src/rule.rt:60:5
+within-requires : tie.Need-within-requires
+within-requires c κs = search needs
 
-holds-requires : tie.Need-holds-requires
-holds-requires c κs = rank-new-row (c .before .before .pre)
+-- src/rule.rt:60:37
+within-requires-2 : tie.Need-within-requires-2
+within-requires-2 c κs = search needs
 
-cast-holds-2 : tie.Need-cast-holds-2
-cast-holds-2 c = search needs
-
-holds-requires-2 : tie.Need-holds-requires-2
-holds-requires-2 c κs = rank-row (c .before .before .before .pre)
-
+-- src/rule.rt:55:1
 returns : tie.Need-returns
-unfolding sentBefore
-returns c = rw (c .before .holds .ensures, c .holds2 .ensures)
+returns c = rw (c .before .within .ensures, c .within2 .ensures) (c .before .before .before .before .pre .before _)
 
 pub sent-before-spec : {M : Type 1} → statement M
-sent-before-spec = tie.close (tie.spec cast-holds holds-requires cast-holds-2 holds-requires-2 returns)
+sent-before-spec = tie.close (tie.spec within-requires within-requires-2 returns)

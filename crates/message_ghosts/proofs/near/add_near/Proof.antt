@@ -8,12 +8,6 @@ use Rattle.message_ghosts.proofs.Walking.{tree-there, faces-fit, tree-a
 use borrow.Author.Needs.{needs}
 use Rattle.message_ghosts.proofs.near.add_near.Statement.{statement}
 use Rattle.message_ghosts.proofs.near.add_near.Tie as tie
-use Rattle.message_ghosts.proofs.near.add_near.Reads as reads
-use Rattle.message_ghosts.proofs.near.add_near.Lts as lts
-use Rattle.message_ghosts.proofs.near.add_faces.Reads as add-faces-reads
-use Rattle.part.proofs.layout.tree_at.Reads as tree-at-reads
-use Rattle.records.proofs.read.shape_of.Reads as shape-of-reads
-use Rattle.records.proofs.shape.face_count.Reads as face-count-reads
 
 abbrev Inv-loop : tie.InvT-loop
 Inv-loop part old new p q count start end near₀ i₀ near i = (start ≤ i) × (i ≤ end) × Added near₀ (outTrees (recordIn part count) start end (i - start)) near
@@ -21,43 +15,52 @@ Inv-loop part old new p q count start end near₀ i₀ near i = (start ≤ i) ×
 abbrev μ-loop : tie.MeasureT-loop
 μ-loop part old new p q count start end near₀ i₀ near i = end - i
 
--- src/near.rt:43:5
 loop-holds : tie.Need-loop-holds Inv-loop μ-loop
 loop-holds c = (omega arith, c .before .before .before .before .pre .range, trees-start _ _ _ _)
 
--- src/near.rt:44:13
 tree-at-requires : tie.Need-tree-at-requires Inv-loop μ-loop
 tree-at-requires c κs = search needs
 
--- src/near.rt:45:48
 shape-of-requires : tie.Need-shape-of-requires Inv-loop μ-loop
-shape-of-requires c κs = tree-there _ _ _ _ _ _ _ _ (c .before .before .before .before .before .before .before .pre) (c .before .before .loop .inv .0) (c .before .loop-test .taken) (c .tree-at .ensures)
+shape-of-requires c κs =
+    let pre = c .before .before .before .before .before .before .before .pre in
+    let loop = c .before .before .loop in
+    let loop-test = c .before .loop-test in
+    tree-there _ _ _ _ _ _ _ _ pre (loop .inv .0) (loop-test .taken) (c .tree-at .ensures)
 
--- src/near.rt:45:13
 face-count-requires : tie.Need-face-count-requires Inv-loop μ-loop
 face-count-requires c κs = search needs
 
--- src/near.rt:46:9
 add-faces-requires : tie.Need-add-faces-requires Inv-loop μ-loop
-add-faces-requires c κs = faces-fit _ _ _ _ _ _ _ _ (c .before .before .before .before .before .before .before .before .before .before .pre) (c .before .before .before .before .before .loop .inv .0) (c .before .before .before .before .loop-test .taken) (c .before .before .before .tree-at .ensures) (c .before .before .shape-of .ensures) (c .before .face-count .ensures .0) (c .before .before .before .before .before .loop .inv .2) (c .before .face-count .ensures .1)
+add-faces-requires c κs =
+    let pre = c .before .before .before .before .before .before .before .before .before .before .pre in
+    let loop = c .before .before .before .before .before .loop in
+    let loop-test = c .before .before .before .before .loop-test in
+    let tree-at = c .before .before .before .tree-at in
+    let shape-of = c .before .before .shape-of in
+    let face-count = c .before .face-count in
+    faces-fit _ _ _ _ _ _ _ _ pre (loop .inv .0) (loop-test .taken) (tree-at .ensures) (shape-of .ensures) (face-count .ensures .0) (loop .inv .2) (face-count .ensures .1)
 
--- src/near.rt:47:9
 add-i : tie.Need-add-i Inv-loop μ-loop
 add-i c = search needs
 
--- src/near.rt:43:5
 loop-less : tie.Need-loop-less Inv-loop μ-loop
 loop-less c = search needs
 
--- src/near.rt:43:5
 loop-again : tie.Need-loop-again Inv-loop μ-loop
-loop-again c = (omega (arith, c .before .before .before .before .before .before .before .before .loop .inv .0), omega arith, tree-added _ _ _ _ _ _ _ _ (c .before .before .before .before .before .before .before .before .before .before .before .before .before .pre) (c .before .before .before .before .before .before .before .before .loop .inv .0) (c .before .before .before .before .before .before .before .loop-test .taken) (c .before .before .before .before .before .before .tree-at .ensures) (c .before .before .before .before .before .shape-of .ensures) (c .before .before .before .before .face-count .ensures .0) (c .before .before .before .before .before .before .before .before .loop .inv .2) (c .before .before .add-faces .ensures))
+loop-again c =
+    let loop = c .before .before .before .before .before .before .before .before .loop in
+    let pre = c .before .before .before .before .before .before .before .before .before .before .before .before .before .pre in
+    let loop-test = c .before .before .before .before .before .before .before .loop-test in
+    let tree-at = c .before .before .before .before .before .before .tree-at in
+    let shape-of = c .before .before .before .before .before .shape-of in
+    let face-count = c .before .before .before .before .face-count in
+    let add-faces = c .before .before .add-faces in
+    (omega (arith, loop .inv .0), omega arith, tree-added _ _ _ _ _ _ _ _ pre (loop .inv .0) (loop-test .taken) (tree-at .ensures) (shape-of .ensures) (face-count .ensures .0) (loop .inv .2) (add-faces .ensures))
 
--- src/near.rt:28:1
 same-length : tie.Need-same-length Inv-loop μ-loop
 same-length c = c .before .loop .inv .2 .same-length
 
--- src/near.rt:28:1
 returns : tie.Need-returns Inv-loop μ-loop
 returns c = trees-end _ _ _ (c .before .loop .inv .2) (c .before .loop .inv .1) (omega arith)
 

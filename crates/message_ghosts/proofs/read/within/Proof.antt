@@ -3,26 +3,19 @@ use Rattle.part_cut.proofs.Marking.{range-wraps}
 use borrow.Author.Needs.{needs}
 use Rattle.message_ghosts.proofs.read.within.Statement.{statement}
 use Rattle.message_ghosts.proofs.read.within.Tie as tie
-use Rattle.message_ghosts.proofs.read.within.Reads as reads
-use Rattle.message_ghosts.proofs.read.within.Lts as lts
 
--- src/read.rt:16:22
 sub-result : tie.Need-sub-result
 sub-result c = search needs
 
--- src/read.rt:16:8
 add-result : tie.Need-add-result
 add-result c = search needs
 
--- src/read.rt:16:6
 cast-result : tie.Need-cast-result
 cast-result c = search needs
 
--- src/read.rt:16:76
 sub-result-2 : tie.Need-sub-result-2
 sub-result-2 c = search needs
 
--- src/read.rt:12:1
 returns : tie.Need-returns
 returns c = range-wraps _ _ _ (c .pre) (omega arith) (omega arith)
 

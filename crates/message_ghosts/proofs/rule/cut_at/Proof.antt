@@ -3,22 +3,16 @@ use Rattle.message_ghosts.proofs.Ranging.{cut-made}
 use borrow.Author.Needs.{needs}
 use Rattle.message_ghosts.proofs.rule.cut_at.Statement.{statement}
 use Rattle.message_ghosts.proofs.rule.cut_at.Tie as tie
-use Rattle.message_ghosts.proofs.rule.cut_at.Reads as reads
-use Rattle.message_ghosts.proofs.rule.cut_at.Lts as lts
 
--- src/rule.rt:27:9
 returns : tie.Need-returns
 returns c = cut-made _ _ _ _ (omega arith) (omega arith) (λ x a b. ((λ d. omega arith), (λ d. omega arith)))
 
--- src/rule.rt:30:9
 returns-2 : tie.Need-returns-2
 returns-2 c = cut-made _ _ _ _ (omega arith) (omega arith) (λ x a b. ((λ d. omega arith), (λ d. omega arith)))
 
--- src/rule.rt:32:5
 cast-result : tie.Need-cast-result
 cast-result c = search needs
 
--- src/rule.rt:22:1
 returns-3 : tie.Need-returns-3
 returns-3 c = cut-made _ _ _ _ (omega arith) (omega arith) (λ x a b. ((λ d. d), (λ d. d)))
 

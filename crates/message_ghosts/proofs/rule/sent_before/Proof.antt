@@ -1,19 +1,13 @@
 use borrow.Author.Needs.{needs}
 use Rattle.message_ghosts.proofs.rule.sent_before.Statement.{statement}
 use Rattle.message_ghosts.proofs.rule.sent_before.Tie as tie
-use Rattle.message_ghosts.proofs.rule.sent_before.Reads as reads
-use Rattle.message_ghosts.proofs.rule.sent_before.Lts as lts
-use Rattle.message_ghosts.proofs.read.within.Reads as within-reads
 
--- src/rule.rt:60:5
 within-requires : tie.Need-within-requires
 within-requires c κs = search needs
 
--- src/rule.rt:60:37
 within-requires-2 : tie.Need-within-requires-2
 within-requires-2 c κs = search needs
 
--- src/rule.rt:55:1
 returns : tie.Need-returns
 returns c = rw (c .before .within .ensures, c .within2 .ensures) (c .before .before .before .before .pre .before _)
 

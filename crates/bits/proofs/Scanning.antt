@@ -158,3 +158,26 @@ module _ (ws : List ℕ) (i : ℕ) where
   member-none k none l m h =
       let e : i ≡ k + (64 * length ws - k) = omega arith in
       e ∙ sym (from-none (64 * length ws) k (inSet ws) (λ j p q. none j p (omega arith)))
+
+-- the same for a whole word
+module _ (ws : List ℕ) (w : ℕ) {word : ℕ} (k : ℕ) (none : None ws k (64 * w)) (is : word ≡ getD ws w 0) where
+  at-word : 64 * w / 64 ≡ w
+  at-word = omega arith
+
+  whole : word ≡ getD ws (64 * w / 64) 0 / 2 ^ (64 * w % 64)
+  whole =
+      let b : 64 * w % 64 ≡ 0 = omega arith in
+      is ∙ rw (at-word, b) (sym (div-one (getD ws w 0)))
+
+  pub whole-clear : word ≡ 0 → None ws k (64 * (w + 1))
+  whole-clear z = rw at-word at (word-clear ws (64 * w) k none whole z)
+
+  module _ (fits : getD ws w 0 < 2 ^ 64) (some : word ≡ 0 → ⊥) where
+    word-fits : getD ws (64 * w / 64) 0 < 2 ^ 64
+    word-fits = rw at-word fits
+
+    pub whole-near : trailingZeros 64 word < 64
+    whole-near = omega (arith, member-near ws (64 * w) k none whole word-fits some)
+
+    pub whole-found : k ≤ 64 * w → w < length ws → 64 * w + trailingZeros 64 word ≡ leastFrom (64 * length ws) k (inSet ws)
+    whole-found l h = member-found ws (64 * w) k none whole word-fits some l (omega arith)

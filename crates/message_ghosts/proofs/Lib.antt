@@ -2,4 +2,6 @@
 pub mod Going
 pub mod Records
 pub mod Reading
+pub mod Ranging
+pub mod Walking
 pub mod Marking

@@ -60,7 +60,7 @@ module _ {old new : List ℕ} {q : ℕ} (r : RankOf old new q) where
   rank-new-row = receiver-in-new old new (r .tables) q (r .rankBelow)
 
 -- a neighbour as it is read
-pub neighbour-before : (part old new : List ℕ) (q low count j faces f : ℕ) → Beside part old new q count j faces → f < faces → {h : ℕ} {b : Bool}
+pub neighbour-before : (part old new : List ℕ) (q low count j faces f : ℕ) → Beside part count j faces → f < faces → {h : ℕ} {b : Bool}
     → h ≡ acrossAt part count j f → b ≡ sentBefore old new q low h → sentBefore old new q low (neighbourOf (partCore part (numberIn part count j)) f) ≡ b
 neighbour-before part old new q low count j faces f k l d c = sym (c ∙ ap (sentBefore old new q low) (d ∙ k .across f l))
 
@@ -78,10 +78,9 @@ module _ (part old new : List ℕ) (q low g : ℕ) where
 
 module _ (part old new : List ℕ) (p q count j : ℕ) (a : AtRecord part old new p q count j) where
   -- its faces can be read, and lead to its neighbours
-  pub beside-known : (faces : ℕ) → faces ≡ faceCount (shapeOf (partCore part (numberIn part count j))) → Beside part old new q count j faces
+  pub beside-known : (faces : ℕ) → faces ≡ faceCount (shapeOf (partCore part (numberIn part count j))) → Beside part count j faces
   beside-known faces e =
       record {
-        receiver = record { tables = a .known .sending .pair .tables; rankBelow = a .known .sending .pair .receiverBelow };
         there = λ f l. at-face part old new p q count (a .known) j f (a .within) (rw e at l);
         across = λ f l. across-is part old new p q count (a .known) j f (a .within) (rw e at l);
       }

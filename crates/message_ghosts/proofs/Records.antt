@@ -1,18 +1,18 @@
 -- Laws of the records of a sound part by their local index.
-use Prim.Native.Nat.{ℕ, _+_, _-_, _≤_, _<_}
+use Prim.Native.Nat.{ℕ, zero, suc, _+_, _-_, _≤_, _<_}
 use native.Mathlib.Omega.{arith}
 use mathlib.Core.Path.{_≡_, sym, ap, _∙_}
-use mathlib.Core.Bool.{true}
+use mathlib.Core.Bool.{true, false}
 use mathlib.Core.List.{List}
 use lib.Dec.{ltb, eqb}
 use lib.ListN.{length}
 use borrow.Author.Tests.{ltb-true, lt-ltb, le-ltb}
 use Rattle.encoding.specs.Pieces.{Bytes}
-use Rattle.encoding.proofs.Below.{either, tests}
+use Rattle.encoding.proofs.Below.{either, tests, clash}
 use Rattle.encoding.proofs.Numbers.{at-bound}
 use Rattle.encoding.proofs.Pieces.{piece-length, bytes-piece}
-use Rattle.offsets.specs.Table.{ranks, trees, firstTree, treeCount, holds}
-use Rattle.offsets.proofs.Tables.{trees-high, count-add}
+use Rattle.offsets.specs.Table.{ranks, trees, firstTree, endTree, treeCount, holds}
+use Rattle.offsets.proofs.Tables.{trees-high, count-add, end-trees}
 use Rattle.pattern.specs.Sender.{Tables}
 use Rattle.pattern.proofs.Senders.{holds-in}
 use Rattle.records.specs.Shape.{faceCount, facesIn}
@@ -21,7 +21,7 @@ use Rattle.records.proofs.Shapes.{count-six}
 use Rattle.part.specs.Layout.{treePlace, ghostPlace}
 use Rattle.part.specs.Part.{noTree, partDimension, partK, partFirst, partCount, partGhostCount, storedTree, storedGhost, globalNumber, globalTree, partHolds, partCore, partSound}
 use Rattle.part_theorems.proofs.Renamed.{renamed-number, renamed-shape, renamed-neighbour}
-use Rattle.part_theorems.proofs.SoundParts.{part-header, part-length, part-tree, part-number, part-held, part-core-tree, part-core-ghost, part-ghost-held, part-below}
+use Rattle.part_theorems.proofs.SoundParts.{part-header, part-length, part-tree, part-number, part-held, part-core-tree, part-core-ghost, part-ghost-held, part-ghost-below, part-outside, part-ascends, part-below}
 use Rattle.message_ghosts.specs.Means.{numberIn, Known, recordPlace, recordIn, acrossAt, AtFace, Numbered}
 
 -- a number that is read has 32 bits
@@ -119,6 +119,49 @@ module _ (part old new : List ℕ) (p q count : ℕ) (k : Known part old new p q
       rw (ghost-number j h, record-ghost j h) (part-core-ghost part old p sound (j - count) (omega arith))
 
   -- ---- both
+
+  abbrev ghostAt : ℕ → ℕ
+  ghostAt j = numberOf (storedGhost part j)
+
+  -- ghost j has at least j numbers before it
+  ghost-from : (j : ℕ) → j < ghosts → j ≤ ghostAt j
+  ghost-from zero h = omega arith
+  ghost-from (suc j) h = omega (arith, ghost-from j (omega arith), part-ascends part old p sound j (suc j) (omega arith) h)
+
+  -- it is before the trees or behind them
+  ghost-apart : (j : ℕ) → j < ghosts → ghostAt j < endTree old p → ghostAt j < firstTree old p
+  ghost-apart j h l =
+      either (ltb (ghostAt j) (firstTree old p)) (λ e. ltb-true (ghostAt j) (firstTree old p) e)
+      (λ e. clash (holds-in old p (ghostAt j) (omega tests) l) (part-outside part old p sound j h))
+
+  -- behind them it has the trees before it too
+  ghost-behind : (j : ℕ) → j < ghosts → endTree old p ≤ ghostAt j → treeCount old p + j ≤ ghostAt j
+  ghost-behind zero h l = omega (arith, count-add old (T .oldBytes) (T .oldRanks) (T .oldValid) p P)
+  ghost-behind (suc j) h l =
+      let a = part-ascends part old p sound j (suc j) (omega arith) h in
+      let n = count-add old (T .oldBytes) (T .oldRanks) (T .oldValid) p P in
+      let m : j < ghosts = omega arith in
+      either (ltb (ghostAt j) (endTree old p))
+      (λ e. omega (arith, n, ghost-from j m, ghost-apart j m (ltb-true (ghostAt j) (endTree old p) e)))
+      (λ e. omega (arith, a, ghost-behind j m (omega tests)))
+
+  -- there are no more records than trees
+  pub records-few : count + partGhostCount part ≤ trees old
+  records-few =
+      let e = part-header part old p sound in
+      let m : partCount part ≡ treeCount old p = e .tree-count in
+      let K : partK part ≡ trees old = e .all-trees in
+      let c = k .counted in
+      let n = count-add old (T .oldBytes) (T .oldRanks) (T .oldValid) p P in
+      let l = end-trees old (T .oldBytes) (T .oldRanks) (T .oldValid) p P in
+      either (ltb 0 ghosts)
+      (λ g.
+      let h : ghosts - 1 < ghosts = omega tests in
+      let b = part-ghost-below part old p sound (ghosts - 1) h in
+      either (ltb (ghostAt (ghosts - 1)) (endTree old p))
+      (λ d. omega (tests, n, l, c, m, K, h, ghost-from (ghosts - 1) h, ghost-apart (ghosts - 1) h (ltb-true (ghostAt (ghosts - 1)) (endTree old p) d)))
+      (λ d. omega (tests, b, c, m, K, h, ghost-behind (ghosts - 1) h (omega tests))))
+      (λ g. omega (tests, n, l, c, m))
 
   -- the record at an index is held
   pub number-held : (j : ℕ) → j < count + partGhostCount part → partHolds part (numberIn part count j) ≡ true

@@ -3,17 +3,18 @@ use Prim.Native.Nat.{ℕ, _+_, _-_, _*_, _≤_, _<_}
 use mathlib.Core.Path.{_≡_}
 use mathlib.Core.Bool.{Bool, true, false, cond, not, _&&_, _||_}
 use mathlib.Core.List.{List}
-use lib.Dec.{ltb, eqb}
+use lib.Dec.{leb, ltb, eqb}
 use lib.ListN.{length}
 use Rattle.encoding.specs.Below.{anyBelow}
 use Rattle.encoding.specs.Pieces.{piece, Bytes}
 use Rattle.bits.specs.Bits.{inSet}
-use Rattle.offsets.specs.Table.{trees, firstTree, endTree, holds}
-use Rattle.pattern.specs.Means.{RankOf, PairOf}
+use Rattle.offsets.specs.Table.{trees, holds}
+use Rattle.pattern.specs.Means.{PairOf}
 use Rattle.pattern.specs.Sender.{sentFirst, sentCount}
 use Rattle.records.specs.Shape.{faceCount}
 use Rattle.records.specs.Record.{coreSize, numberOf, shapeOf, neighbourOf}
 use Rattle.part.specs.Layout.{treePlace, ghostPlace}
+use Rattle.part.specs.Means.{inRange}
 use Rattle.part.specs.Part.{partCount, partGhostCount, partHolds, partCore, partSound}
 use Rattle.message.specs.Build.{partRecord}
 use Rattle.message.specs.Rule.{ghostGoes}
@@ -33,11 +34,6 @@ pub record Room (old marks : List ℕ) : Type 0 where
 pub record Marks (part old new : List ℕ) (p q : ℕ) (marks : List ℕ) : Type 0 where
   pub room : Room old marks
   pub member : (k : ℕ) → inSet marks k ≡ ghostGoes (partCore part) old new (partHolds part) (partRecord part) p q k
-
--- a set with the numbers that pass a test besides
-pub record Added (before after : List ℕ) (test : ℕ → Bool) : Type 0 where
-  pub same-length : length after ≡ length before
-  pub member : (k : ℕ) → inSet after k ≡ (inSet before k || test k)
 
 -- ---- what the functions require
 
@@ -63,15 +59,23 @@ pub record AtRecord (part old new : List ℕ) (p q count j : ℕ) : Type 0 where
   pub known : Known part old new p q count
   pub within : j < count + partGhostCount part
 
--- the local index of one of its trees
-pub record AtTree (part old new : List ℕ) (p q count i : ℕ) : Type 0 where
-  pub known : Known part old new p q count
-  pub within : i < count
+-- a set of local indices of its records
+pub record Near (part : List ℕ) (count : ℕ) (near : List ℕ) : Type 0 where
+  pub few : length near ≤ markWords
+  pub low : (j : ℕ) → inSet near j ≡ true → j < count + partGhostCount part
 
--- the range of q under the new table
-pub record Receives (new : List ℕ) (q first end : ℕ) : Type 0 where
-  pub isFirst : first ≡ firstTree new q
-  pub isEnd : end ≡ endTree new q
+-- a set with a bit for each of its records, and no member
+pub record Empty (part near : List ℕ) : Type 0 where
+  pub enough : partCount part + partGhostCount part ≤ 64 * length near
+  pub few : length near ≤ markWords
+  pub none : (j : ℕ) → inSet near j ≡ false
+
+-- a range of its trees, and a set with a bit for each of its records
+pub record NearRoom (part old new : List ℕ) (p q count start end : ℕ) (near : List ℕ) : Type 0 where
+  pub known : Known part old new p q count
+  pub range : start ≤ end
+  pub within : end ≤ count
+  pub room : count + partGhostCount part ≤ 64 * length near
 
 -- ---- the records of a part by their local index: trees first, then ghosts
 
@@ -103,9 +107,8 @@ pub record AtFace (part : List ℕ) (n j f : ℕ) : Type 0 where
   pub here : recordPlace n j + coreSize ≤ length part
   pub there : j < n → recordPlace n (neighbourOf (recordIn part n j) f) + coreSize ≤ length part
 
--- a receiver, and a record whose first faces can be read and lead to the neighbours of the core with its number
-pub record Beside (part old new : List ℕ) (q count j faces : ℕ) : Type 0 where
-  pub receiver : RankOf old new q
+-- a record whose first faces can be read and lead to the neighbours of the core with its number
+pub record Beside (part : List ℕ) (count j faces : ℕ) : Type 0 where
   pub there : (f : ℕ) → f < faces → AtFace part count j f
   pub across : (f : ℕ) → f < faces → acrossAt part count j f ≡ neighbourOf (partCore part (numberIn part count j)) f
 
@@ -114,6 +117,21 @@ pub record Beside (part old new : List ℕ) (q count j faces : ℕ) : Type 0 whe
 -- tree h is in f'(q), and in f(q) or below low: where low is the first tree from p to q, q gets h from itself or from a rank below p
 unfoldable pub sentBefore : List ℕ → List ℕ → ℕ → ℕ → ℕ → Bool
 sentBefore old new q low h = holds new q h && (holds old q h || ltb h low)
+
+-- k cuts the range from low to before high at r: what is below k, and what is not
+pub record CutAt (low high k r : ℕ) : Type 0 where
+  pub from : low ≤ r
+  pub to : r ≤ high
+  pub before : (x : ℕ) → inRange low r x ≡ (inRange low high x && ltb x k)
+  pub behind : (x : ℕ) → inRange r high x ≡ (inRange low high x && leb k x)
+
+-- the range of q under the new table, and the two in it of those trees
+pub record Ranged (old new : List ℕ) (q low first end below kept until : ℕ) : Type 0 where
+  pub forward : first ≤ end
+  pub below-forward : first ≤ below
+  pub kept-forward : kept ≤ until
+  pub receives : (k : ℕ) → inRange first end k ≡ holds new q k
+  pub before : (k : ℕ) → (inRange first below k || inRange kept until k) ≡ sentBefore old new q low k
 
 -- one of the first n face neighbours of g is such a tree
 unfoldable pub besideBefore : List ℕ → List ℕ → List ℕ → ℕ → ℕ → ℕ → ℕ → Bool
@@ -135,3 +153,7 @@ module _ (part old new : List ℕ) (p q low : ℕ) where
   -- the same for all faces of one of the n trees from low on
   unfoldable pub goesFrom : ℕ → ℕ → Bool
   goesFrom n k = anyBelow n (λ i. goesBeside (low + i) (faceCount (shapeOf (partCore part (low + i)))) k)
+
+  -- k is the number of one of the first n records of a part with count trees that is in a set, and goes
+  unfoldable pub goesNear : ℕ → List ℕ → ℕ → ℕ → Bool
+  goesNear count near n k = anyBelow n (λ i. inSet near i && (eqb (numberIn part count i) k && goes k))

@@ -5,7 +5,16 @@ ghost use mathlib.Core.Path.{_≡_};
 ghost use Prim.Native.Nat.{_+_, _≤_};
 ghost use lib.ListN.{length};
 ghost use Rattle.records.specs.Record.{coreSize};
+ghost use Rattle.part.specs.Means.{inRange};
 ghost use Rattle.message_ghosts.specs.Means.{numberIn, recordPlace, acrossAt, AtFace, Numbered};
+
+// Whether a number or a local index is in a range, by one comparison.
+pub fn within(first: u32, end: u32, k: u32) -> bool
+    requires { ⌜ first ≤ end ⌝ }
+    ensures { λ r. ⌜ r ≡ inRange first end k ⌝ }
+{
+    ((((k as u64) + (4294967296 - (first as u64))) % 4294967296) as u32) < end - first
+}
 
 // Where a record of a part with `count` trees begins.
 pub fn record_at(count: u32, local: LocalIndex) -> usize

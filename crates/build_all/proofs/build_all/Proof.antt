@@ -1,5 +1,5 @@
 use Rattle.build_all.proofs.Answers.{words-known, may-build, build-from, build-refused, all-short, all-built}
-use Rattle.message_build.proofs.Answers.{prefix-length}
+use Rattle.message_ghosts.proofs.Marking.{prefix-length}
 use mathlib.Core.Path.{sym}
 use borrow.Author.Needs.{needs}
 use Rattle.build_all.proofs.build_all.Statement.{statement}

@@ -1,5 +1,6 @@
 use mathlib.Core.Path.{sym, _∙_}
-use Rattle.message_build.proofs.Answers.{may-send, may-range, words-known, marks-room, length-refused, length-read, prefix-length}
+use Rattle.message_build.proofs.Answers.{may-send, may-range, words-known, marks-room, length-refused, length-read}
+use Rattle.message_ghosts.proofs.Marking.{prefix-length}
 use native.Mathlib.Omega.{arith}
 use borrow.Author.Needs.{needs}
 use Rattle.message_build.proofs.message_length.Statement.{statement}

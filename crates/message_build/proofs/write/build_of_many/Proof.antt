@@ -1,4 +1,5 @@
-use Rattle.message_build.proofs.Answers.{words-known, marks-room, prefix-length}
+use Rattle.message_build.proofs.Answers.{words-known, marks-room}
+use Rattle.message_ghosts.proofs.Marking.{prefix-length}
 use borrow.Author.Needs.{needs}
 use mathlib.Core.Path.{sym}
 use Rattle.message_build.proofs.write.build_of_many.Statement.{statement}

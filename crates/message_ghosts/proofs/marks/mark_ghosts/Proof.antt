@@ -1,113 +1,106 @@
-use Rattle.message_ghosts.proofs.Marking.{header-fits, room-kept, cleared-length, trees-start, sent-small, sent-from, sent-tree, trees-next, trees-end}
-use Rattle.message_ghosts.specs.Means.{Added, goesFrom}
-use mathlib.Core.Path.{_∙_}
 use native.Mathlib.Omega.{arith}
-use Prim.Native.Nat.{_-_, _≤_}
-use Rattle.pattern.proofs.Laws.{receiver-new-row}
-use Rattle.message_ghosts.proofs.Records.{numbered}
+use mathlib.Core.Path.{sym, _∙_}
+use Rattle.message_ghosts.proofs.Marking.{header-fits, words-few, none-sent, all-marked, room-cleared, prefix-length, prefix-empty}
 use borrow.Author.Needs.{needs}
 use Rattle.message_ghosts.proofs.marks.mark_ghosts.Statement.{statement}
 use Rattle.message_ghosts.proofs.marks.mark_ghosts.Tie as tie
 
-abbrev Inv-loop : tie.InvT-loop
-Inv-loop part old new p q low n marks₀ from to own count first end i₀ marks i = (i ≤ n) × Added marks₀ marks (goesFrom part old new p q low i)
-
-abbrev μ-loop : tie.MeasureT-loop
-μ-loop part old new p q low n marks₀ from to own count first end i₀ marks i = n - i
-
-clear-requires : tie.Need-clear-requires Inv-loop μ-loop
+clear-requires : tie.Need-clear-requires
 clear-requires c κs = search needs
 
-first-tree-requires : tie.Need-first-tree-requires Inv-loop μ-loop
-first-tree-requires c κs = header-fits _ _ _ _ _ (c .before .before .before .before .before .before .before .before .pre .0 .sending)
+same-length : tie.Need-same-length
+same-length c = search needs
 
-tree-count-requires : tie.Need-tree-count-requires Inv-loop μ-loop
+returns : tie.Need-returns
+returns c =
+    let pre = c .before .before .before .before .before .before .before .before .before .pre in
+    let clear = c .before .before .before .clear in
+    none-sent _ _ _ _ _ (pre .0 .sending) _ _ _ (pre .1) (clear .ensures) (pre .0 .many) (c .if1 .taken)
+
+tree-count-requires : tie.Need-tree-count-requires
 tree-count-requires c κs = header-fits _ _ _ _ _ (c .before .before .before .before .before .before .before .before .before .pre .0 .sending)
 
-first-tree-requires-2 : tie.Need-first-tree-requires-2 Inv-loop μ-loop
-first-tree-requires-2 c κs = omega (arith, receiver-new-row (c .before .before .before .before .before .before .before .before .before .before .pre .0 .sending .pair))
+ghost-count-requires : tie.Need-ghost-count-requires
+ghost-count-requires c κs = header-fits _ _ _ _ _ (c .before .before .before .before .before .before .before .before .before .before .pre .0 .sending)
 
-end-tree-requires : tie.Need-end-tree-requires Inv-loop μ-loop
-end-tree-requires c κs = receiver-new-row (c .before .before .before .before .before .before .before .before .before .before .before .pre .0 .sending .pair)
+add-records : tie.Need-add-records
+add-records c =
+    let pre = c .before .before .before .before .before .before .before .before .before .before .before .pre in
+    let shared-slice-known = c .before .before .before .before .before .before .before .before .before .before .shared-slice-known in
+    let tree-count = c .before .tree-count in
+    omega (arith, words-few _ _ _ _ _ (pre .0 .sending) (λ i. shared-slice-known .given i .fits) _ _ (tree-count .ensures) (c .ghost-count .ensures))
 
-loop-holds : tie.Need-loop-holds Inv-loop μ-loop
-loop-holds c = (omega arith, trees-start _ _ _ _ _ (c .before .before .before .before .before .before .before .before .before .before .before .before .pre .0 .sending) _ _)
+add-words : tie.Need-add-words
+add-words c =
+    let pre = c .before .before .before .before .before .before .before .before .before .before .before .pre in
+    let shared-slice-known = c .before .before .before .before .before .before .before .before .before .before .shared-slice-known in
+    let tree-count = c .before .tree-count in
+    omega (arith, words-few _ _ _ _ _ (pre .0 .sending) (λ i. shared-slice-known .given i .fits) _ _ (tree-count .ensures) (c .ghost-count .ensures))
 
-add-k : tie.Need-add-k Inv-loop μ-loop
-add-k c =
+cast-words : tie.Need-cast-words
+cast-words c = search needs
+
+array-borrow-prefix-near : tie.Need-array-borrow-prefix-near
+array-borrow-prefix-near c = search needs
+
+slice-aggregate-mark-by : tie.Need-slice-aggregate-mark-by
+slice-aggregate-mark-by c = sym (prefix-length 256 (c .before .if2 .taken))
+
+mark-by-requires : tie.Need-mark-by-requires
+mark-by-requires c κs =
     let pre = c .before .before .before .before .before .before .before .before .before .before .before .before .before .before .pre in
-    let first-tree = c .before .before .before .before .before .first-tree in
+    let if2 = c .before .before .if2 in
     let tree-count = c .before .before .before .before .tree-count in
-    omega (arith, sent-small _ _ _ _ _ (pre .0 .sending) _ _ _ _ (first-tree .ensures) (tree-count .ensures) (pre .0 .begins) (pre .0 .many) _ (c .loop-test .taken))
-
-to-local-requires : tie.Need-to-local-requires Inv-loop μ-loop
-to-local-requires c κs =
-    let pre = c .before .before .before .before .before .before .before .before .before .before .before .before .before .before .pre in
-    let first-tree = c .before .before .before .before .before .first-tree in
-    let tree-count = c .before .before .before .before .tree-count in
-    sent-from _ _ _ _ _ (pre .0 .sending) _ _ _ _ (first-tree .ensures) (tree-count .ensures) (pre .0 .begins) (pre .0 .many) _ (c .loop-test .taken)
-
-mark-tree-requires : tie.Need-mark-tree-requires Inv-loop μ-loop
-mark-tree-requires c κs =
-    let pre = c .before .before .before .before .before .before .before .before .before .before .before .before .before .before .before .before .pre in
-    let first-tree = c .before .before .before .before .before .before .before .first-tree in
-    let tree-count = c .before .before .before .before .before .before .tree-count in
-    let loop-test = c .before .before .loop-test in
-    let to-local = c .before .to-local in
-    let shared-slice-known = c .before .before .before .before .before .before .before .before .before .before .before .before .before .before .before .shared-slice-known in
-    let loop = c .before .before .before .loop in
-    let first-tree2 = c .before .before .before .before .before .first-tree2 in
-    let end-tree = c .before .before .before .before .end-tree in
-    let marks = c .before .before .before .before .before .before .before .before .before .marks in
-    let sent = sent-tree _ _ _ _ _ (pre .0 .sending) _ _ _ _ (first-tree .ensures) (tree-count .ensures) (pre .0 .begins) (pre .0 .many) _ (loop-test .taken) _ (to-local .ensures) (λ i. shared-slice-known .given i .fits) in
-    (sent, record { isFirst = first-tree2 .ensures; isEnd = end-tree .ensures }, room-kept (pre .1) (loop .inv .1 .same-length ∙ marks .given), numbered _ _ _ _ _ _ (sent .known) (first-tree .ensures))
-
-add-i : tie.Need-add-i Inv-loop μ-loop
-add-i c = search needs
-
-loop-less : tie.Need-loop-less Inv-loop μ-loop
-loop-less c = search needs
-
-loop-again : tie.Need-loop-again Inv-loop μ-loop
-loop-again c =
-    let pre = c .before .before .before .before .before .before .before .before .before .before .before .before .before .before .before .before .before .before .before .pre in
-    let first-tree = c .before .before .before .before .before .before .before .before .before .before .first-tree in
-    let tree-count = c .before .before .before .before .before .before .before .before .before .tree-count in
-    let loop-test = c .before .before .before .before .before .loop-test in
-    let to-local = c .before .before .before .before .to-local in
-    let loop = c .before .before .before .before .before .before .loop in
-    let mark-tree = c .before .before .mark-tree in
-    (omega arith, trees-next _ _ _ _ _ (pre .0 .sending) _ _ _ _ (first-tree .ensures) (tree-count .ensures) (pre .0 .begins) (pre .0 .many) _ (loop-test .taken) _ (to-local .ensures) _ _ _ (loop .inv .1) (mark-tree .ensures))
-
-same-length : tie.Need-same-length Inv-loop μ-loop
-same-length c = c .before .loop .inv .1 .same-length ∙ c .before .before .before .before .before .before .before .marks .given
-
-returns : tie.Need-returns Inv-loop μ-loop
-returns c =
-    let pre = c .before .before .before .before .before .before .before .before .before .before .before .before .before .before .pre in
-    let first-tree = c .before .before .before .before .before .first-tree in
-    let tree-count = c .before .before .before .before .tree-count in
+    let ghost-count = c .before .before .before .ghost-count in
     let clear = c .before .before .before .before .before .before .before .before .clear in
-    let loop = c .before .loop in
-    trees-end _ _ _ _ _ (pre .0 .sending) _ _ _ _ (first-tree .ensures) (tree-count .ensures) (pre .0 .begins) (pre .0 .many) _ _ _ _ (pre .1) (clear .ensures) (loop .inv .0) (omega arith) (loop .inv .1)
+    (pre .0, omega arith, prefix-empty _ 256 (if2 .taken) (omega (arith, tree-count .ensures, ghost-count .ensures)) (omega arith), room-cleared (pre .1) (clear .ensures))
+
+same-length-2 : tie.Need-same-length-2
+same-length-2 c = search needs
+
+returns-2 : tie.Need-returns-2
+returns-2 c =
+    let pre = c .before .before .before .before .before .before .before .before .before .before .before .before .before .before .before .before .before .before .pre in
+    let clear = c .before .before .before .before .before .before .before .before .before .before .before .before .clear in
+    let mark-by = c .before .before .before .mark-by in
+    all-marked _ _ _ _ _ (pre .0 .sending) _ _ _ _ _ (pre .1) (clear .ensures) (pre .0 .begins) (pre .0 .many) (mark-by .ensures)
+
+mark-of-more-requires : tie.Need-mark-of-more-requires
+mark-of-more-requires c κs =
+    let pre = c .before .before .before .before .before .before .before .before .before .before .before .before .before .pre in
+    let tree-count = c .before .before .before .tree-count in
+    let ghost-count = c .before .before .ghost-count in
+    let shared-slice-known = c .before .before .before .before .before .before .before .before .before .before .before .before .shared-slice-known in
+    let clear = c .before .before .before .before .before .before .before .clear in
+    (pre .0, omega arith, omega (arith, tree-count .ensures, ghost-count .ensures), omega (arith, words-few _ _ _ _ _ (pre .0 .sending) (λ i. shared-slice-known .given i .fits) _ _ (tree-count .ensures) (ghost-count .ensures)), room-cleared (pre .1) (clear .ensures))
+
+same-length-3 : tie.Need-same-length-3
+same-length-3 c = search needs
+
+returns-3 : tie.Need-returns-3
+returns-3 c =
+    let pre = c .before .before .before .before .before .before .before .before .before .before .before .before .before .before .before .before .pre in
+    let clear = c .before .before .before .before .before .before .before .before .before .before .clear in
+    let mark-of-more = c .before .before .mark-of-more in
+    all-marked _ _ _ _ _ (pre .0 .sending) _ _ _ _ _ (pre .1) (clear .ensures) (pre .0 .begins) (pre .0 .many) (mark-of-more .ensures)
 
 pub mark-ghosts-spec : {M : Type 1} → statement M
 mark-ghosts-spec =
     tie.close
     (tie.spec
-    Inv-loop
-    μ-loop
     clear-requires
-    first-tree-requires
-    tree-count-requires
-    first-tree-requires-2
-    end-tree-requires
-    loop-holds
-    add-k
-    to-local-requires
-    mark-tree-requires
-    add-i
-    loop-less
-    loop-again
     same-length
-    returns)
+    returns
+    tree-count-requires
+    ghost-count-requires
+    add-records
+    add-words
+    cast-words
+    array-borrow-prefix-near
+    slice-aggregate-mark-by
+    mark-by-requires
+    same-length-2
+    returns-2
+    mark-of-more-requires
+    same-length-3
+    returns-3)

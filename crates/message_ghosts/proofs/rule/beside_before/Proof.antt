@@ -1,18 +1,18 @@
-use Rattle.message_ghosts.proofs.Reading.{neighbour-before, beside-more, beside-end}
-use Rattle.message_ghosts.specs.Means.{numberIn, besideBefore}
-use Rattle.encoding.specs.Below.{anyBelow}
-use native.Mathlib.Omega.{arith}
-use mathlib.Core.Path.{_≡_, refl}
 use Prim.Native.Nat.{_≤_, _-_}
+use mathlib.Core.Path.{_≡_, refl}
+use native.Mathlib.Omega.{arith}
+use Rattle.encoding.specs.Below.{anyBelow}
+use Rattle.message_ghosts.specs.Means.{numberIn, besideBefore}
+use Rattle.message_ghosts.proofs.Reading.{neighbour-before, beside-more, beside-end}
 use borrow.Author.Needs.{needs}
 use Rattle.message_ghosts.proofs.rule.beside_before.Statement.{statement}
 use Rattle.message_ghosts.proofs.rule.beside_before.Tie as tie
 
 abbrev Inv-loop : tie.InvT-loop
-Inv-loop part old new q own count low faces j found₀ face₀ found face = (face ≤ faces) × (found ≡ besideBefore part old new q low (numberIn part count j) face)
+Inv-loop part old new q own count low of faces j found₀ face₀ found face = (face ≤ faces) × (found ≡ besideBefore part old new q low (numberIn part count j) face)
 
 abbrev μ-loop : tie.MeasureT-loop
-μ-loop part old new q own count low faces j found₀ face₀ found face = faces - face
+μ-loop part old new q own count low of faces j found₀ face₀ found face = faces - face
 
 loop-holds : tie.Need-loop-holds Inv-loop μ-loop
 unfolding besideBefore anyBelow
@@ -22,7 +22,7 @@ across-requires : tie.Need-across-requires Inv-loop μ-loop
 across-requires c κs = (c .before .before .before .before .before .pre .0 .there _ (c .loop-test .taken), c .before .before .before .before .before .pre .1)
 
 sent-before-requires : tie.Need-sent-before-requires Inv-loop μ-loop
-sent-before-requires c κs = c .before .before .before .before .before .before .pre .0 .receiver
+sent-before-requires c κs = c .before .before .before .before .before .before .pre .2
 
 add-face : tie.Need-add-face Inv-loop μ-loop
 add-face c = search needs

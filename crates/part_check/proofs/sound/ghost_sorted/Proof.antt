@@ -32,7 +32,7 @@ number-of-requires c κs = omega (arith, c .before .before .before .pre .0 .numb
 
 loop-holds : tie.Need-loop-holds Inv-loop μ-loop
 unfolding allBelow anyBelow countBelow packed
-loop-holds c = search needs
+loop-holds c = (omega arith, refl, refl, (refl, omega arith), (refl, omega arith), refl)
 
 neighbour-of-requires : tie.Need-neighbour-of-requires Inv-loop μ-loop
 neighbour-of-requires c κs = (omega (arith, c .before .before .before .before .before .before .pre .0 .numbered .laid .long), omega arith)

@@ -89,7 +89,6 @@ module _ (a : List ℕ) (bytes : Bytes a) (sound : areaSound a ≡ true) where
     area-slots : Slots a (slotsPlace (areaP a)) (areaFirst a) (areaCount a) (areaGhosts a)
     area-slots =
         record {
-          behind = omega (arith, slots-place-is (areaP a));
           fits = omega (arith, slots-place-is (areaP a), H .long, area-parts a sound .fit);
           most = range-most;
           numbered = tree-numbered;

@@ -35,7 +35,6 @@ ghostFrom a at n j = piece a (at + treeSize * n + coreSize * j) coreSize
 
 -- slots in which a record can be looked up by its number
 pub record Slots (a : List ℕ) (at first n g : ℕ) : Type 0 where
-  pub behind : 0 < at
   pub fits : at + treeSize * n + coreSize * g ≤ length a
   pub most : first + n ≤ maxTrees
   pub numbered : (i : ℕ) → i < n → numberOf (treeFrom a at i) ≡ first + i

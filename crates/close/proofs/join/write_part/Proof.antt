@@ -45,7 +45,28 @@ write-eight-requires : tie.Need-write-eight-requires
 write-eight-requires c κs = search needs
 
 write-trees-requires : tie.Need-write-trees-requires
-write-trees-requires c κs = trees-room _ _ (c .before .before .before .before .before .before .before .before .before .before .before .before .before .before .before .before .before .before .before .pre .0) (λ i. c .before .before .before .before .before .before .before .before .before .before .before .before .before .before .before .before .before .before .shared-slice-known .given i .fits) (record { is-P = c .before .before .before .before .before .before .before .before .before .before .before .before .before .ranks .ensures; is-first = c .before .before .before .before .before .before .before .before .before .before .before .before .first-tree .ensures .0; is-n = c .before .before .before .before .before .before .before .before .before .before .before .count .ensures; is-g = c .before .before .before .before .before .before .before .before .before .before .ghosts .ensures; is-F = c .before .before .before .before .before .before .before .faces-in .ensures .0 ∙ ap facesIn (c .before .before .before .before .before .before .before .before .before .before .before .before .before .before .dimension .ensures); is-from = c .before .before .before .before .before .before .before .before .before .slots-place .ensures .0; is-at = c .before .before .before .before .before .before .before .before .ghost-slots-place .ensures .0 }) (c .before .before .before .before .before .before .before .before .before .before .before .before .before .before .before .before .before .before .before .pre .1) (search needs)
+write-trees-requires c κs =
+    let pre = c .before .before .before .before .before .before .before .before .before .before .before .before .before .before .before .before .before .before .before .pre in
+    let shared-slice-known = c .before .before .before .before .before .before .before .before .before .before .before .before .before .before .before .before .before .before .shared-slice-known in
+    let ranks = c .before .before .before .before .before .before .before .before .before .before .before .before .before .ranks in
+    let first-tree = c .before .before .before .before .before .before .before .before .before .before .before .before .first-tree in
+    let count = c .before .before .before .before .before .before .before .before .before .before .before .count in
+    let ghosts = c .before .before .before .before .before .before .before .before .before .before .ghosts in
+    let faces-in = c .before .before .before .before .before .before .before .faces-in in
+    let dimension = c .before .before .before .before .before .before .before .before .before .before .before .before .before .before .dimension in
+    let slots-place = c .before .before .before .before .before .before .before .before .before .slots-place in
+    let ghost-slots-place = c .before .before .before .before .before .before .before .before .ghost-slots-place in
+    trees-room _ _ (pre .0) (λ i. shared-slice-known .given i .fits)
+    (record {
+      is-P = ranks .ensures;
+      is-first = first-tree .ensures .0;
+      is-n = count .ensures;
+      is-g = ghosts .ensures;
+      is-F = faces-in .ensures .0 ∙ ap facesIn (dimension .ensures);
+      is-from = slots-place .ensures .0;
+      is-at = ghost-slots-place .ensures .0;
+    })
+    (pre .1) (search needs)
 
 cast-write-ghosts : tie.Need-cast-write-ghosts
 cast-write-ghosts c = search needs
@@ -57,13 +78,60 @@ add-write-ghosts : tie.Need-add-write-ghosts
 add-write-ghosts c = search needs
 
 write-ghosts-requires : tie.Need-write-ghosts-requires
-write-ghosts-requires c κs = ghosts-room _ _ (c .before .before .before .before .before .before .before .before .before .before .before .before .before .before .before .before .before .before .before .before .before .before .before .pre .0) (λ i. c .before .before .before .before .before .before .before .before .before .before .before .before .before .before .before .before .before .before .before .before .before .before .shared-slice-known .given i .fits) (record { is-P = c .before .before .before .before .before .before .before .before .before .before .before .before .before .before .before .before .before .ranks .ensures; is-first = c .before .before .before .before .before .before .before .before .before .before .before .before .before .before .before .before .first-tree .ensures .0; is-n = c .before .before .before .before .before .before .before .before .before .before .before .before .before .before .before .count .ensures; is-g = c .before .before .before .before .before .before .before .before .before .before .before .before .before .before .ghosts .ensures; is-F = c .before .before .before .before .before .before .before .before .before .before .before .faces-in .ensures .0 ∙ ap facesIn (c .before .before .before .before .before .before .before .before .before .before .before .before .before .before .before .before .before .before .dimension .ensures); is-from = c .before .before .before .before .before .before .before .before .before .before .before .before .before .slots-place .ensures .0; is-at = c .before .before .before .before .before .before .before .before .before .before .before .before .ghost-slots-place .ensures .0 }) (search needs)
+write-ghosts-requires c κs =
+    let pre = c .before .before .before .before .before .before .before .before .before .before .before .before .before .before .before .before .before .before .before .before .before .before .before .pre in
+    let shared-slice-known = c .before .before .before .before .before .before .before .before .before .before .before .before .before .before .before .before .before .before .before .before .before .before .shared-slice-known in
+    let ranks = c .before .before .before .before .before .before .before .before .before .before .before .before .before .before .before .before .before .ranks in
+    let first-tree = c .before .before .before .before .before .before .before .before .before .before .before .before .before .before .before .before .first-tree in
+    let count = c .before .before .before .before .before .before .before .before .before .before .before .before .before .before .before .count in
+    let ghosts = c .before .before .before .before .before .before .before .before .before .before .before .before .before .before .ghosts in
+    let faces-in = c .before .before .before .before .before .before .before .before .before .before .before .faces-in in
+    let dimension = c .before .before .before .before .before .before .before .before .before .before .before .before .before .before .before .before .before .before .dimension in
+    let slots-place = c .before .before .before .before .before .before .before .before .before .before .before .before .before .slots-place in
+    let ghost-slots-place = c .before .before .before .before .before .before .before .before .before .before .before .before .ghost-slots-place in
+    ghosts-room _ _ (pre .0) (λ i. shared-slice-known .given i .fits)
+    (record {
+      is-P = ranks .ensures;
+      is-first = first-tree .ensures .0;
+      is-n = count .ensures;
+      is-g = ghosts .ensures;
+      is-F = faces-in .ensures .0 ∙ ap facesIn (dimension .ensures);
+      is-from = slots-place .ensures .0;
+      is-at = ghost-slots-place .ensures .0;
+    })
+    (search needs)
 
 same-length : tie.Need-same-length
 same-length c = search needs
 
 returns : tie.Need-returns
-returns c = join-written _ _ (c .before .before .before .before .before .before .before .before .before .before .before .before .before .before .before .before .before .before .before .before .before .before .before .before .before .before .pre .0) (λ i. c .before .before .before .before .before .before .before .before .before .before .before .before .before .before .before .before .before .before .before .before .before .before .before .before .before .shared-slice-known .given i .fits) (record { is-P = c .before .before .before .before .before .before .before .before .before .before .before .before .before .before .before .before .before .before .before .before .ranks .ensures; is-first = c .before .before .before .before .before .before .before .before .before .before .before .before .before .before .before .before .before .before .before .first-tree .ensures .0; is-n = c .before .before .before .before .before .before .before .before .before .before .before .before .before .before .before .before .before .before .count .ensures; is-g = c .before .before .before .before .before .before .before .before .before .before .before .before .before .before .before .before .before .ghosts .ensures; is-F = c .before .before .before .before .before .before .before .before .before .before .before .before .before .before .faces-in .ensures .0 ∙ ap facesIn (c .before .before .before .before .before .before .before .before .before .before .before .before .before .before .before .before .before .before .before .before .before .dimension .ensures); is-from = c .before .before .before .before .before .before .before .before .before .before .before .before .before .before .before .before .slots-place .ensures .0; is-at = c .before .before .before .before .before .before .before .before .before .before .before .before .before .before .before .ghost-slots-place .ensures .0 }) (c .before .before .before .before .before .before .before .before .before .before .before .before .before .before .before .before .before .before .before .before .before .before .before .before .before .before .pre .1) (c .before .before .before .before .before .before .before .before .before .before .before .before .before .before .before .before .before .before .before .before .before .dimension .ensures) (c .before .before .before .before .before .before .before .before .before .before .before .before .trees .ensures) (c .before .before .before .before .before .before .before .before .before .before .before .rank .ensures) (c .before .before .before .before .before .before .before .before .before .before .write-eight .ensures) (c .before .before .before .before .before .before .write-trees .ensures) (c .before .before .write-ghosts .ensures)
+returns c =
+    let pre = c .before .before .before .before .before .before .before .before .before .before .before .before .before .before .before .before .before .before .before .before .before .before .before .before .before .before .pre in
+    let shared-slice-known = c .before .before .before .before .before .before .before .before .before .before .before .before .before .before .before .before .before .before .before .before .before .before .before .before .before .shared-slice-known in
+    let ranks = c .before .before .before .before .before .before .before .before .before .before .before .before .before .before .before .before .before .before .before .before .ranks in
+    let first-tree = c .before .before .before .before .before .before .before .before .before .before .before .before .before .before .before .before .before .before .before .first-tree in
+    let count = c .before .before .before .before .before .before .before .before .before .before .before .before .before .before .before .before .before .before .count in
+    let ghosts = c .before .before .before .before .before .before .before .before .before .before .before .before .before .before .before .before .before .ghosts in
+    let faces-in = c .before .before .before .before .before .before .before .before .before .before .before .before .before .before .faces-in in
+    let dimension = c .before .before .before .before .before .before .before .before .before .before .before .before .before .before .before .before .before .before .before .before .before .dimension in
+    let slots-place = c .before .before .before .before .before .before .before .before .before .before .before .before .before .before .before .before .slots-place in
+    let ghost-slots-place = c .before .before .before .before .before .before .before .before .before .before .before .before .before .before .before .ghost-slots-place in
+    let trees = c .before .before .before .before .before .before .before .before .before .before .before .before .trees in
+    let rank = c .before .before .before .before .before .before .before .before .before .before .before .rank in
+    let write-eight = c .before .before .before .before .before .before .before .before .before .before .write-eight in
+    let write-trees = c .before .before .before .before .before .before .write-trees in
+    let write-ghosts = c .before .before .write-ghosts in
+    join-written _ _ (pre .0) (λ i. shared-slice-known .given i .fits)
+    (record {
+      is-P = ranks .ensures;
+      is-first = first-tree .ensures .0;
+      is-n = count .ensures;
+      is-g = ghosts .ensures;
+      is-F = faces-in .ensures .0 ∙ ap facesIn (dimension .ensures);
+      is-from = slots-place .ensures .0;
+      is-at = ghost-slots-place .ensures .0;
+    })
+    (pre .1) (dimension .ensures) (trees .ensures) (rank .ensures) (write-eight .ensures) (write-trees .ensures) (write-ghosts .ensures)
 
 pub write-part-spec : {M : Type 1} → statement M
 write-part-spec =

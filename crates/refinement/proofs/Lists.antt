@@ -15,7 +15,7 @@ use Rattle.encoding.specs.Below.{allBelow, sumBelow}
 use Rattle.encoding.specs.Pieces.{piece, splice}
 use Rattle.encoding.proofs.Below.{either, and-fst, and-snd, all-at, all-more, all-fails, sum-more, sum-mono}
 use Rattle.encoding.proofs.Pieces.{splice-none, splice-cons, splice-next, length-splice}
-use Rattle.leaves.specs.Leaves.{maxLeaves}
+use Rattle.leaf_shares.specs.Leaves.{maxLeaves}
 use Rattle.offsets.specs.Limits.{treeCountOk}
 use Rattle.refinement.specs.declared.trees.Seen.{Seen}
 use Rattle.refinement.specs.declared.walk.TreeLeaves.{TreeLeaves}

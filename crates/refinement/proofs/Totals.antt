@@ -11,7 +11,7 @@ use borrow.Author.Tests.{le-leb, leb-true}
 use Rattle.encoding.specs.Below.{allBelow}
 use Rattle.encoding.specs.Refusal.{firstFailed}
 use Rattle.encoding.proofs.Below.{either, clash, below-suc, and-fst, and-snd, and-intro, all-at, all-intro}
-use Rattle.leaves.specs.Leaves.{maxLeaves, leavesOk}
+use Rattle.leaf_shares.specs.Leaves.{maxLeaves, leavesOk}
 use Rattle.offsets.specs.Limits.{treeCountOk}
 use Rattle.refinement.specs.Refinement.{refinable, Row, end, leaf, refined, Kind, upright, inverted, one, children, childKinds, maxDepth, fits, refines, bits, leavesIn, leaves}
 use Rattle.refinement.specs.Reading.{stringOk, refinementOf}

@@ -9,7 +9,7 @@ use Rattle.encoding.specs.Below.{allBelow, sumBelow}
 use Rattle.encoding.specs.Pieces.{piece}
 use Rattle.encoding.specs.Refusal.{check, firstFailed}
 use Rattle.encoding.specs.declared.answer.Count.{Count}
-use Rattle.leaves.specs.Leaves.{maxLeaves}
+use Rattle.leaf_shares.specs.Leaves.{maxLeaves}
 use Rattle.offsets.specs.Limits.{treeCountOk}
 use Rattle.refinement.specs.declared.Leaves.{Leaves}
 use Rattle.refinement.specs.Refinement.{upright, inverted, refinable, leaves}

@@ -5,7 +5,7 @@ use mathlib.Core.Bool.{true, false}
 use mathlib.Core.List.{List}
 use lib.Dec.{eqb}
 use lib.ListN.{length, getD}
-use Rattle.leaves.specs.Leaves.{leavesOk, maxLeaves}
+use Rattle.leaf_shares.specs.Leaves.{leavesOk, maxLeaves}
 use Rattle.refinement.specs.Refinement.{Row, upright, inverted, refinable, refines, bits, leaves}
 use Rattle.refinement.specs.Reading.{stringOk, refinementOf}
 use Rattle.refinement.specs.Calls.{treeLeaves, countRefusal, countLeaves, stringOf, countsRefusal, countList}

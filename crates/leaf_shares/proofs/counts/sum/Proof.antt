@@ -1,12 +1,12 @@
-use Rattle.leaves.proofs.LeafCounts.{start-more, start-bound}
-use Rattle.leaves.specs.Leaves.{leafStart}
+use Rattle.leaf_shares.proofs.LeafCounts.{start-more, start-bound}
+use Rattle.leaf_shares.specs.Leaves.{leafStart}
 use native.Mathlib.Omega.{arith}
 use mathlib.Core.Path.{_≡_, sym}
 use lib.ListN.{length}
 use Prim.Native.Nat.{_≤_, _-_, _+_}
 use borrow.Author.Needs.{needs}
-use Rattle.leaves.proofs.counts.sum.Statement.{statement}
-use Rattle.leaves.proofs.counts.sum.Tie as tie
+use Rattle.leaf_shares.proofs.counts.sum.Statement.{statement}
+use Rattle.leaf_shares.proofs.counts.sum.Tie as tie
 
 abbrev Inv-loop : tie.InvT-loop
 Inv-loop leaves from to n₀ i₀ n i = (i ≤ to) × (leafStart leaves from + n ≡ leafStart leaves i)

@@ -1,11 +1,11 @@
 use lib.Dec.{ltb}
-use Rattle.leaves.specs.Means.{sharedEntry}
+use Rattle.leaf_shares.specs.Means.{sharedEntry}
 use Rattle.encoding.proofs.Below.{and-snd}
 use borrow.Author.Tests.{ltb-true}
 use native.Mathlib.Omega.{arith}
 use borrow.Author.Needs.{needs}
-use Rattle.leaves.proofs.table.entry_of.Statement.{statement}
-use Rattle.leaves.proofs.table.entry_of.Tie as tie
+use Rattle.leaf_shares.proofs.table.entry_of.Statement.{statement}
+use Rattle.leaf_shares.proofs.table.entry_of.Tie as tie
 
 sub-result : tie.Need-sub-result
 sub-result c = search needs

@@ -16,8 +16,8 @@ use Rattle.encoding.proofs.Below.{tests, either, clash, and-fst, and-snd, and-i
 use Rattle.encoding.proofs.Pieces.{splice-none}
 use Rattle.encoding.proofs.Numbers.{length-put}
 use Rattle.offsets.specs.Limits.{maxTrees, rankCountOk, treeCountOk}
-use Rattle.leaves.specs.Leaves.{maxLeaves, leavesOk, leafStart, leafTotal, cut, leafHolds, leafFirst, leafCount, equalShares, leafTable}
-use Rattle.leaves.specs.Means.{treesBefore, sharedEntry, leafEntry, Walking}
+use Rattle.leaf_shares.specs.Leaves.{maxLeaves, leavesOk, leafStart, leafTotal, cut, leafHolds, leafFirst, leafCount, equalShares, leafTable}
+use Rattle.leaf_shares.specs.Means.{treesBefore, sharedEntry, leafEntry, Walking}
 use Rattle.offsets_write.specs.Partition.{nonEmpty, onRank, lastTree, coversAll, coversOnly, ascending, validPartition, endBelow, entryOf, entriesBelow, tableOf, IsTable}
 use Rattle.offsets.specs.Table.{tableLength, holds}
 use Rattle.offsets.proofs.Tables.{ranks-within}

@@ -8,8 +8,8 @@ ghost use Prim.Native.Nat.{_+_, _*_, _≤_, _<_};
 ghost use lib.ListN.{length};
 ghost use Rattle.encoding.specs.Pieces.{splice};
 ghost use Rattle.encoding.specs.Numbers.{putU64};
-ghost use Rattle.leaves.specs.Leaves.{leafStart, leafTable};
-ghost use Rattle.leaves.specs.Means.{treesBefore, sharedEntry, leafEntry, Walking, Writable};
+ghost use Rattle.leaf_shares.specs.Leaves.{leafStart, leafTable};
+ghost use Rattle.leaf_shares.specs.Means.{treesBefore, sharedEntry, leafEntry, Walking, Writable};
 
 // How far a walk over the trees has come: a tree and its first leaf.
 pub struct Walk {

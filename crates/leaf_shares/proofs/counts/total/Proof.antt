@@ -1,9 +1,9 @@
-use Rattle.leaves.proofs.LeafCounts.{start-zero, start-total, start-bound}
+use Rattle.leaf_shares.proofs.LeafCounts.{start-zero, start-total, start-bound}
 use native.Mathlib.Omega.{arith}
 use lib.ListN.{length}
 use borrow.Author.Needs.{needs}
-use Rattle.leaves.proofs.counts.total.Statement.{statement}
-use Rattle.leaves.proofs.counts.total.Tie as tie
+use Rattle.leaf_shares.proofs.counts.total.Statement.{statement}
+use Rattle.leaf_shares.proofs.counts.total.Tie as tie
 
 sum-requires : tie.Need-sum-requires
 sum-requires c κs = search needs

@@ -1,8 +1,8 @@
-use Rattle.leaves.proofs.LeafCounts.{cut-parts, cut-le, cut-fits}
+use Rattle.leaf_shares.proofs.LeafCounts.{cut-parts, cut-le, cut-fits}
 use native.Mathlib.Omega.{arith}
 use borrow.Author.Needs.{needs}
-use Rattle.leaves.proofs.shares.cut.Statement.{statement}
-use Rattle.leaves.proofs.shares.cut.Tie as tie
+use Rattle.leaf_shares.proofs.shares.cut.Statement.{statement}
+use Rattle.leaf_shares.proofs.shares.cut.Tie as tie
 
 div-result : tie.Need-div-result
 div-result c = search needs

@@ -1,11 +1,11 @@
-use Rattle.leaves.proofs.LeafCounts.{start-bound, walk-within, walk-on}
-use Rattle.leaves.specs.Means.{Walking}
+use Rattle.leaf_shares.proofs.LeafCounts.{start-bound, walk-within, walk-on}
+use Rattle.leaf_shares.specs.Means.{Walking}
 use native.Mathlib.Omega.{arith}
 use lib.ListN.{length}
 use Prim.Native.Nat.{_-_, _+_}
 use borrow.Author.Needs.{needs}
-use Rattle.leaves.proofs.table.stride.Statement.{statement}
-use Rattle.leaves.proofs.table.stride.Tie as tie
+use Rattle.leaf_shares.proofs.table.stride.Statement.{statement}
+use Rattle.leaf_shares.proofs.table.stride.Tie as tie
 
 abbrev Inv-loop : tie.InvT-loop
 Inv-loop leaves tree start lo k₀ s₀ k s = Walking leaves lo k s

@@ -1,9 +1,9 @@
-use Rattle.leaves.proofs.LeafCounts.{begins-later, entry-walked}
+use Rattle.leaf_shares.proofs.LeafCounts.{begins-later, entry-walked}
 use Rattle.encoding.specs.Numbers.{putU64}
 use mathlib.Core.Path.{ap, _∙_}
 use borrow.Author.Needs.{needs}
-use Rattle.leaves.proofs.table.put_rank.Statement.{statement}
-use Rattle.leaves.proofs.table.put_rank.Tie as tie
+use Rattle.leaf_shares.proofs.table.put_rank.Statement.{statement}
+use Rattle.leaf_shares.proofs.table.put_rank.Tie as tie
 
 advance-requires : tie.Need-advance-requires
 advance-requires c κs = search needs

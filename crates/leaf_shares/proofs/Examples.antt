@@ -6,7 +6,7 @@ use Rattle.encoding.specs.Numbers.{leBytes}
 use Rattle.offsets.specs.Table.{tableBytes}
 use Rattle.offsets.proofs.Examples.{minus}
 use Rattle.offsets_write.specs.Partition.{nonEmpty, endBelow, entryOf, entriesBelow, tableOf}
-use Rattle.leaves.specs.Leaves.{leafStart, leafTotal, cut, leafHolds, leafFirst, leafCount, equalShares, leafTable}
+use Rattle.leaf_shares.specs.Leaves.{leafStart, leafTotal, cut, leafHolds, leafFirst, leafCount, equalShares, leafTable}
 
 -- leaf counts 4,4 and 1,1 on three ranks
 pub leaf-tables : (leafTable 3 (4 ∷ 4 ∷ []) ≡ tableBytes (0 ∷ minus 1 ∷ minus 2 ∷ 2 ∷ [])) × (leafTable 3 (1 ∷ 1 ∷ []) ≡ tableBytes (0 ∷ 1 ∷ 2 ∷ 2 ∷ []))

@@ -1,12 +1,12 @@
-use Rattle.leaves.proofs.LeafCounts.{share-is, shares-cuts, Writing, writing-none, writing-walk, writing-more, writing-done}
+use Rattle.leaf_shares.proofs.LeafCounts.{share-is, shares-cuts, Writing, writing-none, writing-walk, writing-more, writing-done}
 use Rattle.offsets.proofs.Tables.{ranks-within}
-use Rattle.leaves.specs.Leaves.{equalShares, leafTable}
+use Rattle.leaf_shares.specs.Leaves.{equalShares, leafTable}
 use native.Mathlib.Omega.{arith}
 use mathlib.Core.Path.{refl}
 use Prim.Native.Nat.{_-_}
 use borrow.Author.Needs.{needs}
-use Rattle.leaves.proofs.table.write.Statement.{statement}
-use Rattle.leaves.proofs.table.write.Tie as tie
+use Rattle.leaf_shares.proofs.table.write.Statement.{statement}
+use Rattle.leaf_shares.proofs.table.write.Tie as tie
 
 abbrev Inv-loop : tie.InvT-loop
 Inv-loop ranks leaves n out₀ w tree₀ start₀ p₀ out tree start p = Writing leaves ranks (equalShares ranks leaves) out₀ p tree start out

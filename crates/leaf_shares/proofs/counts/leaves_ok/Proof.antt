@@ -1,5 +1,5 @@
-use Rattle.leaves.specs.Means.{countOk}
-use Rattle.leaves.specs.Leaves.{leavesOk}
+use Rattle.leaf_shares.specs.Means.{countOk}
+use Rattle.leaf_shares.specs.Leaves.{leavesOk}
 use Rattle.encoding.specs.Below.{allBelow}
 use borrow.Author.Tests.{not-true, not-false}
 use native.Mathlib.Omega.{arith}
@@ -9,8 +9,8 @@ use mathlib.Core.Path.{_≡_, sym, _∙_, refl}
 use lib.ListN.{getD, length}
 use Prim.Native.Nat.{ℕ, _≤_, _-_, _+_}
 use borrow.Author.Needs.{needs}
-use Rattle.leaves.proofs.counts.leaves_ok.Statement.{statement}
-use Rattle.leaves.proofs.counts.leaves_ok.Tie as tie
+use Rattle.leaf_shares.proofs.counts.leaves_ok.Statement.{statement}
+use Rattle.leaf_shares.proofs.counts.leaves_ok.Tie as tie
 
 -- one count more
 one-more : (i : ℕ) (f : ℕ → Bool) {ok next : Bool} → ok ≡ allBelow i f → next ≡ f i → (ok && next) ≡ allBelow (i + 1) f

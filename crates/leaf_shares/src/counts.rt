@@ -4,8 +4,8 @@ ghost use mathlib.Core.Path.{_≡_};
 ghost use mathlib.Core.Bool.{true};
 ghost use Prim.Native.Nat.{_+_, _≤_, _<_, _^_};
 ghost use lib.ListN.{length};
-ghost use Rattle.leaves.specs.Leaves.{leavesOk, leafStart, leafTotal};
-ghost use Rattle.leaves.specs.Means.{countOk};
+ghost use Rattle.leaf_shares.specs.Leaves.{leavesOk, leafStart, leafTotal};
+ghost use Rattle.leaf_shares.specs.Means.{countOk};
 
 pub fn wide(x: u32) -> u64
     ensures { λ r. ⌜ (r ≡ x) × (r < 2 ^ 32) ⌝ }

@@ -18,7 +18,8 @@ ghost use Rattle.part_neighbour.specs.Calls.{neighbourAnswer};
 ghost use Rattle.lookup.specs.Lookup.{foundRecord};
 ghost use Rattle.part_neighbour.specs.Neighbour.{flatAnswer};
 ghost use Rattle.ele_mesh.specs.Calls.{triangleLength, importTriangle};
-ghost use Rattle.refinement.specs.Calls.{countLeaves, leafCounts};
+ghost use Rattle.refinement.specs.Calls.{countLeaves};
+ghost use Rattle.refinement_list.specs.Calls.{leafCounts};
 ghost use Rattle.pattern.specs.Calls.{senderOf, treesSent, sendSetOf, receiveSetOf};
 ghost use Rattle.regions.specs.Calls.{regionCountsOf};
 ghost use Rattle.probes.specs.Calls.{treesNear};
@@ -341,7 +342,7 @@ pub extern "C" fn vejgodat_leaf_counts(
 ) -> Count
     ensures { λ r. ⌜ (r, now (out .exit)) ≡ leafCounts (now (shapes .entry)) (now (lengths .entry)) (now (bits .entry)) (now (out .entry)) ⌝ }
 {
-    refinement::leaf_counts(shapes, lengths, bits, out)
+    refinement_list::leaf_counts(shapes, lengths, bits, out)
 }
 
 #[no_mangle]

@@ -1,5 +1,5 @@
 use Rattle.refinement.specs.Refinement.{refinable}
-use Rattle.refinement.specs.Calls.{shapesOk}
+use Rattle.refinement_list.specs.Calls.{shapesOk}
 use Rattle.encoding.proofs.Below.{all-more, all-fails, all-to}
 use Rattle.encoding.specs.Below.{allBelow}
 use borrow.Author.Tests.{not-true, not-false}
@@ -9,8 +9,8 @@ use mathlib.Core.Path.{_≡_, sym, _∙_, refl}
 use lib.ListN.{length, getD}
 use Prim.Native.Nat.{_≤_, _-_}
 use borrow.Author.Needs.{needs}
-use Rattle.refinement.proofs.trees.shapes_ok.Statement.{statement}
-use Rattle.refinement.proofs.trees.shapes_ok.Tie as tie
+use Rattle.refinement_list.proofs.trees.shapes_ok.Statement.{statement}
+use Rattle.refinement_list.proofs.trees.shapes_ok.Tie as tie
 
 abbrev Inv-loop : tie.InvT-loop
 Inv-loop shapes i₀ i = (i ≤ length shapes) × (allBelow i (λ k. refinable (getD shapes k 0)) ≡ true)

@@ -1,5 +1,6 @@
 // Checks and counts over a list of trees, their strings end to end.
-use crate::walk;
+use refinement::walk::shape_ok;
+use refinement::walk::tree;
 ghost use mathlib.Core.Path.{_≡_};
 ghost use Prim.Native.Nat.{_+_, _≤_, _<_, _^_};
 ghost use lib.ListN.{length};
@@ -7,20 +8,13 @@ ghost use lib.Dec.{eqb};
 ghost use mathlib.Core.Bool.{false, _&&_};
 ghost use Rattle.encoding.specs.Pieces.{splice};
 ghost use Rattle.offsets.specs.Limits.{treeCountOk};
-ghost use Rattle.refinement.specs.Refinement.{refinable};
-ghost use Rattle.refinement.specs.Calls.{shapesOk, countList};
-ghost use Rattle.refinement.specs.Means.Trees.{seenOf, Walkable};
+ghost use Rattle.refinement_list.specs.Calls.{shapesOk, countList};
+ghost use Rattle.refinement_list.specs.Means.{seenOf, Walkable};
 
 // Whether all strings are in order, and then whether no tree has too many leaves.
 pub struct Seen {
     pub ok: bool,
     pub small: bool,
-}
-
-pub fn shape_ok(shape: u32) -> bool
-    ensures { λ r. ⌜ r ≡ refinable shape ⌝ }
-{
-    shape < 4
 }
 
 pub fn trees_ok(shapes: usize, lengths: usize) -> bool
@@ -70,7 +64,7 @@ pub fn survey(shapes: &[u32], lengths: &[u32], bits: &[u8]) -> Seen
             return none();
         }
         let e = at + n;
-        let t = walk::tree(shapes[i], &bits[at..e]);
+        let t = tree(shapes[i], &bits[at..e]);
         if !t.ok {
             return none();
         }
@@ -94,7 +88,7 @@ pub fn write(shapes: &[u32], lengths: &[u32], bits: &[u8], out: &mut [u32])
     let mut i = 0;
     while i < shapes.len() {
         let e = at + wide(lengths[i]);
-        let t = walk::tree(shapes[i], &bits[at..e]);
+        let t = tree(shapes[i], &bits[at..e]);
         out[i] = (t.upright + t.inverted) as u32;
         at = e;
         i += 1;

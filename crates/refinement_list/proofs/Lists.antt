@@ -17,12 +17,14 @@ use Rattle.encoding.proofs.Below.{either, and-fst, and-snd, all-at, all-more, a
 use Rattle.encoding.proofs.Pieces.{splice-none, splice-cons, splice-next, length-splice}
 use Rattle.leaf_shares.specs.Leaves.{maxLeaves}
 use Rattle.offsets.specs.Limits.{treeCountOk}
-use Rattle.refinement.specs.declared.trees.Seen.{Seen}
+use Rattle.refinement_list.specs.declared.trees.Seen.{Seen}
 use Rattle.refinement.specs.declared.walk.TreeLeaves.{TreeLeaves}
 use Rattle.refinement.specs.Reading.{stringOk}
-use Rattle.refinement.specs.Calls.{treeLeaves, listBelow, stringStart, stringOf, treesOk, shapesOk, stringsOk, countOf, countsFit, countList, countsRefusal, leafCounts}
-use Rattle.refinement.specs.Means.Trees.{treeOf, seenOf, Walkable}
+use Rattle.refinement.specs.Calls.{treeLeaves}
+use Rattle.refinement_list.specs.Calls.{listBelow, stringStart, stringOf, treesOk, shapesOk, stringsOk, countOf, countsFit, countList, countsRefusal, leafCounts}
+use Rattle.refinement.specs.Means.Trees.{treeOf}
+use Rattle.refinement_list.specs.Means.{seenOf, Walkable}
 use Rattle.refinement.proofs.Counts.{tree-ok, tree-count}
 
 start-more : (lengths : List ℕ) (i : ℕ) → stringStart lengths (i + 1) ≡ stringStart lengths i + getD lengths i 0
 unfolding stringStart

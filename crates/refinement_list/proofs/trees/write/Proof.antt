@@ -2,9 +2,9 @@ use Prim.Native.Nat.{_-_}
 use lib.ListN.{length}
 use borrow.Author.Needs.{needs}
 use native.Mathlib.Omega.{arith}
-use Rattle.refinement.proofs.Lists.{Writing, writing-start, string-inside, written-small, writing-turn, writing-done}
-use Rattle.refinement.proofs.trees.write.Statement.{statement}
-use Rattle.refinement.proofs.trees.write.Tie as tie
+use Rattle.refinement_list.proofs.Lists.{Writing, writing-start, string-inside, written-small, writing-turn, writing-done}
+use Rattle.refinement_list.proofs.trees.write.Statement.{statement}
+use Rattle.refinement_list.proofs.trees.write.Tie as tie
 
 abbrev Inv-loop : tie.InvT-loop
 Inv-loop shapes lengths bits out₀ at₀ i₀ out at i = Writing shapes lengths bits out₀ out at i

@@ -1,7 +1,7 @@
 use Rattle.offsets.specs.Limits.{treeCountOk}
 use mathlib.Core.Path.{refl}
-use Rattle.refinement.proofs.trees.trees_ok.Statement.{statement}
-use Rattle.refinement.proofs.trees.trees_ok.Tie as tie
+use Rattle.refinement_list.proofs.trees.trees_ok.Statement.{statement}
+use Rattle.refinement_list.proofs.trees.trees_ok.Tie as tie
 
 returns : tie.Need-returns
 unfolding treeCountOk

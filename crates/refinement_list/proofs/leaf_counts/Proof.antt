@@ -1,11 +1,11 @@
 use mathlib.Core.Path.{sym, _∙_}
 use native.Mathlib.Omega.{arith}
 use borrow.Author.Tests.{not-true, not-false}
-use Rattle.refinement.specs.Calls.{treesOk}
-use Rattle.refinement.proofs.Lists.{refused-trees, refused-shapes, refused-strings, refused-counts, refused-room, all-counted, seen-ready, trees-same, trees-few}
+use Rattle.refinement_list.specs.Calls.{treesOk}
+use Rattle.refinement_list.proofs.Lists.{refused-trees, refused-shapes, refused-strings, refused-counts, refused-room, all-counted, seen-ready, trees-same, trees-few}
 use borrow.Author.Needs.{needs}
-use Rattle.refinement.proofs.leaf_counts.Statement.{statement}
-use Rattle.refinement.proofs.leaf_counts.Tie as tie
+use Rattle.refinement_list.proofs.leaf_counts.Statement.{statement}
+use Rattle.refinement_list.proofs.leaf_counts.Tie as tie
 
 trees-ok-requires : tie.Need-trees-ok-requires
 trees-ok-requires c κs = search needs

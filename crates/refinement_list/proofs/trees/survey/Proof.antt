@@ -3,9 +3,9 @@ use lib.ListN.{length}
 use mathlib.Core.Path.{_∙_}
 use borrow.Author.Needs.{needs}
 use borrow.Author.Tests.{not-true, not-false}
-use Rattle.refinement.proofs.Lists.{Surveyed, surveyed-start, surveyed-short, surveyed-bad, surveyed-turn, surveyed-left, surveyed-done}
-use Rattle.refinement.proofs.trees.survey.Statement.{statement}
-use Rattle.refinement.proofs.trees.survey.Tie as tie
+use Rattle.refinement_list.proofs.Lists.{Surveyed, surveyed-start, surveyed-short, surveyed-bad, surveyed-turn, surveyed-left, surveyed-done}
+use Rattle.refinement_list.proofs.trees.survey.Statement.{statement}
+use Rattle.refinement_list.proofs.trees.survey.Tie as tie
 
 abbrev Inv-loop : tie.InvT-loop
 Inv-loop shapes lengths bits small₀ at₀ i₀ small at i = Surveyed shapes lengths bits small at i

@@ -1,7 +1,7 @@
-use Rattle.ele_mesh.proofs.Pairs.{same-read}
+use Rattle.ele_faces.proofs.Pairs.{same-read}
 use borrow.Author.Needs.{needs}
-use Rattle.ele_mesh.proofs.face.same_set.Statement.{statement}
-use Rattle.ele_mesh.proofs.face.same_set.Tie as tie
+use Rattle.ele_faces.proofs.face.same_set.Statement.{statement}
+use Rattle.ele_faces.proofs.face.same_set.Tie as tie
 
 first-vertex-requires : tie.Need-first-vertex-requires
 first-vertex-requires c κs = search needs

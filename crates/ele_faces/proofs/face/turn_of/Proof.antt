@@ -1,7 +1,7 @@
-use Rattle.ele_mesh.proofs.Pairs.{turn-none, turn-one}
+use Rattle.ele_faces.proofs.Pairs.{turn-none, turn-one}
 use borrow.Author.Needs.{needs}
-use Rattle.ele_mesh.proofs.write.turn_of.Statement.{statement}
-use Rattle.ele_mesh.proofs.write.turn_of.Tie as tie
+use Rattle.ele_faces.proofs.face.turn_of.Statement.{statement}
+use Rattle.ele_faces.proofs.face.turn_of.Tie as tie
 
 first-vertex-requires : tie.Need-first-vertex-requires
 first-vertex-requires c κs = search needs

@@ -1,8 +1,8 @@
-use Rattle.ele_mesh.proofs.Pairs.{hash-rising, hash-falling}
+use Rattle.ele_faces.proofs.Pairs.{hash-rising, hash-falling}
 use mathlib.Core.Path.{_∙_}
 use borrow.Author.Needs.{needs}
-use Rattle.ele_mesh.proofs.face.hash_of.Statement.{statement}
-use Rattle.ele_mesh.proofs.face.hash_of.Tie as tie
+use Rattle.ele_faces.proofs.face.hash_of.Statement.{statement}
+use Rattle.ele_faces.proofs.face.hash_of.Tie as tie
 
 first-vertex-requires : tie.Need-first-vertex-requires
 first-vertex-requires c κs = search needs

@@ -2,8 +2,8 @@
 ghost use mathlib.Core.Path.{_≡_};
 ghost use Prim.Native.Nat.{_≤_, _<_, _^_};
 ghost use lib.ListN.{length};
-ghost use Rattle.ele_mesh.specs.Faces.{firstVertex, secondVertex, sameSet};
-ghost use Rattle.ele_mesh.specs.Means.{hashOf, Whole};
+ghost use Rattle.ele_faces.specs.Faces.{firstVertex, secondVertex, sameSet, turnOf};
+ghost use Rattle.ele_faces.specs.Means.{hashOf, Whole};
 
 // The vertex at the lower-numbered corner of a face.
 pub fn first_vertex(vs: &[u32], f: usize) -> u32
@@ -51,4 +51,16 @@ pub fn hash_of(vs: &[u32], m: u64, f: usize) -> usize
         return ((4294967296 * a + b) % m) as usize;
     }
     ((4294967296 * b + a) % m) as usize
+}
+
+// 0 if the lower-numbered corners of both faces are the same vertex, else 1.
+pub fn turn_of(vs: &[u32], f: usize, g: usize) -> u32
+    requires { ⌜ Whole (now vs) × (f < length (now vs)) × (g < length (now vs)) ⌝ }
+    ensures { λ r. ⌜ r ≡ turnOf (now (vs .entry)) f g ⌝ }
+{
+    if first_vertex(vs, f) == first_vertex(vs, g) {
+        0
+    } else {
+        1
+    }
 }

@@ -1,7 +1,7 @@
-use Rattle.ele_mesh.proofs.Pairs.{first-one, first-zero}
+use Rattle.ele_faces.proofs.Pairs.{first-one, first-zero}
 use borrow.Author.Needs.{needs}
-use Rattle.ele_mesh.proofs.face.first_vertex.Statement.{statement}
-use Rattle.ele_mesh.proofs.face.first_vertex.Tie as tie
+use Rattle.ele_faces.proofs.face.first_vertex.Statement.{statement}
+use Rattle.ele_faces.proofs.face.first_vertex.Tie as tie
 
 mul-t : tie.Need-mul-t
 mul-t c = search needs

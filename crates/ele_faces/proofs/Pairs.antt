@@ -9,8 +9,8 @@ use lib.Dec.{ltb, eqb}
 use lib.ListN.{getD}
 use borrow.Author.Tests.{eqb-true, eq-eqb, ne-eqb, lt-ltb, le-ltb}
 use Rattle.encoding.proofs.Below.{tests, either, and-fst, and-snd, and-intro}
-use Rattle.ele_mesh.specs.Faces.{cornerOf, firstVertex, secondVertex, sameSet, turnOf}
-use Rattle.ele_mesh.specs.Means.{mixed, hashOf}
+use Rattle.ele_faces.specs.Faces.{cornerOf, firstVertex, secondVertex, sameSet, turnOf}
+use Rattle.ele_faces.specs.Means.{mixed, hashOf}
 
 -- ---- the vertices of a face
 

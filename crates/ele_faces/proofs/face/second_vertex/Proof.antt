@@ -1,7 +1,7 @@
-use Rattle.ele_mesh.proofs.Pairs.{second-one, second-two}
+use Rattle.ele_faces.proofs.Pairs.{second-one, second-two}
 use borrow.Author.Needs.{needs}
-use Rattle.ele_mesh.proofs.face.second_vertex.Statement.{statement}
-use Rattle.ele_mesh.proofs.face.second_vertex.Tie as tie
+use Rattle.ele_faces.proofs.face.second_vertex.Statement.{statement}
+use Rattle.ele_faces.proofs.face.second_vertex.Tie as tie
 
 mul-t : tie.Need-mul-t
 mul-t c = search needs

@@ -23,7 +23,8 @@ ghost use Rattle.refinement_list.specs.Calls.{leafCounts};
 ghost use Rattle.pattern.specs.Calls.{senderOf, treesSent, sendSetOf, receiveSetOf};
 ghost use Rattle.regions.specs.Calls.{regionCountsOf};
 ghost use Rattle.probes.specs.Calls.{treesNear};
-ghost use Rattle.faults.specs.Calls.{tableFaultOf, meshFaultOf};
+ghost use Rattle.table_fault.specs.Calls.{tableFaultOf};
+ghost use Rattle.faults.specs.Calls.{meshFaultOf};
 ghost use Rattle.part_fault.specs.Calls.{partFaultOf};
 ghost use Rattle.columns.specs.Calls.{partToColumns, columnsToPart};
 use area_open::Progress;
@@ -452,7 +453,7 @@ pub extern "C" fn vejgodat_trees_between(
 pub extern "C" fn vejgodat_table_fault(table: &[u8]) -> Fault
     ensures { λ r. ⌜ r ≡ tableFaultOf (now (table .entry)) ⌝ }
 {
-    faults::table_fault(table)
+    table_fault::table_fault(table)
 }
 
 #[no_mangle]

@@ -1,8 +1,8 @@
 // What is wrong with an entry of a table, and the first one.
-use crate::answer::Fault;
-use crate::answer::Wrong;
-use crate::answer::found;
-use crate::answer::refused;
+use faults::answer::Fault;
+use faults::answer::Wrong;
+use faults::answer::found;
+use faults::answer::refused;
 use offsets::table::entry;
 use offsets::table::first_of;
 use offsets::table::magnitude;
@@ -12,8 +12,23 @@ ghost use mathlib.Core.Path.{_≡_};
 ghost use mathlib.Core.Bool.{true};
 ghost use Prim.Native.Nat.{_+_, _≤_};
 ghost use Rattle.offsets.specs.Table.{ranksOk, ranks as ranksOf, trees as treesOf};
 ghost use Rattle.faults.specs.Answer.{firstFault};
-ghost use Rattle.faults.specs.Table.{entryKind, entryWrong};
+ghost use Rattle.table_fault.specs.Table.{entryKind, entryWrong};
+ghost use Rattle.table_fault.specs.Means.{countKind};
+
+// The kinds of a count: of a rank with the entry v, up to, but without, tree `end`.
+fn count_kind(v: u64, end: u64) -> u32
+    ensures { λ r. ⌜ r ≡ countKind v end ⌝ }
+{
+    let first = first_of(v);
+    if end < first {
+        return 4;
+    }
+    if negative(v) & (end <= first) {
+        return 5;
+    }
+    0
+}
 
 fn entry_kind(t: &[u8], ranks: u32, trees: u64, p: u32) -> u32
     requires { ⌜ (ranksOk (now t) ≡ true) × (ranks ≡ ranksOf (now t)) × (trees ≡ treesOf (now t)) × (p ≤ ranks) ⌝ }
@@ -32,15 +47,7 @@ fn entry_kind(t: &[u8], ranks: u32, trees: u64, p: u32) -> u32
     if ranks <= p {
         return 0;
     }
-    let first = first_of(v);
-    let end = magnitude(entry(t, (p as usize) + 1));
-    if end < first {
-        return 4;
-    }
-    if negative(v) & (end <= first) {
-        return 5;
-    }
-    0
+    count_kind(v, magnitude(entry(t, (p as usize) + 1)))
 }
 
 // The first entry that is wrong.

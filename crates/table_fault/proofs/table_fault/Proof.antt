@@ -1,9 +1,9 @@
-use Rattle.faults.proofs.Searches.{table-refused, table-found}
+use Rattle.table_fault.proofs.Entries.{table-refused, table-found}
 use borrow.Author.Tests.{not-true, not-false}
 use mathlib.Core.Path.{sym, _∙_}
 use borrow.Author.Needs.{needs}
-use Rattle.faults.proofs.table_fault.Statement.{statement}
-use Rattle.faults.proofs.table_fault.Tie as tie
+use Rattle.table_fault.proofs.table_fault.Statement.{statement}
+use Rattle.table_fault.proofs.table_fault.Tie as tie
 
 ranks-ok-requires : tie.Need-ranks-ok-requires
 ranks-ok-requires c κs = search needs

@@ -11,10 +11,13 @@ use Rattle.encoding.specs.Refusal.{firstFailed}
 use Rattle.encoding.proofs.Below.{and-fst, clash}
 use Rattle.offsets.specs.Limits.{treeCountOk}
 use Rattle.offsets.specs.Table.{tableLength, ranks, ranksOk, entry, trees, negative, magnitude, firstOf, firstTree, endTree}
 use Rattle.faults.specs.declared.answer.Fault.{Fault}
-use Rattle.faults.specs.Answer.{wrong, noFault, faultAt, firstFault}
-use Rattle.faults.specs.Table.{entryKind, entryWrong}
+use Rattle.faults.specs.Answer.{wrong, noFault, faultRefused, faultAt, firstFault}
+use Rattle.table_fault.specs.Table.{entryKind, entryWrong}
+use Rattle.table_fault.specs.Means.{countKind}
+use Rattle.table_fault.specs.Calls.{tableFaultOf}
+use Rattle.faults.specs.Calls.{faultAnswer}
 use Rattle.faults.proofs.Firsts.{guard-fails, guard-holds, quiet, quiet-to, first-read, first-none}
 
 -- the length of a table
 pub table-long : (t : List ℕ) → ranksOk t ≡ true → length t ≡ tableLength (ranks t)
@@ -22,11 +25,11 @@ unfolding ranksOk
 table-long t e = eqb-true _ _ (and-fst _ _ e)
 
 -- a negative entry asks for a tree
-empty-fails : (s : Bool) (a b : ℕ) → (s && leb b a) ≡ true → (not (true && s) || ltb a b) ≡ false
+empty-fails : (s : Bool) (a b : ℕ) → (s && leb b a) ≡ true → (not s || ltb a b) ≡ false
 empty-fails true a b e = le-ltb a b (leb-true b a e)
 empty-fails false a b e = clash refl (sym e)
 
-empty-holds : (s : Bool) (a b : ℕ) → (s && leb b a) ≡ false → (not (true && s) || ltb a b) ≡ true
+empty-holds : (s : Bool) (a b : ℕ) → (s && leb b a) ≡ false → (not s || ltb a b) ≡ true
 empty-holds true a b e = lt-ltb a b (leb-false b a e)
 empty-holds false a b e = refl
 
@@ -50,68 +53,26 @@ module _ (t : List ℕ) (p : ℕ) {v K P : ℕ} (pv : v ≡ entry t p) (pP : P �
         unfolding entryKind firstFailed
         kind-last h = rw (← pv, guard-holds (eqb p 0) (eqb v 0) g1, ← pP, ← pK, ← pb, guard-holds (eqb p P) b g2, ← pm, le-leb m K g3, le-ltb p P h)
 
-        module _ (g4 : p < P) {first next end : ℕ} (pf : first ≡ firstOf v) (pn : next ≡ entry t (p + 1)) (pe : end ≡ magnitude next) where
-          pub kind-count : end < first → 4 ≡ entryKind t p
-          unfolding entryKind firstFailed firstTree endTree
-          kind-count h =
-              rw (
-                ← pn,
-                ← pe,
-                ← pv,
-                ← pf,
-                guard-holds (eqb p 0) (eqb v 0) g1,
-                ← pP,
-                ← pK,
-                ← pb,
-                guard-holds (eqb p P) b g2,
-                ← pm,
-                le-leb m K g3,
-                lt-ltb p P g4,
-                lt-leb first end h,
-              )
+        pub kind-counted : p < P → {next end r : ℕ} → next ≡ entry t (p + 1) → end ≡ magnitude next → r ≡ countKind v end → r ≡ entryKind t p
+        unfolding entryKind countKind firstFailed firstTree endTree
+        kind-counted h pn pe e =
+            e ∙ rw (← pn, ← pe, ← pv, guard-holds (eqb p 0) (eqb v 0) g1, ← pP, ← pK, ← pb, guard-holds (eqb p P) b g2, ← pm, le-leb m K g3, lt-ltb p P h)
 
-          module _ (g5 : first ≤ end) {s : Bool} (ps : s ≡ negative v) where
-            pub kind-empty : (s && leb end first) ≡ true → 5 ≡ entryKind t p
-            unfolding entryKind firstFailed firstTree endTree
-            kind-empty e =
-                rw (
-                  ← pn,
-                  ← pe,
-                  ← pv,
-                  ← pf,
-                  guard-holds (eqb p 0) (eqb v 0) g1,
-                  ← pP,
-                  ← pK,
-                  ← pb,
-                  guard-holds (eqb p P) b g2,
-                  ← pm,
-                  le-leb m K g3,
-                  lt-ltb p P g4,
-                  le-leb first end g5,
-                  ← ps,
-                  empty-fails s first end e,
-                )
+-- ---- a count
 
-            pub kind-right : (s && leb end first) ≡ false → 0 ≡ entryKind t p
-            unfolding entryKind firstFailed firstTree endTree
-            kind-right e =
-                rw (
-                  ← pn,
-                  ← pe,
-                  ← pv,
-                  ← pf,
-                  guard-holds (eqb p 0) (eqb v 0) g1,
-                  ← pP,
-                  ← pK,
-                  ← pb,
-                  guard-holds (eqb p P) b g2,
-                  ← pm,
-                  le-leb m K g3,
-                  lt-ltb p P g4,
-                  le-leb first end g5,
-                  ← ps,
-                  empty-holds s first end e,
-                )
+module _ (v end : ℕ) {first : ℕ} (pf : first ≡ firstOf v) where
+  pub count-less : end < first → 4 ≡ countKind v end
+  unfolding countKind
+  count-less h = rw (← pf, lt-leb first end h)
+
+  module _ (h : first ≤ end) {s : Bool} (ps : s ≡ negative v) where
+    pub count-empty : (s && leb end first) ≡ true → 5 ≡ countKind v end
+    unfolding countKind
+    count-empty e = rw (← pf, le-leb first end h, ← ps, empty-fails s first end e)
+
+    pub count-right : (s && leb end first) ≡ false → 0 ≡ countKind v end
+    unfolding countKind
+    count-right e = rw (← pf, le-leb first end h, ← ps, empty-holds s first end e)
 
 -- ---- the search
 
@@ -121,3 +82,14 @@ module _ (t : List ℕ) {P : ℕ} (pP : P ≡ ranks t) (p : ℕ) (before : quiet
 
   pub entry-none : p ≤ P + 1 → P < p → a ≡ noFault → a ≡ firstFault 3 (ranks t + 1) (entryWrong t)
   entry-none h l f = f ∙ sym (first-none 3 (ranks t + 1) (entryWrong t) (quiet-to (ranks t + 1) (entryKind t) p (omega arith) (omega arith) before))
+
+-- ---- the call
+
+module _ (t : List ℕ) {b : Bool} (pb : b ≡ ranksOk t) {a : Fault} where
+  pub table-refused : b ≡ false → a ≡ faultRefused 2 → a ≡ tableFaultOf t
+  unfolding tableFaultOf faultAnswer firstFailed
+  table-refused h e = e ∙ rw (← pb, h)
+
+  pub table-found : b ≡ true → a ≡ firstFault 3 (ranks t + 1) (entryWrong t) → a ≡ tableFaultOf t
+  unfolding tableFaultOf faultAnswer firstFailed
+  table-found h e = e ∙ rw (← pb, h)

@@ -1,14 +1,14 @@
-use Rattle.faults.proofs.Entries.{entry-found, entry-none}
+use Rattle.table_fault.proofs.Entries.{entry-found, entry-none}
 use Rattle.faults.proofs.Firsts.{quiet, quiet-more, quiet-start}
-use Rattle.faults.specs.Table.{entryKind}
+use Rattle.table_fault.specs.Table.{entryKind}
 use Rattle.offsets.specs.Table.{trees}
 use native.Mathlib.Omega.{arith}
 use mathlib.Core.Bool.{true}
 use mathlib.Core.Path.{_≡_}
 use Prim.Native.Nat.{_≤_, _+_, _-_}
 use borrow.Author.Needs.{needs}
-use Rattle.faults.proofs.table.first_wrong.Statement.{statement}
-use Rattle.faults.proofs.table.first_wrong.Tie as tie
+use Rattle.table_fault.proofs.table.first_wrong.Statement.{statement}
+use Rattle.table_fault.proofs.table.first_wrong.Tie as tie
 
 abbrev Inv-loop : tie.InvT-loop
 Inv-loop t ranks trees p₀ p = (p ≤ ranks + 1) × (quiet (entryKind t) p ≡ true)

@@ -10,7 +10,7 @@ ghost use Rattle.part.specs.Means.{Ascending};
 ghost use Rattle.message.specs.Layout.{messageK, messageTrees, messageGhosts};
 ghost use Rattle.area.specs.Area.{areaNew};
 ghost use Rattle.area.specs.Deliver.{ghostDue, ghostNew};
-ghost use Rattle.deliver_check.specs.Means.{Checkable, acrossFaces, besideFirst, Marked, FacesFit, TreesFit, ghostBeside, Beside, heldAt, HeldFit, GhostsFit, ghostUnmarked};
+ghost use Rattle.deliver_ghosts.specs.Means.{Checkable, acrossFaces, besideFirst, Marked, FacesFit, TreesFit, ghostBeside, Beside, heldAt, HeldFit, GhostsFit, ghostUnmarked};
 
 // ---- due
 

@@ -1,6 +1,6 @@
-use Rattle.deliver_check.proofs.Checking.{layout-header, ghost-room}
-use Rattle.deliver_check.proofs.Marking.{unmarked-is, ghost-low}
-use Rattle.deliver_check.specs.Means.{ghostUnmarked}
+use Rattle.deliver_ghosts.proofs.Rooms.{layout-header, ghost-room}
+use Rattle.deliver_ghosts.proofs.Marking.{unmarked-is, ghost-low}
+use Rattle.deliver_ghosts.specs.Means.{ghostUnmarked}
 use Rattle.encoding.proofs.Below.{all-more, all-fails, all-to}
 use Rattle.encoding.specs.Below.{allBelow}
 use native.Mathlib.Omega.{arith}
@@ -8,8 +8,8 @@ use mathlib.Core.Bool.{true, not}
 use mathlib.Core.Path.{_≡_, sym, ap, _∙_}
 use Prim.Native.Nat.{_≤_, _-_}
 use borrow.Author.Needs.{needs}
-use Rattle.deliver_check.proofs.ghosts.none_marked.Statement.{statement}
-use Rattle.deliver_check.proofs.ghosts.none_marked.Tie as tie
+use Rattle.deliver_ghosts.proofs.ghosts.none_marked.Statement.{statement}
+use Rattle.deliver_ghosts.proofs.ghosts.none_marked.Tie as tie
 
 abbrev Inv-loop : tie.InvT-loop
 Inv-loop message marks count ghosts j₀ j = (j ≤ ghosts) × (allBelow j (ghostUnmarked marks message) ≡ true)

@@ -5,11 +5,11 @@ use native.Mathlib.Omega.{arith}
 use Rattle.area.specs.Deliver.{ghostNew}
 use Rattle.encoding.specs.Below.{allBelow}
 use Rattle.encoding.proofs.Below.{all-more, all-fails, all-to}
-use Rattle.deliver_check.proofs.Marking.{held-ascending, new-is}
-use Rattle.deliver_check.proofs.Checking.{layout-header, ghost-room}
+use Rattle.deliver_ghosts.proofs.Marking.{held-ascending, new-is}
+use Rattle.deliver_ghosts.proofs.Rooms.{layout-header, ghost-room}
 use borrow.Author.Needs.{needs}
-use Rattle.deliver_check.proofs.ghosts.none_found.Statement.{statement}
-use Rattle.deliver_check.proofs.ghosts.none_found.Tie as tie
+use Rattle.deliver_ghosts.proofs.ghosts.none_found.Statement.{statement}
+use Rattle.deliver_ghosts.proofs.ghosts.none_found.Tie as tie
 
 abbrev Inv-loop : tie.InvT-loop
 Inv-loop area message held at count ghosts j₀ j = (j ≤ ghosts) × (allBelow j (ghostNew area message) ≡ true)

@@ -1,9 +1,9 @@
 use native.Mathlib.Omega.{arith}
 use Rattle.message.proofs.Layouts.{ghost-fits}
-use Rattle.deliver_check.proofs.Marking.{beside-past, beside-read}
+use Rattle.deliver_ghosts.proofs.Marking.{beside-past, beside-read}
 use borrow.Author.Needs.{needs}
-use Rattle.deliver_check.proofs.ghosts.ghost_beside.Statement.{statement}
-use Rattle.deliver_check.proofs.ghosts.ghost_beside.Tie as tie
+use Rattle.deliver_ghosts.proofs.ghosts.ghost_beside.Statement.{statement}
+use Rattle.deliver_ghosts.proofs.ghosts.ghost_beside.Tie as tie
 
 ghost-at-requires : tie.Need-ghost-at-requires
 ghost-at-requires c κs = search needs

@@ -5,11 +5,11 @@ use native.Mathlib.Omega.{arith}
 use borrow.Author.Tests.{not-true, not-false}
 use Rattle.encoding.specs.Below.{allBelow}
 use Rattle.encoding.proofs.Below.{all-more, all-fails, all-to}
-use Rattle.deliver_check.specs.Means.{ghostBeside}
-use Rattle.deliver_check.proofs.Checking.{layout-header}
+use Rattle.deliver_ghosts.specs.Means.{ghostBeside}
+use Rattle.deliver_ghosts.proofs.Rooms.{layout-header}
 use borrow.Author.Needs.{needs}
-use Rattle.deliver_check.proofs.ghosts.ghosts_beside.Statement.{statement}
-use Rattle.deliver_check.proofs.ghosts.ghosts_beside.Tie as tie
+use Rattle.deliver_ghosts.proofs.ghosts.ghosts_beside.Statement.{statement}
+use Rattle.deliver_ghosts.proofs.ghosts.ghosts_beside.Tie as tie
 
 abbrev Inv-loop : tie.InvT-loop
 Inv-loop new rank message marks below count ghosts j₀ j = (j ≤ ghosts) × (allBelow j (ghostBeside new rank message) ≡ true)

@@ -1,10 +1,10 @@
-use Rattle.deliver_check.proofs.Marking.{held-start, held-next, held-end, number-low}
-use Rattle.deliver_check.specs.Means.{heldAt, Marked}
+use Rattle.deliver_ghosts.proofs.Marking.{held-start, held-next, held-end, number-low}
+use Rattle.deliver_ghosts.specs.Means.{heldAt, Marked}
 use native.Mathlib.Omega.{arith}
 use Prim.Native.Nat.{_≤_, _-_}
 use borrow.Author.Needs.{needs}
-use Rattle.deliver_check.proofs.ghosts.mark_held.Statement.{statement}
-use Rattle.deliver_check.proofs.ghosts.mark_held.Tie as tie
+use Rattle.deliver_ghosts.proofs.ghosts.mark_held.Statement.{statement}
+use Rattle.deliver_ghosts.proofs.ghosts.mark_held.Tie as tie
 
 abbrev Inv-loop : tie.InvT-loop
 Inv-loop area at count marks₀ i₀ marks i = (i ≤ count) × Marked marks₀ (heldAt area at i) marks

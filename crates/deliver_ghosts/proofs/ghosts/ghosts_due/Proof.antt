@@ -1,9 +1,9 @@
-use Rattle.deliver_check.proofs.Marking.{trees-fit, beside, due-is}
-use Rattle.deliver_check.proofs.Checking.{layout-header}
+use Rattle.deliver_ghosts.proofs.Marking.{trees-fit, beside, due-is}
+use Rattle.deliver_ghosts.proofs.Rooms.{layout-header}
 use borrow.Author.Needs.{needs}
 use native.Mathlib.Omega.{arith}
-use Rattle.deliver_check.proofs.ghosts.ghosts_due.Statement.{statement}
-use Rattle.deliver_check.proofs.ghosts.ghosts_due.Tie as tie
+use Rattle.deliver_ghosts.proofs.ghosts.ghosts_due.Statement.{statement}
+use Rattle.deliver_ghosts.proofs.ghosts.ghosts_due.Tie as tie
 
 trees-below-requires : tie.Need-trees-below-requires
 trees-below-requires c κs = layout-header _ (c .before .before .before .pre .0 .laid)

@@ -1,7 +1,7 @@
-use Rattle.deliver_check.proofs.Checking.{layout-header}
+use Rattle.deliver_ghosts.proofs.Rooms.{layout-header}
 use borrow.Author.Needs.{needs}
-use Rattle.deliver_check.proofs.ghosts.ghosts_new.Statement.{statement}
-use Rattle.deliver_check.proofs.ghosts.ghosts_new.Tie as tie
+use Rattle.deliver_ghosts.proofs.ghosts.ghosts_new.Statement.{statement}
+use Rattle.deliver_ghosts.proofs.ghosts.ghosts_new.Tie as tie
 
 ghost-count-requires : tie.Need-ghost-count-requires
 ghost-count-requires c κs = layout-header _ (c .before .before .pre .0 .laid)

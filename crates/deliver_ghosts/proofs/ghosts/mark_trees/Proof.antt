@@ -1,11 +1,11 @@
 use Prim.Native.Nat.{_≤_, _-_}
 use native.Mathlib.Omega.{arith}
-use Rattle.deliver_check.specs.Means.{besideFirst, Marked}
-use Rattle.deliver_check.proofs.Marking.{trees-start, trees-more, faces-fit, trees-end}
-use Rattle.deliver_check.proofs.Checking.{layout-header, tree-room}
+use Rattle.deliver_ghosts.specs.Means.{besideFirst, Marked}
+use Rattle.deliver_ghosts.proofs.Marking.{trees-start, trees-more, faces-fit, trees-end}
+use Rattle.deliver_ghosts.proofs.Rooms.{layout-header, tree-room}
 use borrow.Author.Needs.{needs}
-use Rattle.deliver_check.proofs.ghosts.mark_trees.Statement.{statement}
-use Rattle.deliver_check.proofs.ghosts.mark_trees.Tie as tie
+use Rattle.deliver_ghosts.proofs.ghosts.mark_trees.Statement.{statement}
+use Rattle.deliver_ghosts.proofs.ghosts.mark_trees.Tie as tie
 
 abbrev Inv-loop : tie.InvT-loop
 Inv-loop message marks₀ count i₀ marks i = (i ≤ count) × Marked marks₀ (besideFirst message i) marks

@@ -2,11 +2,11 @@ use Prim.Native.Nat.{_≤_, _-_}
 use native.Mathlib.Omega.{arith}
 use Rattle.records.specs.Record.{coreSize}
 use Rattle.encoding.specs.Pieces.{piece}
-use Rattle.deliver_check.specs.Means.{acrossFaces, Marked}
-use Rattle.deliver_check.proofs.Marking.{faces-start, faces-more, faces-end}
+use Rattle.deliver_ghosts.specs.Means.{acrossFaces, Marked}
+use Rattle.deliver_ghosts.proofs.Marking.{faces-start, faces-more, faces-end}
 use borrow.Author.Needs.{needs}
-use Rattle.deliver_check.proofs.ghosts.mark_faces.Statement.{statement}
-use Rattle.deliver_check.proofs.ghosts.mark_faces.Tie as tie
+use Rattle.deliver_ghosts.proofs.ghosts.mark_faces.Statement.{statement}
+use Rattle.deliver_ghosts.proofs.ghosts.mark_faces.Tie as tie
 
 abbrev Inv-loop : tie.InvT-loop
 Inv-loop message at faces marks₀ face₀ marks face = (face ≤ faces) × Marked marks₀ (acrossFaces (piece message at coreSize) face) marks

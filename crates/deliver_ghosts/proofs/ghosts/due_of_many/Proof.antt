@@ -1,8 +1,8 @@
 use native.Mathlib.Omega.{arith}
-use Rattle.deliver_check.proofs.Marking.{few-trees, trees-fit, beside, due-is}
+use Rattle.deliver_ghosts.proofs.Marking.{few-trees, trees-fit, beside, due-is}
 use borrow.Author.Needs.{needs}
-use Rattle.deliver_check.proofs.ghosts.due_of_many.Statement.{statement}
-use Rattle.deliver_check.proofs.ghosts.due_of_many.Tie as tie
+use Rattle.deliver_ghosts.proofs.ghosts.due_of_many.Statement.{statement}
+use Rattle.deliver_ghosts.proofs.ghosts.due_of_many.Tie as tie
 
 slice-aggregate-mark-trees : tie.Need-slice-aggregate-mark-trees
 slice-aggregate-mark-trees c = search needs

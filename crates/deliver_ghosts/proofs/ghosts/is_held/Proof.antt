@@ -1,7 +1,7 @@
-use Rattle.deliver_check.proofs.Marking.{held-past, held-read}
+use Rattle.deliver_ghosts.proofs.Marking.{held-past, held-read}
 use borrow.Author.Needs.{needs}
-use Rattle.deliver_check.proofs.ghosts.is_held.Statement.{statement}
-use Rattle.deliver_check.proofs.ghosts.is_held.Tie as tie
+use Rattle.deliver_ghosts.proofs.ghosts.is_held.Statement.{statement}
+use Rattle.deliver_ghosts.proofs.ghosts.is_held.Tie as tie
 
 find-ghost-requires : tie.Need-find-ghost-requires
 find-ghost-requires c κs = search needs

@@ -29,7 +29,7 @@ use Rattle.area.specs.Area.{areaK, areaP, areaRank, areaCount, areaGhosts, area
 use Rattle.area.specs.Deliver.{among, besideTrees, ghostDue, ghostNew}
 use Rattle.area.proofs.Headers.{ghosts-place-is}
 use Rattle.area.proofs.Soundness.{filled-fits}
-use Rattle.deliver_check.specs.Means.{Checkable, acrossFaces, besideFirst, Marked, FacesFit, TreesFit, ghostBeside, Beside, heldAt, HeldFit, GhostsFit, ghostUnmarked}
+use Rattle.deliver_ghosts.specs.Means.{Checkable, acrossFaces, besideFirst, Marked, FacesFit, TreesFit, ghostBeside, Beside, heldAt, HeldFit, GhostsFit, ghostUnmarked}
 
 -- ---- a set that grows
 

@@ -1,8 +1,8 @@
-use Rattle.deliver_check.proofs.Marking.{held-fit, ghosts-fit, new-marked}
+use Rattle.deliver_ghosts.proofs.Marking.{held-fit, ghosts-fit, new-marked}
 use native.Mathlib.Omega.{arith}
 use borrow.Author.Needs.{needs}
-use Rattle.deliver_check.proofs.ghosts.none_held.Statement.{statement}
-use Rattle.deliver_check.proofs.ghosts.none_held.Tie as tie
+use Rattle.deliver_ghosts.proofs.ghosts.none_held.Statement.{statement}
+use Rattle.deliver_ghosts.proofs.ghosts.none_held.Tie as tie
 
 ghosts-requires : tie.Need-ghosts-requires
 ghosts-requires c κs = search needs

@@ -22,7 +22,9 @@ use Rattle.area.specs.Area.{areaEpoch, areaDimension, areaK, areaP, areaRank, a
 use Rattle.area.specs.Means.{Tabled}
 use Rattle.area.specs.Deliver.{sameRun, senderDue, treesDue, ghostDue, ghostNew, deliverChecks}
 use Rattle.area.proofs.Soundness.{sound-holds}
-use Rattle.deliver_check.specs.Means.{Headed, Checkable, dueChecks}
+use Rattle.deliver_ghosts.specs.Means.{Checkable}
+use Rattle.deliver_ghosts.proofs.Rooms.{layout-header}
+use Rattle.deliver_check.specs.Means.{Headed, dueChecks}
 
 -- ---- a check each
 
@@ -67,19 +69,6 @@ module _ (a m : List ℕ) where
             let k : count ≡ messageTrees m = sym e ∙ is-n in
             let same : eqb (messageTrees m) (sentCount (areaOld a) (areaNew a) (messageSender m) (areaRank a)) ≡ true = eq-eqb (messageTrees m) (sentCount (areaOld a) (areaNew a) (messageSender m) (areaRank a)) (sym k ∙ count-is) in
             q ∙ ap₂ (λ (c f : ℕ). allBelow c (λ i. eqb (numberOf (messageTree m i)) (f + i))) k g ∙ rw same
-
--- a message in layout has its header and its trees
-pub layout-header : (m : List ℕ) → inLayout m ≡ true → messageHeader ≤ length m
-layout-header m e = omega (arith, size-length m (layout-size m e))
-
-pub layout-room : (m : List ℕ) → inLayout m ≡ true → {n : ℕ} → n ≡ messageTrees m → messageTreePlace n ≤ length m
-layout-room m e q = omega (arith, size-length m (layout-size m e))
-
-pub tree-room : (m : List ℕ) → inLayout m ≡ true → {n i at : ℕ} → n ≡ messageTrees m → i < n → at ≡ messageTreePlace i → at + coreSize ≤ length m
-tree-room m e p h r = omega (arith, size-length m (layout-size m e))
-
-pub ghost-room : (m : List ℕ) → inLayout m ≡ true → {n g j at : ℕ} → n ≡ messageTrees m → g ≡ messageGhosts m → j < g → at ≡ messageGhostPlace n j → at + coreSize ≤ length m
-ghost-room m e p q h r = omega (arith, size-length m (layout-size m e))
 
 pub numbered-is : (m : List ℕ) (first i : ℕ) {at v : ℕ} → at ≡ messageTreePlace i → v ≡ numberOf (piece m at coreSize) → eqb (numberOf (messageTree m i)) (first + i) ≡ eqb v (first + i)
 unfolding messageTree

@@ -1,3 +1,2 @@
 -- Laws, for this crate's proofs and for the crates above.
 pub mod Checking
-pub mod Marking

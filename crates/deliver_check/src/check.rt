@@ -11,7 +11,8 @@ ghost use Rattle.message.specs.Layout.{messageHeader, messageSender, messageRec
 ghost use Rattle.area.specs.Area.{areaP, areaRank, areaSound};
 ghost use Rattle.area.specs.Means.{Tabled};
 ghost use Rattle.area.specs.Deliver.{sameRun, senderDue, treesDue, deliverChecks};
-ghost use Rattle.deliver_check.specs.Means.{Headed, Checkable, dueChecks};
+ghost use Rattle.deliver_ghosts.specs.Means.{Checkable};
+ghost use Rattle.deliver_check.specs.Means.{Headed, dueChecks};
 
 // Whether the message's epoch, dimension, K and P are the area's (12).
 fn same_run(area: &[u8], message: &[u8]) -> bool
@@ -89,10 +90,10 @@ fn due_refusal(area: &[u8], old: &[u8], new: &[u8], message: &[u8]) -> u32
     if !trees_due(area, old, new, message) {
         return 16;
     }
-    if !crate::ghosts::ghosts_due(area, new, message) {
+    if !deliver_ghosts::ghosts::ghosts_due(area, new, message) {
         return 17;
     }
-    if !crate::ghosts::ghosts_new(area, message) {
+    if !deliver_ghosts::ghosts::ghosts_new(area, message) {
         return 18;
     }
     0

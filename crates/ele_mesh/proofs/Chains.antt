@@ -13,9 +13,10 @@ use borrow.Author.Tests.{ltb-true, eqb-true, eqb-false, eq-eqb, ne-eqb, le-leb, 
 use Rattle.encoding.specs.Below.{allBelow, anyBelow, countBelow}
 use Rattle.encoding.proofs.Below.{tests, either, and-fst, and-snd, count-le, count-more, all-same, all-more, all-fails, all-to, any-not}
 use Rattle.ele_text.specs.Text.{maxTriangles}
-use Rattle.ele_mesh.specs.Faces.{cornerOf, vertexTwice, verticesDiffer, sameSet, threeFaces, latestBelow, meetsFace, partner}
-use Rattle.ele_mesh.specs.Means.{hashes, hashOf, latestHashed, Whole, Modulus, Chained, Blank, Room, Ready}
-use Rattle.ele_mesh.proofs.Pairs.{same-hash}
+use Rattle.ele_faces.specs.Faces.{cornerOf, vertexTwice, verticesDiffer, sameSet, threeFaces, latestBelow, meetsFace, partner}
+use Rattle.ele_faces.specs.Means.{hashOf, Whole}
+use Rattle.ele_mesh.specs.Means.{hashes, latestHashed, Modulus, Chained, Blank, Room, Ready}
+use Rattle.ele_faces.proofs.Pairs.{same-hash}
 use Rattle.ele_mesh.proofs.Latest.{latest-most, latest-passes, latest-through, count-through, two-count}
 
 -- ---- making chains

@@ -14,9 +14,9 @@ use Rattle.records.specs.Shape.{faceCount, cornersOf, corners}
 use Rattle.records.specs.Record.{unused}
 use Rattle.mesh_build.specs.Build.{NewLink, faceRow, treeRows, LinksFit}
 use Rattle.ele_text.specs.Text.{maxTriangles}
-use Rattle.ele_mesh.specs.Faces.{firstVertex, sameSet, threeFaces, latestBelow, meetsFace, partner, turnOf, faceLink}
+use Rattle.ele_faces.specs.Faces.{firstVertex, sameSet, threeFaces, latestBelow, meetsFace, partner, turnOf, faceLink}
 use Rattle.ele_mesh.specs.Means.{linkRow, Drawn}
-use Rattle.ele_mesh.proofs.Pairs.{same-turned, same-on, turn-turned}
+use Rattle.ele_faces.proofs.Pairs.{same-turned, same-on, turn-turned}
 use Rattle.ele_mesh.proofs.Latest.{latest-most, latest-passes, latest-least}
 
 -- ---- three faces

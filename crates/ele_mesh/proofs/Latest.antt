@@ -8,7 +8,7 @@ use lib.Dec.{leb, eqb}
 use borrow.Author.Tests.{le-leb, lt-leb, leb-true, leb-false}
 use Rattle.encoding.specs.Below.{anyBelow, countBelow}
 use Rattle.encoding.proofs.Below.{tests, either, clash, below-suc, and-snd, any-intro, any-at, any-none, any-false, count-none, count-lt, count-le}
-use Rattle.ele_mesh.specs.Faces.{latestBelow}
+use Rattle.ele_faces.specs.Faces.{latestBelow}
 
 pub latest-most : (n : ℕ) (p : ℕ → Bool) → latestBelow n p ≤ n
 unfolding latestBelow

@@ -1,5 +1,4 @@
--- Laws of faces, chains and links.
-pub mod Pairs
+-- Laws of chains and links.
 pub mod Latest
 pub mod Chains
 pub mod Joins

@@ -13,10 +13,10 @@ use Rattle.mesh.specs.Mesh.{meshCore}
 use Rattle.mesh_build.specs.Build.{NewLink, LinksFit, builtMesh}
 use Rattle.mesh_build.proofs.Building.{built-sound, built-trees, built-neighbour, built-face, built-orientation}
 use Rattle.ele_text.specs.Text.{maxTriangles, vertices, triangles}
-use Rattle.ele_mesh.specs.Faces.{firstVertex, sameSet, threeFaces, partner, turnOf, faceLink}
+use Rattle.ele_faces.specs.Faces.{firstVertex, sameSet, threeFaces, partner, turnOf, faceLink}
 use Rattle.ele_mesh.specs.Calls.{triangleMesh, triangleRefusal}
 use Rattle.ele_mesh.specs.Theorems.{TrianglesSound, Joined, JoinsSets, TrianglesJoin, Three, EdgesRefused}
-use Rattle.ele_mesh.proofs.Pairs.{turn-none, turn-one}
+use Rattle.ele_faces.proofs.Pairs.{turn-none, turn-one}
 use Rattle.ele_mesh.proofs.Joins.{three-rising, meets-other, meets-same, meets-intro, partner-most, partner-meets, partner-cases, partner-is, link-alone, link-joined, three-faces, links-fit}
 use Rattle.ele_mesh.proofs.Surveys.{vertices-many, triangles-bounds, refused-three, Passes, refusal-none, refusal-three}
 

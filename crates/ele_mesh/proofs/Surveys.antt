@@ -20,9 +20,10 @@ use Rattle.ele_text.specs.declared.file.File.{File}
 use Rattle.ele_text.specs.Text.{rows as rowsIn, lines, ended, rowNumber, rowOk, maxTriangles, headOk, numbered, rowsOk, textOk, behindFirst, verticesOf, vertices, triangles}
 use Rattle.ele_text.specs.Means.{TextRead}
 use Rattle.ele_mesh.specs.declared.check.Found.{Found}
-use Rattle.ele_mesh.specs.Faces.{verticesDiffer, threeFaces, faceLink}
+use Rattle.ele_faces.specs.Faces.{verticesDiffer, threeFaces, faceLink}
 use Rattle.ele_mesh.specs.Calls.{triangleMesh, triangleBytes, triangleRefusal, importRefusal, triangleLength, importTriangle}
-use Rattle.ele_mesh.specs.Means.{Whole, Ready, Surveyed, Drawn}
+use Rattle.ele_faces.specs.Means.{Whole}
+use Rattle.ele_mesh.specs.Means.{Ready, Surveyed, Drawn}
 use Rattle.ele_mesh.proofs.Chains.{edges-pairs, paired}
 
 -- ---- how many triangles a text has

@@ -11,7 +11,7 @@ use Rattle.records.specs.Record.{treeSize}
 use Rattle.mesh.specs.Mesh.{meshHeader}
 use Rattle.mesh_build.specs.Build.{builtMesh}
 use Rattle.ele_text.specs.Text.{textOk, vertices, triangles}
-use Rattle.ele_mesh.specs.Faces.{verticesDiffer, threeFaces, faceLink}
+use Rattle.ele_faces.specs.Faces.{verticesDiffer, threeFaces, faceLink}
 
 -- the mesh of the text: a triangle, shape 1, for each of its triangles
 unfoldable pub triangleMesh : List ℕ → List ℕ

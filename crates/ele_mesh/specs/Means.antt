@@ -1,14 +1,15 @@
 -- Means, no part of what is promised: faces chained by a hash of their vertices, and what the functions hand on.
-use Prim.Native.Nat.{ℕ, _+_, _*_, _/_, _%_, _≤_, _<_, _^_}
+use Prim.Native.Nat.{ℕ, _*_, _≤_, _<_}
 use mathlib.Core.Path.{_≡_}
-use mathlib.Core.Bool.{cond, false}
+use mathlib.Core.Bool.{false}
 use mathlib.Core.List.{List, [], _∷_}
-use lib.Dec.{ltb, eqb}
+use lib.Dec.{eqb}
 use lib.ListN.{length, getD, take}
 use Rattle.mesh_build.specs.Build.{NewLink}
 use Rattle.ele_text.specs.Text.{maxTriangles, vertices, triangles}
 use Rattle.ele_mesh.specs.declared.check.Found.{Found}
-use Rattle.ele_mesh.specs.Faces.{firstVertex, secondVertex, latestBelow, threeFaces}
+use Rattle.ele_faces.specs.Faces.{latestBelow, threeFaces}
+use Rattle.ele_faces.specs.Means.{hashOf, Whole}
 use Rattle.ele_mesh.specs.Calls.{triangleRefusal}
 
 -- how many hashes there are at most
@@ -20,21 +21,9 @@ pub record Modulus (m : ℕ) : Type 0 where
   pub some : 1 ≤ m
   pub most : m ≤ hashes
 
--- of the two vertices, whichever stands first, one of m hashes
-unfoldable pub mixed : ℕ → ℕ → ℕ → ℕ
-mixed m a b = cond (ltb a b) ((4294967296 * a + b) % m) ((4294967296 * b + a) % m)
-
-unfoldable pub hashOf : List ℕ → ℕ → ℕ → ℕ
-hashOf vs m f = mixed m (firstVertex vs f) (secondVertex vs f)
-
 -- the latest face below n with hash h, and 1 more; 0 where there is none
 unfoldable pub latestHashed : List ℕ → ℕ → ℕ → ℕ → ℕ
 latestHashed vs m n h = latestBelow n (λ f. eqb (hashOf vs m f) h)
-
--- vertices of whole triangles
-pub record Whole (vs : List ℕ) : Type 0 where
-  pub threes : length vs % 3 ≡ 0
-  pub most : length vs ≤ 3 * maxTriangles
 
 -- the n first faces are chained: for each hash its latest face, for each face the latest before it with its hash
 pub record Chained (vs : List ℕ) (m : ℕ) (heads links : List ℕ) (n : ℕ) : Type 0 where

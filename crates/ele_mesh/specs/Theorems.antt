@@ -7,7 +7,7 @@ use lib.ListN.{length}
 use Rattle.records.specs.Record.{neighbourOf, faceOf, orientationOf}
 use Rattle.mesh.specs.Mesh.{meshSound, meshTrees, meshCore}
 use Rattle.ele_text.specs.Text.{textOk, vertices, triangles}
-use Rattle.ele_mesh.specs.Faces.{sameSet, verticesDiffer, threeFaces, firstVertex}
+use Rattle.ele_faces.specs.Faces.{sameSet, verticesDiffer, threeFaces, firstVertex}
 use Rattle.ele_mesh.specs.Calls.{triangleMesh, triangleRefusal}
 
 -- the mesh of an accepted text is sound

@@ -1,14 +1,15 @@
 // Faces with one hash, chained from the latest back; a place in a chain is a face's number and 1 more, 0 its end.
-use crate::face::hash_of;
-use crate::face::same_set;
+use ele_faces::face::hash_of;
+use ele_faces::face::same_set;
 ghost use mathlib.Core.Path.{_≡_};
 ghost use mathlib.Core.Bool.{cond};
 ghost use Prim.Native.Nat.{_≤_, _<_, _^_};
 ghost use lib.Dec.{leb};
 ghost use lib.ListN.{length};
 ghost use Rattle.encoding.specs.Below.{allBelow, countBelow};
-ghost use Rattle.ele_mesh.specs.Faces.{sameSet, partner};
-ghost use Rattle.ele_mesh.specs.Means.{hashes, Whole, Modulus, Blank, Room, Ready};
+ghost use Rattle.ele_faces.specs.Faces.{sameSet, partner};
+ghost use Rattle.ele_faces.specs.Means.{Whole};
+ghost use Rattle.ele_mesh.specs.Means.{hashes, Modulus, Blank, Room, Ready};
 
 fn wide(x: u32) -> usize
     ensures { λ r. ⌜ (r ≡ x) × (r < 2 ^ 32) ⌝ }

@@ -4,8 +4,9 @@ ghost use mathlib.Core.Path.{_≡_};
 ghost use Prim.Native.Nat.{_*_, _≤_};
 ghost use lib.ListN.{length};
 ghost use Rattle.ele_text.specs.Text.{maxTriangles};
-ghost use Rattle.ele_mesh.specs.Faces.{verticesDiffer};
-ghost use Rattle.ele_mesh.specs.Means.{Whole, Room, Surveyed};
+ghost use Rattle.ele_faces.specs.Faces.{verticesDiffer};
+ghost use Rattle.ele_faces.specs.Means.{Whole};
+ghost use Rattle.ele_mesh.specs.Means.{Room, Surveyed};
 
 // The refusal, or 0, the number of triangles, and by how many hashes their faces are chained.
 pub struct Found {

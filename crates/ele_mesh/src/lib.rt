@@ -9,7 +9,6 @@ ghost use Rattle.ele_mesh.specs.Means.{hashes};
 
 mod chain;
 mod check;
-mod face;
 mod write;
 
 fn faces() -> [u32; 196608]

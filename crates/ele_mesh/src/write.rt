@@ -1,6 +1,6 @@
 // The mesh of chained faces.
 use crate::chain::partner;
-use crate::face::first_vertex;
+use ele_faces::face::turn_of;
 ghost use mathlib.Core.Path.{_≡_};
 ghost use mathlib.Core.Bool.{false};
 ghost use Prim.Native.Nat.{_+_, _*_, _≤_, _<_};
@@ -10,19 +10,8 @@ ghost use Rattle.records.specs.Record.{treeSize};
 ghost use Rattle.mesh.specs.Mesh.{meshHeader};
 ghost use Rattle.mesh_build.specs.Build.{builtMesh, treeRows};
 ghost use Rattle.ele_text.specs.Text.{maxTriangles};
-ghost use Rattle.ele_mesh.specs.Faces.{threeFaces, turnOf, faceLink};
-ghost use Rattle.ele_mesh.specs.Means.{Whole, Ready, linkRow, Drawn};
-
-fn turn_of(vs: &[u32], f: usize, g: usize) -> u32
-    requires { ⌜ Whole (now vs) × (f < length (now vs)) × (g < length (now vs)) ⌝ }
-    ensures { λ r. ⌜ r ≡ turnOf (now (vs .entry)) f g ⌝ }
-{
-    if first_vertex(vs, f) == first_vertex(vs, g) {
-        0
-    } else {
-        1
-    }
-}
+ghost use Rattle.ele_faces.specs.Faces.{faceLink};
+ghost use Rattle.ele_mesh.specs.Means.{Ready, linkRow, Drawn};
 
 // The link of face i of triangle t.
 fn link_row(vs: &[u32], m: u64, heads: &[u32], links: &[u32], t: usize, i: usize) -> [u32; 3]

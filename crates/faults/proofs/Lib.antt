@@ -1,6 +1,5 @@
 -- Laws of faults, for this crate's proofs and for the crates above.
 pub mod Firsts
-pub mod Entries
 pub mod Records
 pub mod Right
 pub mod OneRecord

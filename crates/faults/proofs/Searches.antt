@@ -9,31 +9,18 @@ use Rattle.encoding.specs.Below.{allBelow}
 use Rattle.encoding.specs.Pieces.{piece}
 use Rattle.encoding.specs.Refusal.{firstFailed}
 use Rattle.encoding.proofs.Below.{all-same}
-use Rattle.offsets.specs.Table.{ranks, ranksOk}
 use Rattle.records.specs.Record.{coreSize, treeSize, numberOf}
 use Rattle.mesh.specs.Mesh.{meshHeader, meshDimension, meshTrees, meshCore, headerSound, treeSound}
 use Rattle.faults.specs.declared.answer.Fault.{Fault}
 use Rattle.faults.specs.declared.answer.Wrong.{Wrong}
 use Rattle.faults.specs.Answer.{wrong, faultRefused, faultAt, firstFault}
-use Rattle.faults.specs.Table.{entryWrong}
 use Rattle.faults.specs.Record.{recordKind, firstFace, recordWrong}
 use Rattle.faults.specs.Mesh.{treeFaceKind, treeWrong}
-use Rattle.faults.specs.Calls.{faultAnswer, tableFaultOf, meshFaultOf}
+use Rattle.faults.specs.Calls.{meshFaultOf}
 use Rattle.faults.proofs.Firsts.{quiet}
 use Rattle.faults.proofs.Right.{tree-right}
 use Rattle.faults.proofs.OneRecord.{tree-by-dimension}
 use Rattle.mesh.specs.Means.{treeByDimension}
-
--- ---- a table
-
-module _ (t : List ℕ) {b : Bool} (pb : b ≡ ranksOk t) {a : Fault} where
-  pub table-refused : b ≡ false → a ≡ faultRefused 2 → a ≡ tableFaultOf t
-  unfolding tableFaultOf faultAnswer firstFailed
-  table-refused h e = e ∙ rw (← pb, h)
-
-  pub table-found : b ≡ true → a ≡ firstFault 3 (ranks t + 1) (entryWrong t) → a ≡ tableFaultOf t
-  unfolding tableFaultOf faultAnswer firstFailed
-  table-found h e = e ∙ rw (← pb, h)
 
 -- ---- a tree
 

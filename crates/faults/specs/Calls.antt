@@ -1,23 +1,16 @@
--- What each call answers.
-use Prim.Native.Nat.{ℕ, _+_}
+-- What the call answers.
+use Prim.Native.Nat.{ℕ}
 use mathlib.Core.Bool.{cond}
-use mathlib.Core.List.{List, [], _∷_}
+use mathlib.Core.List.{List}
 use lib.Dec.{eqb}
-use Rattle.encoding.specs.Refusal.{check, firstFailed}
-use Rattle.offsets.specs.Table.{ranks, ranksOk}
 use Rattle.mesh.specs.Mesh.{meshDimension, meshTrees, meshCore, headerSound}
 use Rattle.faults.specs.declared.answer.Fault.{Fault}
 use Rattle.faults.specs.Answer.{wrong, faultRefused, faultAt, firstFault}
-use Rattle.faults.specs.Table.{entryWrong}
 use Rattle.faults.specs.Mesh.{treeWrong}
 
 -- a fault, or the refusal alone
 unfoldable pub faultAnswer : ℕ → Fault → Fault
 faultAnswer refusal fault = cond (eqb refusal 0) fault (faultRefused refusal)
-
--- where a table fails: at the least entry
-unfoldable pub tableFaultOf : List ℕ → Fault
-tableFaultOf t = faultAnswer (firstFailed (check (ranksOk t) 2 ∷ [])) (firstFault 3 (ranks t + 1) (entryWrong t))
 
 -- where a whole mesh fails: kind 6, header or length, before every record; else at the least tree
 unfoldable pub meshFaultOf : List ℕ → Fault

@@ -1,6 +1,5 @@
--- Where a table or a whole mesh fails: the kinds of faults, each by its own test in document 01's words, and the first fault.
+-- Where a whole mesh fails: the kinds of faults, each by its own test in document 01's words, and the first fault.
 pub mod Answer
-pub mod Table
 pub mod Record
 pub mod Mesh
 pub mod Calls

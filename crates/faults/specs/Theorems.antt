@@ -1,38 +1,23 @@
 -- What is proved of the first fault beyond the calls' contracts.
-use Prim.Native.Nat.{ℕ, _≤_, _<_}
+use Prim.Native.Nat.{ℕ, _<_}
 use mathlib.Core.Path.{_≡_}
 use mathlib.Core.Bool.{true}
 use mathlib.Core.List.{List}
 use lib.Dec.{eqb}
-use Rattle.offsets.specs.Table.{ranks, ranksOk}
-use Rattle.offsets.specs.Calls.{tableRefusal}
 use Rattle.mesh.specs.Mesh.{meshDimension, meshTrees, meshCore, headerSound, treeSound, meshRefusal}
 use Rattle.faults.specs.declared.answer.Fault.{Fault}
 use Rattle.faults.specs.Answer.{wrong}
-use Rattle.faults.specs.Table.{entryKind}
 use Rattle.faults.specs.Mesh.{treeFaceKind, treeWrong}
-use Rattle.faults.specs.Calls.{tableFaultOf, meshFaultOf}
+use Rattle.faults.specs.Calls.{meshFaultOf}
 
 -- the fault is what the check call answers, 0 for a sound object; and the kind is 0 exactly where it is
 pub record AsChecked (a : Fault) (refusal : ℕ) : Type 0 where
   pub fault : a .fault ≡ refusal
   pub kind : eqb (a .kind) 0 ≡ eqb (a .fault) 0
 
--- of every table with P within its limits, and of every mesh
-abbrev pub TableAsChecked : Type 0
-TableAsChecked = (t : List ℕ) → ranksOk t ≡ true → AsChecked (tableFaultOf t) (tableRefusal t)
-
+-- of every mesh
 abbrev pub MeshAsChecked : Type 0
 MeshAsChecked = (m : List ℕ) → AsChecked (meshFaultOf m) (meshRefusal m)
-
--- the fault of a table that isn't valid is that of its place, and nothing is wrong at an entry before it
-pub record FirstEntry (t : List ℕ) (a : Fault) : Type 0 where
-  pub within : a .at ≤ ranks t
-  pub kind : a .kind ≡ entryKind t (a .at)
-  pub before : (p : ℕ) → p < a .at → entryKind t p ≡ 0
-
-abbrev pub TableFirst : Type 0
-TableFirst = (t : List ℕ) → tableFaultOf t .fault ≡ 3 → FirstEntry t (tableFaultOf t)
 
 -- the fault of a mesh with a sound header is that of its place, each tree before it is sound, and nothing is wrong at a face before it
 pub record FirstTree (m : List ℕ) (a : Fault) : Type 0 where

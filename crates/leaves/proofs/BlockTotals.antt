@@ -12,11 +12,11 @@ use borrow.Author.Tests.{eqb-true}
 use Rattle.encoding.specs.Below.{allBelow, sumBelow}
 use Rattle.encoding.proofs.Below.{tests, either, and-fst, and-snd, all-at}
 use Rattle.offsets_write.specs.Partition.{tableOf}
-use Rattle.leaves.specs.Leaves.{leavesOk, leafStart, leafTotal, cut, leafFirst, leafCount, equalShares, leafTable}
+use Rattle.leaf_shares.specs.Leaves.{leavesOk, leafStart, leafTotal, cut, leafFirst, leafCount, equalShares, leafTable}
 use Rattle.leaves.specs.Blocks.{blockCount, blockSum, sumsOk, pairs, rounds, pairTotal, blockShares, blockTable, PairsAdd, BlocksAgree}
 use Rattle.leaves.specs.Calls.{leavesRefusal, blocksRefusal, tableFromLeaves, tableFromBlocks, BlocksAnswer}
 use Rattle.leaves.specs.Means.{blockEnd, Adding, AllSums}
-use Rattle.leaves.proofs.LeafCounts.{start-zero, start-more, start-total, start-mono, start-bound, trees-fit}
+use Rattle.leaf_shares.proofs.LeafCounts.{start-zero, start-more, start-total, start-mono, start-bound, trees-fit}
 
 -- ---- a list's sum, from its front
 

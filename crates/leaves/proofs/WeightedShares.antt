@@ -17,9 +17,9 @@ use Rattle.offsets.specs.Table.{tableLength, holds}
 use Rattle.offsets.proofs.Tables.{ranks-within}
 use Rattle.offsets_write.specs.Partition.{tableOf}
 use Rattle.offsets_write.proofs.Partitions.{table-length, table-of, table-holds, same-ranges}
-use Rattle.leaves.specs.Leaves.{leavesOk, leafStart, leafTotal, cut, leafHolds, leafFirst, leafCount, equalShares, leafTable}
+use Rattle.leaf_shares.specs.Leaves.{leavesOk, leafStart, leafTotal, cut, leafHolds, leafFirst, leafCount, equalShares, leafTable}
 use Rattle.leaves.specs.Weighted.{maxWeight, weightBefore, weightTotal, weightsOk, weightedShares, weightedTable, shareOf, WeightedHolds, SharesRounded, WeightlessEmpty, EqualWeights}
-use Rattle.leaves.proofs.LeafCounts.{cut-none, cut-all, cut-mono, Cuts, leaf-partition, leaf-on-rank, out-range}
+use Rattle.leaf_shares.proofs.LeafCounts.{cut-none, cut-all, cut-mono, Cuts, leaf-partition, leaf-on-rank, out-range}
 
 -- ---- sums of weights
 

@@ -7,7 +7,7 @@ use lib.Dec.{eqb}
 use lib.ListN.{length, getD}
 use Rattle.encoding.specs.Below.{allBelow, sumBelow}
 use Rattle.offsets_write.specs.Partition.{tableOf}
-use Rattle.leaves.specs.Leaves.{leafTotal, cut, leafFirst, leafCount, equalShares, leafTable}
+use Rattle.leaf_shares.specs.Leaves.{leafTotal, cut, leafFirst, leafCount, equalShares, leafTable}
 
 -- the number of blocks of K trees
 unfoldable pub blockCount : ℕ → ℕ

@@ -10,7 +10,7 @@ use Rattle.encoding.specs.Answer.{writeAnswer}
 use Rattle.encoding.specs.declared.answer.Length.{Length}
 use Rattle.offsets.specs.Limits.{rankCountOk}
 use Rattle.offsets.specs.Table.{tableLength}
-use Rattle.leaves.specs.Leaves.{leavesOk, leafTable}
+use Rattle.leaf_shares.specs.Leaves.{leavesOk, leafTable}
 use Rattle.leaves.specs.Weighted.{weightsOk, weightedTable}
 use Rattle.leaves.specs.Blocks.{sumsOk, blockTable}
 

@@ -1,5 +1,4 @@
 -- Document 01, "Ranks, trees and offset tables": the table that leaf counts give.
-pub mod Leaves
 pub mod Weighted
 pub mod Blocks
 pub mod Calls

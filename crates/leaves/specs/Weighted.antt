@@ -10,7 +10,7 @@ use Rattle.encoding.specs.Below.{allBelow, sumBelow}
 use Rattle.offsets.specs.Limits.{rankCountOk}
 use Rattle.offsets.specs.Table.{holds}
 use Rattle.offsets_write.specs.Partition.{tableOf}
-use Rattle.leaves.specs.Leaves.{leavesOk, leafTotal, cut, leafHolds, leafFirst, leafCount, leafTable}
+use Rattle.leaf_shares.specs.Leaves.{leavesOk, leafTotal, cut, leafHolds, leafFirst, leafCount, leafTable}
 
 abbrev pub maxWeight : ℕ
 maxWeight = 65535

@@ -1,11 +1,11 @@
 // Sums of leaf counts over blocks of 256 trees.
-use crate::counts::leaves_ok;
-use crate::counts::sum;
+use leaf_shares::counts::leaves_ok;
+use leaf_shares::counts::sum;
 ghost use mathlib.Core.Path.{_≡_};
 ghost use mathlib.Core.Bool.{true, _&&_};
 ghost use Prim.Native.Nat.{_+_, _*_, _≤_, _<_};
 ghost use lib.ListN.{length};
-ghost use Rattle.leaves.specs.Leaves.{leavesOk, leafStart};
+ghost use Rattle.leaf_shares.specs.Leaves.{leavesOk, leafStart};
 ghost use Rattle.leaves.specs.Blocks.{blockSum, sumsOk, pairTotal};
 ghost use Rattle.leaves.specs.Means.{blockEnd, Adding, AllSums};
 

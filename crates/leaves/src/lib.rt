@@ -3,12 +3,11 @@ ghost use mathlib.Core.Path.{_≡_};
 ghost use Rattle.leaves.specs.Calls.{tableFromLeaves, tableFromWeights, tableFromBlocks};
 use encoding::answer::Length;
 use encoding::answer::refused;
+use leaf_shares::counts::leaves_ok;
+use leaf_shares::counts::total;
 use offsets::table::rank_count_ok;
 
 mod blocks;
-mod counts;
-mod shares;
-mod table;
 mod weights;
 
 // Write the table that leaf counts give, one count for each tree (2, 6, 22).
@@ -19,14 +18,14 @@ pub fn table_from_leaves(ranks: u32, leaves: &[u32], out: &mut [u8]) -> Length
     if !rank_count_ok(p) {
         return refused(2);
     }
-    if !counts::leaves_ok(leaves) {
+    if !leaves_ok(leaves) {
         return refused(6);
     }
     let n = 8 * (p + 1);
     if out.len() < n {
         return refused(22);
     }
-    table::write(p, leaves, counts::total(leaves), out);
+    leaf_shares::table::write(p, leaves, total(leaves), out);
     Length {
         refusal: 0,
         length: n as u64,
@@ -44,14 +43,14 @@ pub fn table_from_weights(weights: &[u32], leaves: &[u32], out: &mut [u8]) -> Le
     if !weights::weights_ok(weights) {
         return refused(30);
     }
-    if !counts::leaves_ok(leaves) {
+    if !leaves_ok(leaves) {
         return refused(6);
     }
     let n = 8 * (p + 1);
     if out.len() < n {
         return refused(22);
     }
-    weights::write(weights, leaves, counts::total(leaves), out);
+    weights::write(weights, leaves, total(leaves), out);
     Length {
         refusal: 0,
         length: n as u64,
@@ -73,7 +72,7 @@ pub fn table_from_blocks(ranks: u32, leaves: &[u32], sums: &[u64], out: &mut [u8
     if out.len() < n {
         return refused(22);
     }
-    table::write(p, leaves, blocks::total(sums), out);
+    leaf_shares::table::write(p, leaves, blocks::total(sums), out);
     Length {
         refusal: 0,
         length: n as u64,

@@ -1,8 +1,8 @@
 // The weights of ranks of unequal speed, and writing the table that they give.
-use crate::counts::wide;
-use crate::shares::cut;
-use crate::table::put_rank;
 use encoding::bytes::write_u64;
+use leaf_shares::counts::wide;
+use leaf_shares::shares::cut;
+use leaf_shares::table::put_rank;
 ghost use mathlib.Core.Path.{_≡_};
 ghost use mathlib.Core.Bool.{true};
 ghost use Prim.Native.Nat.{_<_};

@@ -2,6 +2,5 @@
 mod Steps
 pub mod Strings
 pub mod Counts
-mod Lists
 pub mod Totals
 pub mod Examples

@@ -1,4 +1,4 @@
--- Document 02, C-11: leaf counts from refinement strings. `Means` holds what contracts of inner functions alone cite.
+-- Document 02, C-11: the leaf count of a tree from its refinement string. `Means` holds what contracts of inner functions alone cite.
 pub mod Refinement
 pub mod Reading
 pub mod Calls

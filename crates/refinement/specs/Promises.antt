@@ -1,14 +1,13 @@
 -- What is promised of the strings and of the counts.
-use Prim.Native.Nat.{ℕ, _+_, _≤_, _<_}
+use Prim.Native.Nat.{ℕ, _+_, _≤_}
 use mathlib.Core.Path.{_≡_}
 use mathlib.Core.Bool.{true, false}
 use mathlib.Core.List.{List}
 use lib.Dec.{eqb}
-use lib.ListN.{length, getD}
-use Rattle.leaves.specs.Leaves.{leavesOk, maxLeaves}
+use Rattle.leaf_shares.specs.Leaves.{maxLeaves}
 use Rattle.refinement.specs.Refinement.{Row, upright, inverted, refinable, refines, bits, leaves}
 use Rattle.refinement.specs.Reading.{stringOk, refinementOf}
-use Rattle.refinement.specs.Calls.{treeLeaves, countRefusal, countLeaves, stringOf, countsRefusal, countList}
+use Rattle.refinement.specs.Calls.{treeLeaves, countRefusal, countLeaves}
 
 -- an accepted string is that of its refinement, and of no other
 abbrev pub AcceptedIsWritten : Type 0
@@ -24,10 +23,6 @@ WrittenIsAccepted = (shape : ℕ) (r : Row) → refines shape r ≡ true → (st
 abbrev pub OnlyString : Type 0
 OnlyString = (shape : ℕ) (s t : List ℕ) → stringOk shape s ≡ true → stringOk shape t ≡ true → refinementOf shape s ≡ refinementOf shape t → s ≡ t
 
--- the counts are counts that the table from leaf counts takes
-abbrev pub CountsMakeTables : Type 0
-CountsMakeTables = (shapes lengths bits out : List ℕ) → countsRefusal shapes lengths bits out ≡ 0 → leavesOk (countList shapes lengths bits) ≡ true
-
 -- the answer for a refinement's string is its upright leaves, its inverted ones, and their sum
 abbrev pub CountsAreLeaves : Type 0
 CountsAreLeaves =
@@ -41,9 +36,3 @@ OthersUpright = (shape : ℕ) (r : Row) → eqb shape 1 ≡ false → leaves sha
 -- one tree's count is within the limits of a leaf count
 abbrev pub CountInLimits : Type 0
 CountInLimits = (shape : ℕ) (s : List ℕ) → countRefusal shape s ≡ 0 → (1 ≤ treeLeaves shape s) × (treeLeaves shape s ≤ maxLeaves)
-
--- in a list each tree has the count that it has by itself
-abbrev pub EachAsAlone : Type 0
-EachAsAlone =
-    (shapes lengths bits out : List ℕ) → countsRefusal shapes lengths bits out ≡ 0 → (k : ℕ) → k < length shapes →
-    (countRefusal (getD shapes k 0) (stringOf lengths bits k) ≡ 0) × (getD (countList shapes lengths bits) k 0 ≡ countLeaves (getD shapes k 0) (stringOf lengths bits k) .leaves)

@@ -4,7 +4,7 @@ ghost use mathlib.Core.Bool.{false};
 ghost use Prim.Native.Nat.{_+_, _≤_};
 ghost use lib.Dec.{eqb};
 ghost use lib.ListN.{length};
-ghost use Rattle.refinement.specs.Refinement.{upright as standing, inverted as hanging, children};
+ghost use Rattle.refinement.specs.Refinement.{upright as standing, inverted as hanging, children, refinable};
 ghost use Rattle.refinement.specs.Means.Walks.{bitAt, walkOf, asWalk, Passing};
 ghost use Rattle.refinement.specs.Means.Trees.{treeAt, treeOf};
 
@@ -28,6 +28,12 @@ pub struct TreeLeaves {
     pub ok: bool,
     pub upright: usize,
     pub inverted: usize,
+}
+
+pub fn shape_ok(shape: u32) -> bool
+    ensures { λ r. ⌜ r ≡ refinable shape ⌝ }
+{
+    shape < 4
 }
 
 // What a walk meets: 0 a leaf, 1 a refined element, 2 what stops it.

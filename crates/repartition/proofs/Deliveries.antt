@@ -30,7 +30,7 @@ use Rattle.area_theorems.proofs.Sound.{fresh-sound}
 use Rattle.area_theorems.proofs.Again.{area-parts}
 use Rattle.area_theorems.proofs.Deliveries.{fresh-bytes, deliver-bytes, deliver-sound}
 use Rattle.repartition.specs.Lists.{AllIn}
-use Rattle.repartition.specs.Deliveries.{GhostsFit, EnoughSlots}
+use Rattle.repartition.specs.Deliveries.{GhostsBounded, EnoughSlots}
 use Rattle.repartition.proofs.Refusals.{refusal-is}
 
 -- a list of deliveries keeps a sound area of bytes sound
@@ -40,9 +40,9 @@ after-sound [] a b s all = s
 after-sound (m ∷ ms) a b s all = after-sound ms (deliverOf a m .1) (deliver-bytes a m b (all .0)) (deliver-sound a m b s) (all .1)
 
 -- what a sound area says of its ghosts
-sound-fits : (a : List ℕ) → areaSound a ≡ true → GhostsFit a
+sound-bounded : (a : List ℕ) → areaSound a ≡ true → GhostsBounded a
 unfolding filledBound ghostBound
-sound-fits a s =
+sound-bounded a s =
     record {
       sound = s;
       few = area-parts a s .filled;
@@ -99,8 +99,8 @@ module _ (old new : List ℕ) (rank dimension epoch : ℕ) (out : List ℕ) (bO 
   opened-bytes i =
       rw opened-is (fresh-bytes old new rank dimension epoch tail bO bN (λ j. rw getD-drop (bT (length (freshArea old new rank dimension epoch) + j))) i)
 
-  enough : (ms : List (List ℕ)) → AllIn Bytes ms → GhostsFit (areaAfterEach (openAreaOf old new rank dimension epoch out .1) ms)
-  enough ms all = sound-fits (areaAfterEach (openAreaOf old new rank dimension epoch out .1) ms) (after-sound ms (openAreaOf old new rank dimension epoch out .1) opened-bytes opened-sound all)
+  enough : (ms : List (List ℕ)) → AllIn Bytes ms → GhostsBounded (areaAfterEach (openAreaOf old new rank dimension epoch out .1) ms)
+  enough ms all = sound-bounded (areaAfterEach (openAreaOf old new rank dimension epoch out .1) ms) (after-sound ms (openAreaOf old new rank dimension epoch out .1) opened-bytes opened-sound all)
 
 pub enough-slots : EnoughSlots
 enough-slots old new rank dimension epoch out bO bN bT small accepted ms all = enough old new rank dimension epoch out bO bN bT small accepted ms all

@@ -17,7 +17,7 @@ use Rattle.encoding.proofs.Below.{either, tests, all-at}
 use Rattle.offsets.specs.Limits.{rankCountOk, treeCountOk}
 use Rattle.offsets.specs.Table.{ranks, ranksOk, entry, negative, magnitude, firstOf, trees, firstTree, endTree, treeCount, holds, entriesWithin, countsOk, valid, tableBytes}
 use Rattle.offsets_write.specs.Partition.{nonEmpty, onRank, lastTree, coversAll, coversOnly, ascending, validPartition, rangesFit, endBelow, entryOf, entriesBelow, tableOf}
-use Rattle.leaves.specs.Leaves.{leavesOk, leafStart, leafTotal, cut, leafHolds, leafFirst, leafCount, equalShares, leafTable}
+use Rattle.leaf_shares.specs.Leaves.{leavesOk, leafStart, leafTotal, cut, leafHolds, leafFirst, leafCount, equalShares, leafTable}
 use Rattle.offsets.specs.Calls.{tableRefusal, rangeRefusal, rangeAnswer, tableRange}
 use Rattle.offsets_write.specs.Calls.{partitionOk, writeRefusal, writeTable}
 use Rattle.leaves.specs.Calls.{leavesRefusal, tableFromLeaves}

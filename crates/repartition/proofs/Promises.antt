@@ -18,13 +18,13 @@ use Rattle.encoding.proofs.Below.{either, and-fst, and-snd, and-intro}
 use Rattle.offsets.specs.Limits.{rankCountOk, treeCountOk}
 use Rattle.offsets.specs.Table.{tableLength, ranks, ranksOk, trees, firstTree, treeCount, entriesWithin, countsOk, valid, entry}
 use Rattle.offsets_write.specs.Partition.{validPartition, rangesFit, tableOf, IsTable}
-use Rattle.leaves.specs.Leaves.{leavesOk, leafTable}
+use Rattle.leaf_shares.specs.Leaves.{leavesOk, leafTable}
 use Rattle.offsets.specs.Calls.{tableRefusal, rangeRefusal, rangeAnswer, tableRange}
 use Rattle.offsets_write.specs.Calls.{each, partitionOk, writeRefusal, writeTable}
 use Rattle.leaves.specs.Calls.{leavesRefusal, tableFromLeaves}
 use Rattle.offsets.proofs.Tables.{size}
 use Rattle.offsets_write.proofs.Partitions.{trees-are, table-of, table-unique, table-fits, shared-means}
-use Rattle.leaves.proofs.LeafCounts.{leaf-table-holds}
+use Rattle.leaf_shares.proofs.LeafCounts.{leaf-table-holds}
 use Rattle.pattern.specs.Sender.{sentFirst, sentCount}
 use Rattle.pattern.proofs.Counting.{range-true, range-in}
 use Rattle.pattern.proofs.Sets.{send-ascends, receive-ascends, symmetric, one-sender, one-range, received-disjoint, received-covers, received-only, send-ends, receive-ends}

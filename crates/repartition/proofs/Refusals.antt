@@ -19,7 +19,7 @@ use Rattle.offsets.specs.Table.{ranks, ranksOk, trees, valid}
 use Rattle.offsets_write.specs.Calls.{writeTable}
 use Rattle.leaves.specs.Calls.{tableFromLeaves, tableFromWeights, tableFromBlocks}
 use Rattle.plan_text.specs.Plan.{planAnswer, planOutputAnswer}
-use Rattle.refinement.specs.Calls.{leafCounts}
+use Rattle.refinement_list.specs.Calls.{leafCounts}
 use Rattle.ele_mesh.specs.Calls.{importTriangle}
 use Rattle.regions.specs.Calls.{regionCountsOf}
 use Rattle.probes.specs.Calls.{treesNear}

@@ -11,7 +11,7 @@ use Rattle.deliver_all.specs.Messages.{areaAfterEach}
 use Rattle.repartition.specs.Lists.{AllIn}
 
 -- a sound area with at most F ghosts for each filled tree slot, and so at most F × n
-pub record GhostsFit (a : List ℕ) : Type 0 where
+pub record GhostsBounded (a : List ℕ) : Type 0 where
   pub sound : areaSound a ≡ true
   pub few : areaGhosts a ≤ facesIn (areaDimension a) * filledSlots a
   pub within : facesIn (areaDimension a) * filledSlots a ≤ facesIn (areaDimension a) * areaCount a
@@ -21,4 +21,4 @@ abbrev pub EnoughSlots : Type 0
 EnoughSlots =
     (old new : List ℕ) (rank dimension epoch : ℕ) (out : List ℕ) → Bytes old → Bytes new → Bytes out → epoch < 2 ^ 32
     → openAreaOf old new rank dimension epoch out .0 .refusal ≡ 0
-    → (ms : List (List ℕ)) → AllIn Bytes ms → GhostsFit (areaAfterEach (openAreaOf old new rank dimension epoch out .1) ms)
+    → (ms : List (List ℕ)) → AllIn Bytes ms → GhostsBounded (areaAfterEach (openAreaOf old new rank dimension epoch out .1) ms)

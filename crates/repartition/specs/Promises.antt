@@ -12,7 +12,7 @@ use Rattle.offsets.specs.Limits.{rankCountOk, treeCountOk}
 use Rattle.offsets.specs.Table.{tableLength, ranks, trees, entry, negative, firstTree, treeCount, holds}
 use Rattle.offsets_write.specs.Partition.{validPartition, IsTable}
 use Rattle.offsets_write.specs.Sharing.{sharesWithLower}
-use Rattle.leaves.specs.Leaves.{leavesOk, leafHolds, equalShares, leafTable}
+use Rattle.leaf_shares.specs.Leaves.{leavesOk, leafHolds, equalShares, leafTable}
 use Rattle.offsets.specs.Calls.{tableRefusal, tableRange}
 use Rattle.offsets_write.specs.Calls.{each, writeTable}
 use Rattle.leaves.specs.Calls.{tableFromLeaves}

@@ -8,7 +8,7 @@ use Rattle.encoding.specs.declared.answer.Length.{Length}
 use Rattle.offsets_write.specs.Calls.{writeTable}
 use Rattle.leaves.specs.Calls.{tableFromLeaves, tableFromWeights, tableFromBlocks}
 use Rattle.plan_text.specs.Plan.{planAnswer, planOutputAnswer}
-use Rattle.refinement.specs.Calls.{leafCounts}
+use Rattle.refinement_list.specs.Calls.{leafCounts}
 use Rattle.ele_mesh.specs.Calls.{importTriangle}
 use Rattle.regions.specs.Calls.{regionCountsOf}
 use Rattle.probes.specs.declared.Probe.{Probe}

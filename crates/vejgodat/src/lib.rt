@@ -18,11 +18,13 @@ ghost use Rattle.part_neighbour.specs.Calls.{neighbourAnswer};
 ghost use Rattle.lookup.specs.Lookup.{foundRecord};
 ghost use Rattle.part_neighbour.specs.Neighbour.{flatAnswer};
 ghost use Rattle.ele_mesh.specs.Calls.{triangleLength, importTriangle};
-ghost use Rattle.refinement.specs.Calls.{countLeaves, leafCounts};
+ghost use Rattle.refinement.specs.Calls.{countLeaves};
+ghost use Rattle.refinement_list.specs.Calls.{leafCounts};
 ghost use Rattle.pattern.specs.Calls.{senderOf, treesSent, sendSetOf, receiveSetOf};
 ghost use Rattle.regions.specs.Calls.{regionCountsOf};
 ghost use Rattle.probes.specs.Calls.{treesNear};
-ghost use Rattle.faults.specs.Calls.{tableFaultOf, meshFaultOf};
+ghost use Rattle.table_fault.specs.Calls.{tableFaultOf};
+ghost use Rattle.faults.specs.Calls.{meshFaultOf};
 ghost use Rattle.part_fault.specs.Calls.{partFaultOf};
 ghost use Rattle.columns.specs.Calls.{partToColumns, columnsToPart};
 use area_open::Progress;
@@ -341,7 +343,7 @@ pub extern "C" fn vejgodat_leaf_counts(
 ) -> Count
     ensures { λ r. ⌜ (r, now (out .exit)) ≡ leafCounts (now (shapes .entry)) (now (lengths .entry)) (now (bits .entry)) (now (out .entry)) ⌝ }
 {
-    refinement::leaf_counts(shapes, lengths, bits, out)
+    refinement_list::leaf_counts(shapes, lengths, bits, out)
 }
 
 #[no_mangle]
@@ -451,7 +453,7 @@ pub extern "C" fn vejgodat_trees_between(
 pub extern "C" fn vejgodat_table_fault(table: &[u8]) -> Fault
     ensures { λ r. ⌜ r ≡ tableFaultOf (now (table .entry)) ⌝ }
 {
-    faults::table_fault(table)
+    table_fault::table_fault(table)
 }
 
 #[no_mangle]

@@ -7,9 +7,9 @@ use Rattle.encoding.proofs.Below.{and-fst, and-snd}
 use Rattle.offsets.specs.Table.{tableLength}
 use Rattle.leaves.specs.Calls.{tableFromBlocks, blocksRefusal}
 use Rattle.leaves.specs.Blocks.{sumsOk}
-use Rattle.leaves.specs.Leaves.{leavesOk}
+use Rattle.leaf_shares.specs.Leaves.{leavesOk}
 use Rattle.leaves.proofs.BlockTotals.{pairs-add, blocks-agree, all-sums}
-use Rattle.leaves.proofs.LeafCounts.{leaf-table-length}
+use Rattle.leaf_shares.proofs.LeafCounts.{leaf-table-length}
 use borrow.Author.Needs.{needs}
 use Rattle.leaves.proofs.table_from_blocks.Statement.{statement}
 use Rattle.leaves.proofs.table_from_blocks.Tie as tie

@@ -1,4 +1,4 @@
-use Rattle.leaves.proofs.LeafCounts.{leaf-table-length}
+use Rattle.leaf_shares.proofs.LeafCounts.{leaf-table-length}
 use Rattle.leaves.specs.Calls.{tableFromLeaves, leavesRefusal}
 use Rattle.offsets.specs.Table.{tableLength}
 use Rattle.encoding.specs.Answer.{writeAnswer, lengthAnswer, written}

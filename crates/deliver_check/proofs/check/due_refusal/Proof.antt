@@ -1,6 +1,7 @@
 use mathlib.Core.Path.{sym, _∙_}
 use borrow.Author.Tests.{not-true, not-false}
-use Rattle.deliver_check.proofs.Checking.{layout-header, sender-low, sender-rank, fails-sender, fails-heard, fails-trees, fails-ghosts, fails-new, none-fails}
+use Rattle.deliver_ghosts.proofs.Rooms.{layout-header}
+use Rattle.deliver_check.proofs.Checking.{sender-low, sender-rank, fails-sender, fails-heard, fails-trees, fails-ghosts, fails-new, none-fails}
 use borrow.Author.Needs.{needs}
 use Rattle.deliver_check.proofs.check.due_refusal.Statement.{statement}
 use Rattle.deliver_check.proofs.check.due_refusal.Tie as tie

@@ -1,7 +1,8 @@
 use native.Mathlib.Omega.{arith}
 use mathlib.Core.Path.{sym, _∙_}
 use Rattle.area.proofs.Tabled.{tabled-pair}
-use Rattle.deliver_check.proofs.Checking.{layout-header, layout-room, trees-other, trees-read}
+use Rattle.deliver_ghosts.proofs.Rooms.{layout-header, layout-room}
+use Rattle.deliver_check.proofs.Checking.{trees-other, trees-read}
 use borrow.Author.Needs.{needs}
 use Rattle.deliver_check.proofs.check.trees_due.Statement.{statement}
 use Rattle.deliver_check.proofs.check.trees_due.Tie as tie

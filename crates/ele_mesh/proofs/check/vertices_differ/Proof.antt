@@ -1,5 +1,5 @@
 use Rattle.ele_mesh.proofs.Chains.{differ-none, differ-more, differ-not, differ-all}
-use Rattle.ele_mesh.specs.Faces.{vertexTwice}
+use Rattle.ele_faces.specs.Faces.{vertexTwice}
 use Rattle.encoding.specs.Below.{allBelow}
 use lib.ListN.{length}
 use Prim.Native.Nat.{_-_, _≤_, _/_}

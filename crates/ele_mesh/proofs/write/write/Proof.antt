@@ -1,5 +1,5 @@
 use Rattle.ele_mesh.proofs.Joins.{drawn-fit, length-on}
-use Rattle.ele_mesh.specs.Faces.{faceLink}
+use Rattle.ele_faces.specs.Faces.{faceLink}
 use Rattle.mesh_build.proofs.Building.{built-rows}
 use Rattle.mesh_build.proofs.Writing.{built-start, built-next, built-done}
 use Rattle.mesh_build.specs.Build.{builtTrees}

@@ -4,7 +4,7 @@ use mathlib.Core.Path.{_≡_, sym, refl}
 use native.Mathlib.Omega.{arith}
 use Rattle.leaves.specs.Weighted.{weightBefore, weightedShares, weightedTable}
 use Rattle.leaves.proofs.WeightedShares.{weight-none, weight-more, weight-le, weight-some, weight-fits, weighted-none, weighted-is, weighted-cuts}
-use Rattle.leaves.proofs.LeafCounts.{Writing, writing-none, writing-walk, writing-more, writing-done}
+use Rattle.leaf_shares.proofs.LeafCounts.{Writing, writing-none, writing-walk, writing-more, writing-done}
 use borrow.Author.Needs.{needs}
 use Rattle.leaves.proofs.weights.write.Statement.{statement}
 use Rattle.leaves.proofs.weights.write.Tie as tie

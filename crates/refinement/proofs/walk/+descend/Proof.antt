@@ -32,186 +32,85 @@ descend-Inv-loop s shape depth b d v₀ left₀ v left = (siblings shape d s lef
 abbrev descend-μ-loop : descend-lts.MeasureT-loop
 descend-μ-loop s shape depth b d v₀ left₀ v left = left
 
-descend-bit-requires : (t : ℕ) → descend-lts.Need-bit-requires (
-  bit-reads.Asked,
-  bit-reads.Learnt,
-  children-reads.Asked,
-  children-reads.Learnt,
-  descend-below t,
-  descend.Post,
-) (descend-at t) descend.Post descend-Inv-loop descend-μ-loop
+-- what the calls in the body are known to do
+abbrev descend-claims : ℕ → descend-lts.Claims
+descend-claims t = (bit-reads.Asked, bit-reads.Learnt, children-reads.Asked, children-reads.Learnt, descend-below t, descend.Post)
+
+descend-bit-requires : (t : ℕ) → descend-lts.Need-bit-requires (descend-claims t) (descend-at t) descend.Post descend-Inv-loop descend-μ-loop
 descend-bit-requires t c κs = search needs
 
-descend-add-t10 : (t : ℕ) → descend-lts.Need-add-t10 (
-  bit-reads.Asked,
-  bit-reads.Learnt,
-  children-reads.Asked,
-  children-reads.Learnt,
-  descend-below t,
-  descend.Post,
-) (descend-at t) descend.Post descend-Inv-loop descend-μ-loop
+descend-add-t10 : (t : ℕ) → descend-lts.Need-add-t10 (descend-claims t) (descend-at t) descend.Post descend-Inv-loop descend-μ-loop
 descend-add-t10 t c =
     let a = c .before .before .before .before .args in
     let bit = c .before .before .bit in
     omega (arith, bit-within (a .depth) (a .s .now) (a .w .ok) (a .w .at) (bit .ensures) (omega arith))
 
-descend-add-t11 : (t : ℕ) → descend-lts.Need-add-t11 (
-  bit-reads.Asked,
-  bit-reads.Learnt,
-  children-reads.Asked,
-  children-reads.Learnt,
-  descend-below t,
-  descend.Post,
-) (descend-at t) descend.Post descend-Inv-loop descend-μ-loop
+descend-add-t11 : (t : ℕ) → descend-lts.Need-add-t11 (descend-claims t) (descend-at t) descend.Post descend-Inv-loop descend-μ-loop
 descend-add-t11 t c =
     let a = c .before .before .before .before .before .args in
     let bit = c .before .before .before .bit in
     omega (arith, bit-within (a .depth) (a .s .now) (a .w .ok) (a .w .at) (bit .ensures) (omega arith))
 
-descend-returns : (t : ℕ) → descend-lts.Need-returns (
-  bit-reads.Asked,
-  bit-reads.Learnt,
-  children-reads.Asked,
-  children-reads.Learnt,
-  descend-below t,
-  descend.Post,
-) (descend-at t) descend.Post descend-Inv-loop descend-μ-loop
+descend-returns : (t : ℕ) → descend-lts.Need-returns (descend-claims t) (descend-at t) descend.Post descend-Inv-loop descend-μ-loop
 descend-returns t c =
     let a = c .before .before .before .before .before .args in
     let bit = c .before .before .before .bit in
     (leaf-upright (a .shape) (a .s .now) (asWalk (a .w)) (a .depth) (bit .ensures) (c .before .before .if1 .taken), record { within = omega (arith, bit-within (a .depth) (a .s .now) (a .w .ok) (a .w .at) (bit .ensures) (omega arith)); few = omega arith })
 
-descend-sub-d : (t : ℕ) → descend-lts.Need-sub-d (
-  bit-reads.Asked,
-  bit-reads.Learnt,
-  children-reads.Asked,
-  children-reads.Learnt,
-  descend-below t,
-  descend.Post,
-) (descend-at t) descend.Post descend-Inv-loop descend-μ-loop
+descend-sub-d : (t : ℕ) → descend-lts.Need-sub-d (descend-claims t) (descend-at t) descend.Post descend-Inv-loop descend-μ-loop
 descend-sub-d t c =
     let a = c .before .before .before .before .args in
     let bit = c .before .before .bit in
     omega (arith, bit-deep (a .depth) (a .s .now) (a .w .ok) (a .w .at) (bit .ensures) (c .if2 .taken))
 
-descend-add-t12 : (t : ℕ) → descend-lts.Need-add-t12 (
-  bit-reads.Asked,
-  bit-reads.Learnt,
-  children-reads.Asked,
-  children-reads.Learnt,
-  descend-below t,
-  descend.Post,
-) (descend-at t) descend.Post descend-Inv-loop descend-μ-loop
+descend-add-t12 : (t : ℕ) → descend-lts.Need-add-t12 (descend-claims t) (descend-at t) descend.Post descend-Inv-loop descend-μ-loop
 descend-add-t12 t c =
     let a = c .before .before .before .before .before .args in
     let bit = c .before .before .before .bit in
     omega (arith, bit-within (a .depth) (a .s .now) (a .w .ok) (a .w .at) (bit .ensures) (omega arith))
 
-descend-children-requires : (t : ℕ) → descend-lts.Need-children-requires (
-  bit-reads.Asked,
-  bit-reads.Learnt,
-  children-reads.Asked,
-  children-reads.Learnt,
-  descend-below t,
-  descend.Post,
-) (descend-at t) descend.Post descend-Inv-loop descend-μ-loop
+descend-children-requires : (t : ℕ) → descend-lts.Need-children-requires (descend-claims t) (descend-at t) descend.Post descend-Inv-loop descend-μ-loop
 descend-children-requires t c κs = search needs
 
-descend-loop-holds : (t : ℕ) → descend-lts.Need-loop-holds (
-  bit-reads.Asked,
-  bit-reads.Learnt,
-  children-reads.Asked,
-  children-reads.Learnt,
-  descend-below t,
-  descend.Post,
-) (descend-at t) descend.Post descend-Inv-loop descend-μ-loop
+descend-loop-holds : (t : ℕ) → descend-lts.Need-loop-holds (descend-claims t) (descend-at t) descend.Post descend-Inv-loop descend-μ-loop
 descend-loop-holds t c =
     let a = c .before .before .before .before .before .before .args in
     let bit = c .before .before .before .before .bit in
     (refl, record { within = omega (arith, bit-within (a .depth) (a .s .now) (a .w .ok) (a .w .at) (bit .ensures) (omega arith)); few = omega arith })
 
-descend-descend-requires : (t : ℕ) → descend-lts.Need-descend-requires (
-  bit-reads.Asked,
-  bit-reads.Learnt,
-  children-reads.Asked,
-  children-reads.Learnt,
-  descend-below t,
-  descend.Post,
-) (descend-at t) descend.Post descend-Inv-loop descend-μ-loop
+descend-descend-requires : (t : ℕ) → descend-lts.Need-descend-requires (descend-claims t) (descend-at t) descend.Post descend-Inv-loop descend-μ-loop
 descend-descend-requires t c κs =
     let a = c .before .before .before .before .before .before .before .before .args in
     let bit = c .before .before .before .before .before .before .bit in
     (omega (arith, bit-deep (a .depth) (a .s .now) (a .w .ok) (a .w .at) (bit .ensures) (c .before .before .before .before .if2 .taken)), (c .before .before .before .before .before .before .before .before .pre .1 .0, c .before .loop .inv .1))
 
-descend-sub-left : (t : ℕ) → descend-lts.Need-sub-left (
-  bit-reads.Asked,
-  bit-reads.Learnt,
-  children-reads.Asked,
-  children-reads.Learnt,
-  descend-below t,
-  descend.Post,
-) (descend-at t) descend.Post descend-Inv-loop descend-μ-loop
+descend-sub-left : (t : ℕ) → descend-lts.Need-sub-left (descend-claims t) (descend-at t) descend.Post descend-Inv-loop descend-μ-loop
 descend-sub-left t c =
     search needs
 
-descend-loop-less : (t : ℕ) → descend-lts.Need-loop-less (
-  bit-reads.Asked,
-  bit-reads.Learnt,
-  children-reads.Asked,
-  children-reads.Learnt,
-  descend-below t,
-  descend.Post,
-) (descend-at t) descend.Post descend-Inv-loop descend-μ-loop
+descend-loop-less : (t : ℕ) → descend-lts.Need-loop-less (descend-claims t) (descend-at t) descend.Post descend-Inv-loop descend-μ-loop
 descend-loop-less t c =
     search needs
 
-descend-loop-again : (t : ℕ) → descend-lts.Need-loop-again (
-  bit-reads.Asked,
-  bit-reads.Learnt,
-  children-reads.Asked,
-  children-reads.Learnt,
-  descend-below t,
-  descend.Post,
-) (descend-at t) descend.Post descend-Inv-loop descend-μ-loop
+descend-loop-again : (t : ℕ) → descend-lts.Need-loop-again (descend-claims t) (descend-at t) descend.Post descend-Inv-loop descend-μ-loop
 descend-loop-again t c =
     let a = c .before .before .before .before .before .before .before .before .before .args in
     (siblings-more (a .shape) _ (a .s .now) (c .before .before .loop .left) (asWalk (c .before .before .loop .v)) _ (c .before .loop-test .taken) (c .descend .ensures .0) ∙ c .before .before .loop .inv .0, c .descend .ensures .1)
 
-descend-returns-2 : (t : ℕ) → descend-lts.Need-returns-2 (
-  bit-reads.Asked,
-  bit-reads.Learnt,
-  children-reads.Asked,
-  children-reads.Learnt,
-  descend-below t,
-  descend.Post,
-) (descend-at t) descend.Post descend-Inv-loop descend-μ-loop
+descend-returns-2 : (t : ℕ) → descend-lts.Need-returns-2 (descend-claims t) (descend-at t) descend.Post descend-Inv-loop descend-μ-loop
 descend-returns-2 t c =
     let a = c .before .before .before .before .before .before .before .before .args in
     let bit = c .before .before .before .before .before .before .bit in
     (others-done (a .shape) (a .s .now) (asWalk (a .w)) _ (a .depth) _ _ (c .before .before .before .before .before .before .before .before .pre .1 .0) (bit .ensures) (c .before .before .before .before .if2 .taken) (c .loop-test .left) (c .before .before .children .ensures) (c .before .loop .inv .0), c .before .loop .inv .1)
 
-descend-returns-3 : (t : ℕ) → descend-lts.Need-returns-3 (
-  bit-reads.Asked,
-  bit-reads.Learnt,
-  children-reads.Asked,
-  children-reads.Learnt,
-  descend-below t,
-  descend.Post,
-) (descend-at t) descend.Post descend-Inv-loop descend-μ-loop
+descend-returns-3 : (t : ℕ) → descend-lts.Need-returns-3 (descend-claims t) (descend-at t) descend.Post descend-Inv-loop descend-μ-loop
 descend-returns-3 t c =
     let a = c .before .before .before .before .args in
     let bit = c .before .before .bit in
     (walk-halts (a .shape) upright (a .s .now) (asWalk (a .w)) (a .depth) (bit .ensures) (c .before .if1 .left) (c .if2 .left), record { within = omega arith; few = omega arith })
 
 pub +descend-spec : {M : Type 1} → statement M
-+descend-spec = close μ-descend λ t. descend-lts.spec (
-  bit-reads.Asked,
-  bit-reads.Learnt,
-  children-reads.Asked,
-  children-reads.Learnt,
-  descend-below t,
-  descend.Post,
-)
++descend-spec = close μ-descend λ t. descend-lts.spec (descend-claims t)
     (descend-at t)
     descend.Post
     descend-Inv-loop

@@ -1,0 +1,2 @@
+-- The checks of a message's ghosts.
+pub mod Means

@@ -1,0 +1,2 @@
+// Faces of triangles.
+pub mod face;

@@ -3,7 +3,7 @@ use Prim.Native.Nat.{ℕ, _+_, _-_, _*_, _%_, _≤_, _<_}
 use native.Mathlib.Numerals.{add-one}
 use native.Mathlib.Omega.{arith}
 use mathlib.Core.Path.{_≡_, refl, sym, ap, _∙_}
-use mathlib.Core.Bool.{Bool, true, false, _&&_, _||_, and-false}
+use mathlib.Core.Bool.{Bool, true, false, not, _&&_, _||_, and-false}
 use mathlib.Core.List.{List}
 use lib.Dec.{leb, ltb, eqb}
 use borrow.Author.Tests.{ltb-true, leb-true, leb-false, lt-ltb, le-ltb}
@@ -34,6 +34,10 @@ within-is first n k {p} h l e =
     let b : k < first = leb-false first k q in
     let d : p ≡ k + (4294967296 - first) = omega (arith, e) in
     rw (q, le-ltb p n (omega (arith, d))))
+
+-- no more, or less
+not-leb : (a b : ℕ) → not (leb a b) ≡ ltb b a
+not-leb a b = either (leb a b) (λ q. rw q (sym (le-ltb b a (omega tests)))) (λ q. rw q (sym (lt-ltb b a (omega tests))))
 
 -- ---- the index
 
@@ -73,9 +77,9 @@ module _ (bs : List ℕ) (at g j f : ℕ) {k : ℕ} (read : k ≡ neighbourOf (p
   module _ {own : ℕ} (number : own ≡ numberOf (piece bs (at + coreSize * j) coreSize)) where
     -- whether the neighbour is held stands in a set
     module _ {h : Bool} (held : h ≡ anyBelow g (ghostHas (coreFrom bs at) k)) where
-      pub up-ghost : {b : Bool} (first n : ℕ) → b ≡ inRange first (first + n) k → (b || (h && ltb own k)) ≡ ghostUp first n g (coreFrom bs at) j f
+      pub up-ghost : {b : Bool} (first n : ℕ) → b ≡ inRange first (first + n) k → (b || (h && not (leb k own))) ≡ ghostUp first n g (coreFrom bs at) j f
       unfolding ghostUp coreFrom
-      up-ghost first n e = rw (← read, ← number, held, e)
+      up-ghost first n e = rw (← read, ← number, held, e, not-leb k own)
 
       pub down-ghost : (h && ltb k own) ≡ ghostDown g (coreFrom bs at) j f
       unfolding ghostDown coreFrom
@@ -100,13 +104,15 @@ module _ (bs : List ℕ) (at g j f : ℕ) {k : ℕ} (read : k ≡ neighbourOf (p
   unfolding coreFrom
   here = sym read
 
-  -- a ghost that is listed is there
-  pub listed-there : {p : ℕ} → ghostListed g (coreFrom bs at) j f ≡ true → p ≡ leastBelow g (ghostHas (coreFrom bs at) k) → p < g
+  -- a ghost that is listed is held, and there
+  pub listed-held : ghostListed g (coreFrom bs at) j f ≡ true → anyBelow g (ghostHas (coreFrom bs at) k) ≡ true
   unfolding ghostListed
-  listed-there e position =
+  listed-held e =
       let same : neighbourOf (coreFrom bs at j) f ≡ k = here in
-      let held : anyBelow g (ghostHas (coreFrom bs at) k) ≡ true = rw same at (and-fst (anyBelow g (ghostHas (coreFrom bs at) (neighbourOf (coreFrom bs at j) f))) _ e) in
-      rw position (least-lt g (ghostHas (coreFrom bs at) k) held)
+      rw same at (and-fst (anyBelow g (ghostHas (coreFrom bs at) (neighbourOf (coreFrom bs at j) f))) _ e)
+
+  pub listed-there : {p : ℕ} → ghostListed g (coreFrom bs at) j f ≡ true → p ≡ leastBelow g (ghostHas (coreFrom bs at) k) → p < g
+  listed-there e position = rw position (least-lt g (ghostHas (coreFrom bs at) k) (listed-held e))
 
 module _ (D g j : ℕ) (ghostly : ℕ → List ℕ) where
   pub not-listed : (f : ℕ) → ghostListed g ghostly j f ≡ false → ghostFaceDown (linkByDimension D) g ghostly j f ≡ true

@@ -1,6 +1,8 @@
 // Ghosts that stand ascending from byte `at` on, with their neighbours as global numbers and the index of their own numbers. A link that leads up, to a tree of the range or to a higher ghost, is only counted; one to a ghost that isn't higher has to obey the rules.
-use mesh::link::link_ok;
+use mesh::link::answered_there;
+use mesh::link::corners_fit;
 use mesh::link::orientation_ok;
+use mesh::link::parted;
 use mesh::sound::Links;
 use mesh::sound::Seen;
 use mesh::sound::one;
@@ -101,8 +103,9 @@ fn sorted(
         }
         let inside = within(first, count, k);
         let held = bits::set::in_set(marks, k);
-        list = pushed(list, face, held & (k <= own));
-        ups += one(inside | (held & (own < k)));
+        let low = k <= own;
+        list = pushed(list, face, held & low);
+        ups += one(inside | (held & !low));
         downs += one(held & (k < own));
         met = met | inside;
         face += 1;
@@ -113,6 +116,26 @@ fn sorted(
         ups,
         downs,
     }
+}
+
+// The rule of a link, as `mesh::link::link_ok` has it: a function with one caller costs no call.
+fn link_down(bs: &[u8], dimension: u32, back: u32, from: usize, face: u32, to: usize) -> bool
+    requires { ⌜ (from + coreSize ≤ length (now bs)) × (face < 6) × (to + coreSize ≤ length (now bs)) ⌝ }
+    ensures { λ r. ⌜ r ≡ linkByDimension dimension back (piece (now (bs .entry)) from coreSize) face (piece (now (bs .entry)) to coreSize) ⌝ }
+{
+    let code = records::read::code_of(bs, from, face);
+    let across = parted(dimension, code);
+    let there = across.face;
+    if !answered_there(bs, back, code, face, to, there) {
+        return false;
+    }
+    corners_fit(
+        across.orientation,
+        records::read::shape_of(bs, from),
+        face,
+        records::read::shape_of(bs, to),
+        there,
+    )
 }
 
 // A link to a ghost that isn't higher.
@@ -138,8 +161,8 @@ fn face_linked(
     if !records::form::boundary_ok(bs, from, own, face) {
         return false;
     }
-    let position = positions::index::find(marks, behind, ghosts, GlobalIndex(k));
-    link_ok(
+    let position = positions::index::find_member(marks, behind, ghosts, GlobalIndex(k));
+    link_down(
         bs,
         dimension,
         own,

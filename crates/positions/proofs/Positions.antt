@@ -289,6 +289,10 @@ in-past : (ws : List ℕ) (k : ℕ) → length ws ≤ k / 64 → inSet ws k ≡ 
 unfolding inSet
 in-past ws k h = rw (List·getD-eq-default ws 0 h) (bit-zero (k % 64))
 
+-- a member is within the words
+pub member-low : (ws : List ℕ) (k : ℕ) → inSet ws k ≡ true → k < 64 * length ws
+member-low ws k e = either (ltb k (64 * length ws)) (λ p. ltb-true k (64 * length ws) p) (λ p. clash e (in-past ws k (omega tests)))
+
 pub member-past : (ws : List ℕ) (count k : ℕ) → length ws ≤ k / 64 → (count ≡ memberPosition ws count k) × (count ≤ count)
 unfolding memberPosition
 member-past ws count k h = (rw (in-past ws k h), omega arith)

@@ -4,6 +4,7 @@ use bits::word::ones;
 use encoding::bytes::read_u32;
 use records::index::GlobalIndex;
 ghost use mathlib.Core.Path.{_≡_};
+ghost use mathlib.Core.Bool.{true};
 ghost use Prim.Native.Nat.{_*_, _≤_, _<_};
 ghost use lib.ListN.{length};
 ghost use Rattle.encoding.specs.Below.{countBelow};
@@ -86,4 +87,12 @@ pub fn find(marks: &[u64], behind: &[u32], count: u32, number: GlobalIndex) -> u
         return count;
     }
     members_below(marks, behind, count, k)
+}
+
+// The same for a number that is known to be a member.
+pub fn find_member(marks: &[u64], behind: &[u32], count: u32, number: GlobalIndex) -> u32
+    requires { ⌜ Counts (now marks) (now behind) count × (inSet (now marks) (number .0) ≡ true) ⌝ }
+    ensures { λ r. ⌜ (r ≡ memberPosition (now (marks .entry)) count (number .0)) × (r ≤ count) ⌝ }
+{
+    members_below(marks, behind, count, number.0)
 }

@@ -1,6 +1,7 @@
-use Rattle.ghost_links.proofs.Checking.{position-is, answered-not, answered-read, listed-there}
+use Rattle.ghost_links.proofs.Checking.{marked-is, position-is, answered-not, answered-read, listed-held, listed-there}
 use borrow.Author.Tests.{not-true, not-false}
 use native.Mathlib.Omega.{arith}
+use mathlib.Core.Path.{_∙_}
 use borrow.Author.Needs.{needs}
 use Rattle.ghost_links.proofs.check.face_linked.Statement.{statement}
 use Rattle.ghost_links.proofs.check.face_linked.Tie as tie
@@ -27,23 +28,26 @@ returns c =
     let boundary-ok = c .before .boundary-ok in
     answered-not _ _ _ _ _ (neighbour-of .ensures) (number-of .ensures) _ (boundary-ok .ensures) (not-true _ (c .if1 .taken))
 
-find-requires : tie.Need-find-requires
-find-requires c κs = c .before .before .before .before .before .before .before .pre .0 .indexed .counted
+find-member-requires : tie.Need-find-member-requires
+find-member-requires c κs =
+    let pre = c .before .before .before .before .before .before .before .pre in
+    let neighbour-of = c .before .before .neighbour-of in
+    (pre .0 .indexed .counted, marked-is _ _ (pre .0 .indexed) _ ∙ listed-held _ _ _ _ _ (neighbour-of .ensures) (pre .3))
 
-cast-link-ok : tie.Need-cast-link-ok
-cast-link-ok c = search needs
+cast-link-down : tie.Need-cast-link-down
+cast-link-down c = search needs
 
-mul-link-ok : tie.Need-mul-link-ok
-mul-link-ok c = search needs
+mul-link-down : tie.Need-mul-link-down
+mul-link-down c = search needs
 
-add-link-ok : tie.Need-add-link-ok
-add-link-ok c = search needs
+add-link-down : tie.Need-add-link-down
+add-link-down c = search needs
 
-link-ok-requires : tie.Need-link-ok-requires
-link-ok-requires c κs =
+link-down-requires : tie.Need-link-down-requires
+link-down-requires c κs =
     let pre = c .before .before .before .before .before .before .before .before .pre in
     let neighbour-of = c .before .before .before .neighbour-of in
-    (search needs, search needs, omega (arith, pre .0 .fits, listed-there _ _ _ _ _ (neighbour-of .ensures) (pre .3) (position-is _ _ (pre .0 .indexed) _ (c .find .ensures .0))))
+    (search needs, search needs, omega (arith, pre .0 .fits, listed-there _ _ _ _ _ (neighbour-of .ensures) (pre .3) (position-is _ _ (pre .0 .indexed) _ (c .find-member .ensures .0))))
 
 returns-2 : tie.Need-returns-2
 returns-2 c =
@@ -52,8 +56,8 @@ returns-2 c =
     let boundary-ok = c .before .before .before .boundary-ok in
     let if1 = c .before .before .if1 in
     let pre = c .before .before .before .before .before .before .before .before .before .pre in
-    let find = c .before .find in
-    answered-read _ _ _ _ _ (neighbour-of .ensures) (number-of .ensures) _ (boundary-ok .ensures) (not-false _ (if1 .left)) (position-is _ _ (pre .0 .indexed) _ (find .ensures .0)) (c .link-ok .ensures)
+    let find-member = c .before .find-member in
+    answered-read _ _ _ _ _ (neighbour-of .ensures) (number-of .ensures) _ (boundary-ok .ensures) (not-false _ (if1 .left)) (position-is _ _ (pre .0 .indexed) _ (find-member .ensures .0)) (c .link-down .ensures)
 
 pub face-linked-spec : {M : Type 1} → statement M
 face-linked-spec =
@@ -65,9 +69,9 @@ face-linked-spec =
     neighbour-of-requires
     boundary-ok-requires
     returns
-    find-requires
-    cast-link-ok
-    mul-link-ok
-    add-link-ok
-    link-ok-requires
+    find-member-requires
+    cast-link-down
+    mul-link-down
+    add-link-down
+    link-down-requires
     returns-2)

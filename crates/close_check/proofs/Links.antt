@@ -14,7 +14,7 @@ use Rattle.mesh.specs.Link.{linkOk}
 use Rattle.part.specs.Means.{isLocal, ghostIs, held, heldCore, treeLink, ghostLink, inRange, neighbourIn, ghostHas}
 use Rattle.mesh.specs.Means.{linkByDimension, linkBetween}
 use Rattle.part.proofs.Views.{core-tree}
-use Rattle.ghost_links.proofs.Checking.{within-is}
+use Rattle.part.proofs.Ranges.{range-wraps}
 use Rattle.close_check.specs.Means.{treeFrom, ghostFrom, Slots, treeTo, linkOfTree, ghostTo, linkOfGhost, treeLeadsUp, treeLeadsDown, treeFace}
 
 link-is : (core : ℕ → List ℕ) (k f : ℕ) → linkOk core k f ≡ linkBetween k (core k) f (core (neighbourOf (core k) f))
@@ -89,13 +89,19 @@ module _ (a : List ℕ) (at first n i f : ℕ) {k : ℕ} (read : k ≡ neighbour
       out-face e = rw (← out-up) (sym e)
 
   module _ {p : ℕ} (few : first + n ≤ 4294967296) (word : k < 4294967296) (placed : p ≡ (0 + k + (4294967296 - first)) % 4294967296) where
+    place-tells : ltb p n ≡ inRange first (first + n) k
+    place-tells =
+        let length : first + n - first ≡ n = omega arith in
+        let same : p ≡ (k + (4294967296 - first)) % 4294967296 = omega (arith, placed) in
+        rw (same, ← length) (range-wraps first (first + n) k (omega arith) few word)
+
     pub place-out : n ≤ p → inRange first (first + n) k ≡ false
-    place-out h = sym (within-is first n k few word placed) ∙ le-ltb p n h
+    place-out h = sym place-tells ∙ le-ltb p n h
 
     -- a number in the range
     module _ (h : p < n) where
       in-range : inRange first (first + n) k ≡ true
-      in-range = sym (within-is first n k few word placed) ∙ lt-ltb p n h
+      in-range = sym place-tells ∙ lt-ltb p n h
 
       place-is : k ≡ first + p
       unfolding inRange

@@ -1,15 +1,15 @@
 -- What the functions that look at the links of ghosts find is what the definitions say.
-use Prim.Native.Nat.{ℕ, _+_, _-_, _*_, _%_, _≤_, _<_}
+use Prim.Native.Nat.{ℕ, _+_, _-_, _*_, _≤_, _<_}
 use native.Mathlib.Numerals.{add-one}
 use native.Mathlib.Omega.{arith}
 use mathlib.Core.Path.{_≡_, refl, sym, ap, _∙_}
 use mathlib.Core.Bool.{Bool, true, false, not, _&&_, _||_, and-false}
 use mathlib.Core.List.{List}
 use lib.Dec.{leb, ltb, eqb}
-use borrow.Author.Tests.{ltb-true, leb-true, leb-false, lt-ltb, le-ltb}
+use borrow.Author.Tests.{ltb-true, lt-ltb, le-ltb}
 use Rattle.encoding.specs.Below.{allBelow, anyBelow, countBelow, leastBelow, sumBelow}
 use Rattle.encoding.specs.Pieces.{piece}
-use Rattle.encoding.proofs.Below.{tests, either, clash, iff-eq, all-fails, all-to, and-fst, any-same, least-lt, least-same}
+use Rattle.encoding.proofs.Below.{tests, either, clash, all-fails, all-to, and-fst, any-same, least-lt, least-same}
 use Rattle.bits.specs.Bits.{inSet}
 use Rattle.records.specs.Shape.{faceCount}
 use Rattle.records.specs.Record.{coreSize, numberOf, shapeOf, neighbourOf, boundaryOk, inForm}
@@ -20,20 +20,6 @@ use Rattle.part.specs.Means.{inRange, neighbourIn, numberAt, ghostHas}
 use Rattle.positions.specs.Means.{hasNumber, someHas, positionOf, memberPosition, Indexed}
 use Rattle.positions.proofs.Positions.{index-position}
 use Rattle.ghost_links.specs.Means.{coreFrom, formAlone, ghostUp, ghostDown, ghostListed, ghostUps, ghostDowns, ghostLow, ghostAnswered, ghostFaceDown, ghostFromOneEnd, Formed, SummedAs}
-
--- one comparison of numbers of 32 bits
-pub within-is : (first n k : ℕ) {p : ℕ} → first + n ≤ 4294967296 → k < 4294967296 → p ≡ (0 + k + (4294967296 - first)) % 4294967296 → ltb p n ≡ inRange first (first + n) k
-unfolding inRange
-within-is first n k {p} h l e =
-    either (leb first k)
-    (λ q.
-    let b : first ≤ k = leb-true first k q in
-    let d : p ≡ k - first = omega (arith, e) in
-    rw (q, d) (iff-eq (ltb (k - first) n) (ltb k (first + n)) (λ t. lt-ltb k (first + n) (omega tests)) (λ t. lt-ltb (k - first) n (omega tests))))
-    (λ q.
-    let b : k < first = leb-false first k q in
-    let d : p ≡ k + (4294967296 - first) = omega (arith, e) in
-    rw (q, le-ltb p n (omega (arith, d))))
 
 -- no more, or less
 not-leb : (a b : ℕ) → not (leb a b) ≡ ltb b a
@@ -104,15 +90,13 @@ module _ (bs : List ℕ) (at g j f : ℕ) {k : ℕ} (read : k ≡ neighbourOf (p
   unfolding coreFrom
   here = sym read
 
-  -- a ghost that is listed is held, and there
-  pub listed-held : ghostListed g (coreFrom bs at) j f ≡ true → anyBelow g (ghostHas (coreFrom bs at) k) ≡ true
-  unfolding ghostListed
-  listed-held e =
-      let same : neighbourOf (coreFrom bs at j) f ≡ k = here in
-      rw same at (and-fst (anyBelow g (ghostHas (coreFrom bs at) (neighbourOf (coreFrom bs at j) f))) _ e)
-
+  -- a ghost that is listed is there
   pub listed-there : {p : ℕ} → ghostListed g (coreFrom bs at) j f ≡ true → p ≡ leastBelow g (ghostHas (coreFrom bs at) k) → p < g
-  listed-there e position = rw position (least-lt g (ghostHas (coreFrom bs at) k) (listed-held e))
+  unfolding ghostListed
+  listed-there e position =
+      let same : neighbourOf (coreFrom bs at j) f ≡ k = here in
+      let held : anyBelow g (ghostHas (coreFrom bs at) k) ≡ true = rw same at (and-fst (anyBelow g (ghostHas (coreFrom bs at) (neighbourOf (coreFrom bs at j) f))) _ e) in
+      rw position (least-lt g (ghostHas (coreFrom bs at) k) held)
 
 module _ (D g j : ℕ) (ghostly : ℕ → List ℕ) where
   pub not-listed : (f : ℕ) → ghostListed g ghostly j f ≡ false → ghostFaceDown (linkByDimension D) g ghostly j f ≡ true

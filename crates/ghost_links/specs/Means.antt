@@ -7,6 +7,7 @@ use lib.Dec.{leb, ltb, eqb}
 use lib.ListN.{length}
 use Rattle.encoding.specs.Below.{allBelow, anyBelow, countBelow, leastBelow}
 use Rattle.encoding.specs.Pieces.{piece}
+use Rattle.offsets.specs.Limits.{maxTrees}
 use Rattle.records.specs.Shape.{dimensionOf, faceCount, shapeOk}
 use Rattle.records.specs.Record.{coreSize, numberOf, shapeOf, neighbourOf, regionOk, zerosOk, boundaryOk, inForm}
 use Rattle.mesh.specs.Link.{orientationOk}
@@ -65,7 +66,7 @@ module _ (link : ℕ → List ℕ → ℕ → List ℕ → Bool) (g : ℕ) (ghos
 -- ghosts that stand ascending from byte at, and the index of their numbers, with room for every number below K
 pub record GhostsMarked (bs : List ℕ) (at g first n K : ℕ) (marks behind : List ℕ) : Type 0 where
   pub fits : at + coreSize * g ≤ length bs
-  pub low : first + n ≤ 4294967296
+  pub low : first + n ≤ maxTrees
   pub room : K ≤ 64 * length marks
   pub indexed : Indexed bs at g marks behind
 

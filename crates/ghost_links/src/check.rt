@@ -8,7 +8,7 @@ use mesh::sound::Seen;
 use mesh::sound::one;
 use mesh::sound::pushed;
 use mesh::sound::refused;
-use part::layout::place_near;
+use part::range::within;
 use records::index::GlobalIndex;
 ghost use mathlib.Core.Path.{_≡_};
 ghost use mathlib.Core.Bool.{true, _&&_};
@@ -18,7 +18,7 @@ ghost use Rattle.encoding.specs.Below.{allBelow, anyBelow, countBelow, sumBelow
 ghost use Rattle.encoding.specs.Pieces.{piece};
 ghost use Rattle.records.specs.Record.{coreSize, numberOf, inForm};
 ghost use Rattle.mesh.specs.Means.{linkByDimension, packed, unusedFrom, SeenAs};
-ghost use Rattle.part.specs.Means.{inRange, neighbourIn};
+ghost use Rattle.part.specs.Means.{neighbourIn};
 ghost use Rattle.ghost_links.specs.Means.{coreFrom, formAlone, ghostUp, ghostDown, ghostListed, ghostUps, ghostDowns, ghostLow, ghostAnswered, ghostFaceDown, ghostFromOneEnd, GhostsMarked, Formed, SummedAs};
 
 // The faces that the shape doesn't have.
@@ -60,14 +60,6 @@ fn alone_by(bs: &[u8], dimension: u32, formed: bool, at: usize) -> bool
     alone(bs, dimension, at)
 }
 
-// Whether a tree is in the range, by one comparison.
-fn within(first: u32, count: u32, tree: u32) -> bool
-    requires { ⌜ first + count ≤ 4294967296 ⌝ }
-    ensures { λ r. ⌜ r ≡ inRange first (first + count) tree ⌝ }
-{
-    place_near(0, first, tree) < count
-}
-
 // The links of a ghost, sorted: those to ghosts that aren't higher as digits to base 8, and how many lead up and down; and whether one leads into the range. No branch hangs on where a link leads: with random links it would be guessed wrong every second time.
 fn sorted(
     bs: &[u8],
@@ -86,6 +78,7 @@ fn sorted(
 {
     let from = at + 40 * (j as usize);
     let own = records::read::number_of(bs, from);
+    let end = first + count;
     let mut face = 0;
     let mut list = 0;
     let mut ups = 0;
@@ -101,7 +94,7 @@ fn sorted(
                 downs: 0,
             };
         }
-        let inside = within(first, count, k);
+        let inside = within(first, end, k);
         let held = bits::set::in_set(marks, k);
         let low = k <= own;
         list = pushed(list, face, held & low);
@@ -161,7 +154,7 @@ fn face_linked(
     if !records::form::boundary_ok(bs, from, own, face) {
         return false;
     }
-    let position = positions::index::find_member(marks, behind, ghosts, GlobalIndex(k));
+    let position = positions::index::find_near(bs, at, marks, behind, ghosts, j, GlobalIndex(k));
     link_down(
         bs,
         dimension,

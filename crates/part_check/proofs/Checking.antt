@@ -19,12 +19,12 @@ use Rattle.offsets.proofs.Tables.{count-add, end-trees, trees-high}
 use Rattle.part.specs.Layout.{treePlace, ghostPlace, partSize}
 use Rattle.positions.specs.Means.{hasNumber, positionOf, memberPosition, Numbered, Indexed}
 use Rattle.positions.proofs.Positions.{index-position}
-use Rattle.part.specs.Means.{viewSound, inRange, numberAt, Ascending, ghostCore, ghostHas, RankKnown, partLinked}
+use Rattle.part.specs.Means.{recordPlace, viewSound, inRange, numberAt, Ascending, ghostCore, ghostHas, RankKnown, partLinked}
 use Rattle.part.proofs.Sound.{part-sound-is}
 use Rattle.part.specs.Part.{partDimension, partK, partFirst, partCount, partGhostCount, storedTree, storedGhost, globalNumber, globalTree, partHeaderSound, partSound}
 use Rattle.mesh.specs.Means.{linkByDimension, SeenAs}
 use Rattle.ghost_links.specs.Means.{formAlone, ghostUps, ghostDowns, ghostFromOneEnd, SummedAs, coreFrom, GhostsMarked}
-use Rattle.part_check.specs.Means.{recordPlace, treeTo, treeFace, treeFits, treeNumbered, ghostBehind, ghostNumbered, numbersSound, recordsSound, treeUp, treeDown, treeUps, treeDowns, evenLinks, treeFaceDown, treeFromOneEnd, treeSeen, recordsFromOneEnd, PartLaid, PartNumbered, PartCounted, TreeKnown}
+use Rattle.part_check.specs.Means.{treeTo, treeFace, treeFits, treeNumbered, ghostBehind, ghostNumbered, numbersSound, recordsSound, treeUp, treeDown, treeUps, treeDowns, evenLinks, treeFaceDown, treeFromOneEnd, treeSeen, recordsFromOneEnd, PartLaid, PartNumbered, PartCounted, TreeKnown}
 use Rattle.part.proofs.Global.{global-alike, global-neighbour}
 use Rattle.part_check.proofs.Judging.{numbered-few, ghosts-ascend, lookedUp, Seen, view-is}
 use Rattle.part_check.proofs.FromOneEnd.{trees-seen, records-from-one-end}

@@ -10,7 +10,7 @@ use Rattle.offsets.specs.Limits.{maxTrees}
 use Rattle.records.specs.Shape.{dimensionOf, faceCount}
 use Rattle.records.specs.Record.{numberOf, shapeOf, neighbourOf, boundaryOk, inForm}
 use Rattle.mesh.specs.Link.{orientationOk}
-use Rattle.part.specs.Layout.{treePlace, ghostPlace, partSize}
+use Rattle.part.specs.Layout.{partSize}
 use Rattle.part.specs.Part.{storedTree}
 use Rattle.ghost_links.specs.Means.{formAlone, ghostUps, ghostDowns, ghostFromOneEnd}
 use Rattle.part.specs.Means.{inRange, neighbourIn, ghostCore, ghostHas}
@@ -34,10 +34,6 @@ module _ (link : ℕ → List ℕ → ℕ → List ℕ → Bool) (n g : ℕ) (tr
   unfoldable pub treeStored : ℕ → ℕ → Bool
   treeStored dimension i =
       inForm i (tree i) && eqb (dimensionOf (shapeOf (tree i))) dimension && allBelow (faceCount (shapeOf (tree i))) (treeFace i)
-
--- where the record with local index j begins
-unfoldable pub recordPlace : ℕ → ℕ → ℕ
-recordPlace n j = cond (ltb j n) (treePlace j) (ghostPlace n (j - n))
 
 -- tree i has its number
 unfoldable pub treeNumbered : ℕ → (ℕ → List ℕ) → ℕ → Bool

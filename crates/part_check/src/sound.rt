@@ -30,10 +30,10 @@ ghost use Rattle.offsets.specs.Limits.{maxTrees};
 ghost use Rattle.records.specs.Record.{coreSize, neighbourOf};
 ghost use Rattle.part.specs.Layout.{treePlace, ghostPlace, partSize};
 ghost use Rattle.part.specs.Part.{partCount, partGhostCount, storedTree, partHeaderSound, partSound};
-ghost use Rattle.part.specs.Means.{Ascending, ghostCore, ghostHas, RankKnown};
+ghost use Rattle.part.specs.Means.{recordPlace, Ascending, ghostCore, ghostHas, RankKnown};
 ghost use Rattle.mesh.specs.Means.{linkByDimension, SeenAs};
 ghost use Rattle.ghost_links.specs.Means.{ghostUps, ghostDowns, ghostFromOneEnd, SummedAs};
-ghost use Rattle.part_check.specs.Means.{recordPlace, treeFits, treeNumbered, ghostBehind, ghostNumbered, treeUp, treeDown, treeUps, treeDowns, treeFaceDown, treeSeen, recordsSound, PartLaid, PartNumbered, PartCounted, TreeKnown};
+ghost use Rattle.part_check.specs.Means.{treeFits, treeNumbered, ghostBehind, ghostNumbered, treeUp, treeDown, treeUps, treeDowns, treeFaceDown, treeSeen, recordsSound, PartLaid, PartNumbered, PartCounted, TreeKnown};
 
 // Whether the header is as table and rank say, and the length as the header says.
 pub fn header_sound(part: &[u8], table: &[u8], rank: u32) -> bool

@@ -289,10 +289,6 @@ in-past : (ws : List ℕ) (k : ℕ) → length ws ≤ k / 64 → inSet ws k ≡ 
 unfolding inSet
 in-past ws k h = rw (List·getD-eq-default ws 0 h) (bit-zero (k % 64))
 
--- a member is within the words
-pub member-low : (ws : List ℕ) (k : ℕ) → inSet ws k ≡ true → k < 64 * length ws
-member-low ws k e = either (ltb k (64 * length ws)) (λ p. ltb-true k (64 * length ws) p) (λ p. clash e (in-past ws k (omega tests)))
-
 pub member-past : (ws : List ℕ) (count k : ℕ) → length ws ≤ k / 64 → (count ≡ memberPosition ws count k) × (count ≤ count)
 unfolding memberPosition
 member-past ws count k h = (rw (in-past ws k h), omega arith)
@@ -335,3 +331,8 @@ index-position {bs} {at} {count} {ws} x k =
     let number : numberAt bs at (found .0) ≡ k = has-is bs at count (x .ascending) k (found .0) (found .2) in
     rw t (index-smaller x k ∙ smaller-is bs at count (x .ascending) k (found .0) (found .1) number ∙ found-is bs at count (x .ascending) k (found .0) (found .1) number))
     (λ f. rw f (none-is bs at count (x .ascending) k (sym (x .members k) ∙ f)))
+
+-- a record with the number is where it is looked up
+pub position-near : {bs : List ℕ} {at count : ℕ} {ws behind : List ℕ} → Indexed bs at count ws behind → {k p number : ℕ} → p < count → number ≡ u32At bs (at + coreSize * p) → number ≡ k → (p ≡ memberPosition ws count k) × (p ≤ count)
+unfolding numberAt
+position-near {bs} {at} {count} x {k} {p} h e d = (found-is bs at count (x .ascending) k p h (sym e ∙ d) ∙ sym (index-position x k), omega arith)

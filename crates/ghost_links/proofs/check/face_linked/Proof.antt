@@ -1,7 +1,6 @@
-use Rattle.ghost_links.proofs.Checking.{marked-is, position-is, answered-not, answered-read, listed-held, listed-there}
+use Rattle.ghost_links.proofs.Checking.{position-is, answered-not, answered-read, listed-there}
 use borrow.Author.Tests.{not-true, not-false}
 use native.Mathlib.Omega.{arith}
-use mathlib.Core.Path.{_∙_}
 use borrow.Author.Needs.{needs}
 use Rattle.ghost_links.proofs.check.face_linked.Statement.{statement}
 use Rattle.ghost_links.proofs.check.face_linked.Tie as tie
@@ -28,11 +27,10 @@ returns c =
     let boundary-ok = c .before .boundary-ok in
     answered-not _ _ _ _ _ (neighbour-of .ensures) (number-of .ensures) _ (boundary-ok .ensures) (not-true _ (c .if1 .taken))
 
-find-member-requires : tie.Need-find-member-requires
-find-member-requires c κs =
+find-near-requires : tie.Need-find-near-requires
+find-near-requires c κs =
     let pre = c .before .before .before .before .before .before .before .pre in
-    let neighbour-of = c .before .before .neighbour-of in
-    (pre .0 .indexed .counted, marked-is _ _ (pre .0 .indexed) _ ∙ listed-held _ _ _ _ _ (neighbour-of .ensures) (pre .3))
+    (pre .0 .indexed, pre .1)
 
 cast-link-down : tie.Need-cast-link-down
 cast-link-down c = search needs
@@ -47,7 +45,7 @@ link-down-requires : tie.Need-link-down-requires
 link-down-requires c κs =
     let pre = c .before .before .before .before .before .before .before .before .pre in
     let neighbour-of = c .before .before .before .neighbour-of in
-    (search needs, search needs, omega (arith, pre .0 .fits, listed-there _ _ _ _ _ (neighbour-of .ensures) (pre .3) (position-is _ _ (pre .0 .indexed) _ (c .find-member .ensures .0))))
+    (search needs, search needs, omega (arith, pre .0 .fits, listed-there _ _ _ _ _ (neighbour-of .ensures) (pre .3) (position-is _ _ (pre .0 .indexed) _ (c .find-near .ensures .0))))
 
 returns-2 : tie.Need-returns-2
 returns-2 c =
@@ -56,8 +54,8 @@ returns-2 c =
     let boundary-ok = c .before .before .before .boundary-ok in
     let if1 = c .before .before .if1 in
     let pre = c .before .before .before .before .before .before .before .before .before .pre in
-    let find-member = c .before .find-member in
-    answered-read _ _ _ _ _ (neighbour-of .ensures) (number-of .ensures) _ (boundary-ok .ensures) (not-false _ (if1 .left)) (position-is _ _ (pre .0 .indexed) _ (find-member .ensures .0)) (c .link-down .ensures)
+    let find-near = c .before .find-near in
+    answered-read _ _ _ _ _ (neighbour-of .ensures) (number-of .ensures) _ (boundary-ok .ensures) (not-false _ (if1 .left)) (position-is _ _ (pre .0 .indexed) _ (find-near .ensures .0)) (c .link-down .ensures)
 
 pub face-linked-spec : {M : Type 1} → statement M
 face-linked-spec =
@@ -69,7 +67,7 @@ face-linked-spec =
     neighbour-of-requires
     boundary-ok-requires
     returns
-    find-member-requires
+    find-near-requires
     cast-link-down
     mul-link-down
     add-link-down

@@ -16,7 +16,7 @@ use Rattle.ghost_links.proofs.check.sorted.Statement.{statement}
 use Rattle.ghost_links.proofs.check.sorted.Tie as tie
 
 abbrev Inv-loop : tie.InvT-loop
-Inv-loop bs at ghosts first count trees marks behind j faces from own face₀ list₀ ups₀ downs₀ met₀ face list ups downs met = (face ≤ faces)
+Inv-loop bs at ghosts first count trees marks behind j faces from own end face₀ list₀ ups₀ downs₀ met₀ face list ups downs met = (face ≤ faces)
     × (allBelow face (ghostLow (coreFrom bs at) trees j) ≡ true)
     × (met ≡ anyBelow face (neighbourIn first (first + count) (coreFrom bs at j)))
     × ((ups ≡ countBelow face (ghostUp first count ghosts (coreFrom bs at) j)) × (ups ≤ face))
@@ -24,7 +24,7 @@ Inv-loop bs at ghosts first count trees marks behind j faces from own face₀ li
     × (list ≡ packed face (ghostListed ghosts (coreFrom bs at) j))
 
 abbrev μ-loop : tie.MeasureT-loop
-μ-loop bs at ghosts first count trees marks behind j faces from own face₀ list₀ ups₀ downs₀ met₀ face list ups downs met = faces - face
+μ-loop bs at ghosts first count trees marks behind j faces from own end face₀ list₀ ups₀ downs₀ met₀ face list ups downs met = faces - face
 
 mul-from : tie.Need-mul-from Inv-loop μ-loop
 mul-from c = search needs
@@ -34,6 +34,9 @@ add-from c = search needs
 
 number-of-requires : tie.Need-number-of-requires Inv-loop μ-loop
 number-of-requires c κs = search needs
+
+add-end : tie.Need-add-end Inv-loop μ-loop
+add-end c = omega (arith, c .before .before .before .before .pre .0 .low)
 
 loop-holds : tie.Need-loop-holds Inv-loop μ-loop
 unfolding allBelow anyBelow countBelow packed
@@ -53,7 +56,7 @@ returns c =
     (seen-refused (low-fails _ _ _ _ (loop-test .taken) (sym (low-read _ _ _ _ (neighbour-of .ensures) _ (orientation-ok .ensures)) ∙ not-true _ (c .if1 .taken))) (refl, (refl, refl)), λ e. clash e refl)
 
 within-requires : tie.Need-within-requires Inv-loop μ-loop
-within-requires c κs = c .before .before .before .before .before .before .before .before .before .pre .0 .low
+within-requires c κs = omega arith
 
 in-set-requires : tie.Need-in-set-requires Inv-loop μ-loop
 in-set-requires c κs = low-under _ _ _ (not-false _ (c .before .if1 .left)) (c .before .before .before .before .before .before .before .before .before .before .pre .0 .room)
@@ -115,6 +118,7 @@ sorted-spec =
     mul-from
     add-from
     number-of-requires
+    add-end
     loop-holds
     neighbour-of-requires
     orientation-ok-requires

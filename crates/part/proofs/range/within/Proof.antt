@@ -1,8 +1,8 @@
 use native.Mathlib.Omega.{arith}
-use Rattle.part_cut.proofs.Marking.{range-wraps}
+use Rattle.part.proofs.Ranges.{range-wraps}
 use borrow.Author.Needs.{needs}
-use Rattle.message_ghosts.proofs.read.within.Statement.{statement}
-use Rattle.message_ghosts.proofs.read.within.Tie as tie
+use Rattle.part.proofs.range.within.Statement.{statement}
+use Rattle.part.proofs.range.within.Tie as tie
 
 sub-result : tie.Need-sub-result
 sub-result c = search needs

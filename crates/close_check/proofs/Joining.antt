@@ -109,7 +109,7 @@ module _ (a : List ℕ) (bytes : Bytes a) (sound : areaSound a ≡ true) where
           below = held-ghosts .below;
           range = omega (arith, H .treesAre, range-trees a H);
           treesShaped = tree-shaped;
-          ghostsShaped = ghost-shaped;
+          ghostsFormed = held-ghosts .form;
           few = omega (arith, H .treesAre, trees-high (areaOld a) (H .tables .oldBytes) (H .tables .oldRanks) (H .tables .oldValid));
         }
 
@@ -169,9 +169,9 @@ module _ {a : List ℕ} (bytes : Bytes a) (C : Complete a (areaNew a)) {first P 
   unfolding areaFirst
   first-entry = is-first
 
-  pub slots-by : {marks behind : List ℕ} {K : ℕ} → GhostsIndexed a marks behind → K ≡ areaK a → SlotsNumbered a at first n g K × Indexed a (at + treeSize * n) g marks behind
+  pub slots-by : {marks behind : List ℕ} {K : ℕ} → GhostsIndexed a marks behind → K ≡ areaK a → areaK a ≤ 64 * length marks → SlotsNumbered a at first n g K × Indexed a (at + treeSize * n) g marks behind × (K ≤ 64 * length marks)
   unfolding ghostSlotsPlace
-  slots-by x k = (numbered-read a (areaNew a) bytes C refl first-entry is-P is-at is-n is-g k, rw (is-at, is-P, is-n, is-g) x)
+  slots-by x k room = (numbered-read a (areaNew a) bytes C refl first-entry is-P is-at is-n is-g k, rw (is-at, is-P, is-n, is-g) x, omega (arith, k))
 
   pub joined-by : {D K : ℕ} {r : Bool} → D ≡ areaDimension a → K ≡ areaK a → r ≡ recordsJoin (linkByDimension D) a at first n g D K → r ≡ joinSound a
   joined-by = join-read a (areaNew a) bytes C refl first-entry is-P is-at is-n is-g

@@ -5,16 +5,17 @@ use mathlib.Core.Path.{_≡_, refl, sym, _∙_}
 use mathlib.Core.Bool.{Bool, true, false}
 use mathlib.Core.List.{List}
 use lib.Dec.{leb, ltb}
-use borrow.Author.Tests.{leb-true, leb-false, eq-eqb, ne-eqb, lt-ltb, le-ltb}
+use borrow.Author.Tests.{leb-true, eq-eqb, ne-eqb, lt-ltb, le-ltb}
 use Rattle.encoding.specs.Below.{anyBelow, leastBelow}
 use Rattle.encoding.specs.Pieces.{piece}
-use Rattle.encoding.proofs.Below.{tests, either, and-fst, iff-eq, least-is}
+use Rattle.encoding.proofs.Below.{tests, and-fst, iff-eq, least-is}
 use Rattle.records.specs.Record.{coreSize, treeSize, numberOf, neighbourOf}
 use Rattle.mesh.specs.Link.{linkOk}
 use Rattle.part.specs.Means.{isLocal, ghostIs, held, heldCore, treeLink, ghostLink, inRange, neighbourIn, ghostHas}
 use Rattle.mesh.specs.Means.{linkByDimension, linkBetween}
 use Rattle.part.proofs.Views.{core-tree}
-use Rattle.close_check.specs.Means.{treeFrom, ghostFrom, Slots, treeTo, linkOfTree, ghostTo, linkOfGhost, treeLeadsUp, treeLeadsDown, treeFace, ghostListed, linkAmongGhosts, listedLink}
+use Rattle.part.proofs.Ranges.{range-wraps}
+use Rattle.close_check.specs.Means.{treeFrom, ghostFrom, Slots, treeTo, linkOfTree, ghostTo, linkOfGhost, treeLeadsUp, treeLeadsDown, treeFace}
 
 link-is : (core : ℕ → List ℕ) (k f : ℕ) → linkOk core k f ≡ linkBetween k (core k) f (core (neighbourOf (core k) f))
 unfolding linkOk linkBetween
@@ -52,20 +53,6 @@ module _ (a : List ℕ) (at first n g : ℕ) (S : Slots a at first n g) where
 
 -- ---- what the code finds of a tree's link
 
--- the place of a number among those from first on, by one comparison
-pub within-is : (first n k : ℕ) {p : ℕ} → first + n ≤ 4294967296 → k < 4294967296 → p ≡ (0 + k + (4294967296 - first)) % 4294967296 → ltb p n ≡ inRange first (first + n) k
-unfolding inRange
-within-is first n k {p} h l e =
-    either (leb first k)
-    (λ q.
-    let b : first ≤ k = leb-true first k q in
-    let d : p ≡ k - first = omega (arith, e) in
-    rw (q, d) (iff-eq (ltb (k - first) n) (ltb k (first + n)) (λ t. lt-ltb k (first + n) (omega tests)) (λ t. lt-ltb (k - first) n (omega tests))))
-    (λ q.
-    let b : k < first = leb-false first k q in
-    let d : p ≡ k + (4294967296 - first) = omega (arith, e) in
-    rw (q, le-ltb p n (omega (arith, d))))
-
 -- across face f of tree i is number k, at place p
 module _ (a : List ℕ) (at first n i f : ℕ) {k : ℕ} (read : k ≡ neighbourOf (piece a (at + treeSize * i) coreSize) f) where
   -- a number out of the range
@@ -102,13 +89,19 @@ module _ (a : List ℕ) (at first n i f : ℕ) {k : ℕ} (read : k ≡ neighbour
       out-face e = rw (← out-up) (sym e)
 
   module _ {p : ℕ} (few : first + n ≤ 4294967296) (word : k < 4294967296) (placed : p ≡ (0 + k + (4294967296 - first)) % 4294967296) where
+    place-tells : ltb p n ≡ inRange first (first + n) k
+    place-tells =
+        let length : first + n - first ≡ n = omega arith in
+        let same : p ≡ (k + (4294967296 - first)) % 4294967296 = omega (arith, placed) in
+        rw (same, ← length) (range-wraps first (first + n) k (omega arith) few word)
+
     pub place-out : n ≤ p → inRange first (first + n) k ≡ false
-    place-out h = sym (within-is first n k few word placed) ∙ le-ltb p n h
+    place-out h = sym place-tells ∙ le-ltb p n h
 
     -- a number in the range
     module _ (h : p < n) where
       in-range : inRange first (first + n) k ≡ true
-      in-range = sym (within-is first n k few word placed) ∙ lt-ltb p n h
+      in-range = sym place-tells ∙ lt-ltb p n h
 
       place-is : k ≡ first + p
       unfolding inRange
@@ -149,25 +142,3 @@ module _ (a : List ℕ) (at first n i f : ℕ) {k : ℕ} (read : k ≡ neighbour
         down-face D g e =
             let s : k - first ≡ p = omega (arith, place-is) in
             rw (← down-up, ← read, in-range, s) (sym e)
-
--- ---- and of a ghost's
-
-module _ (a : List ℕ) (at n j f : ℕ) {k : ℕ} (read : k ≡ neighbourOf (piece a (at + treeSize * n + coreSize * j) coreSize) f) where
-  pub listed-marked : (marked : ℕ → Bool) → ghostListed marked (ghostFrom a at n j) f ≡ true → marked k ≡ true
-  unfolding ghostListed ghostFrom
-  listed-marked marked e = rw read (and-fst (marked (neighbourOf (piece a (at + treeSize * n + coreSize * j) coreSize) f)) _ e)
-
-  pub ghost-some : (D g : ℕ) {v p : ℕ} {r : Bool} → v ≡ numberOf (piece a (at + treeSize * n + coreSize * j) coreSize) → p ≡ leastBelow g (ghostHas (ghostFrom a at n) k)
-      → r ≡ linkByDimension D v (piece a (at + treeSize * n + coreSize * j) coreSize) f (piece a (at + treeSize * n + coreSize * p) coreSize)
-      → r ≡ linkAmongGhosts (linkByDimension D) a at n g j f
-  unfolding linkAmongGhosts ghostFrom
-  ghost-some D g v is e = e ∙ rw (v, ← read, is)
-
-module _ (D : ℕ) (marked : ℕ → Bool) (a : List ℕ) (at n g j : ℕ) where
-  pub not-listed : (f : ℕ) → ghostListed marked (ghostFrom a at n j) f ≡ false → listedLink (linkByDimension D) marked a at n g j f ≡ true
-  unfolding listedLink
-  not-listed f e = rw e
-
-  pub is-listed : (f : ℕ) → ghostListed marked (ghostFrom a at n j) f ≡ true → listedLink (linkByDimension D) marked a at n g j f ≡ linkAmongGhosts (linkByDimension D) a at n g j f
-  unfolding listedLink
-  is-listed f e = rw e

@@ -25,7 +25,7 @@ use Rattle.records.proofs.Rows.{splice-inside}
 use Rattle.records.proofs.Shapes.{count-six, faces-positive}
 use Rattle.part.specs.Layout.{partHeader, treePlace, ghostPlace, partSize, headerBytes}
 use Rattle.part.specs.Cut.{renamed, renameRow}
-use Rattle.part.specs.Means.{inRange, isLocal, ghostIs, held, viewSound, RankKnown, partLinked}
+use Rattle.part.specs.Means.{inRange, isLocal, ghostIs, held, viewSound, partLinked}
 use Rattle.part.specs.Part.{noTree, partDimension, partK, partFirst, partCount, partGhostCount, storedTree, storedGhost, globalNumber, globalTree, partHeaderSound, partSound}
 use Rattle.part.proofs.Sound.{part-sound-is}
 use Rattle.part.proofs.Records.{links-length, header-length, rows-core}
@@ -38,7 +38,7 @@ use Rattle.area.specs.Close.{allHeard, joinIndex, joinedPart}
 use Rattle.area.specs.Means.{HeaderHolds}
 use Rattle.area.proofs.Soundness.{sound-holds}
 use Rattle.area.proofs.Ranges.{range-trees}
-use Rattle.area_theorems.proofs.Again.{area-parts, new-ranks, sound-rank, sound-tables, sound-ghosts}
+use Rattle.area_theorems.proofs.Again.{area-parts, new-ranks, sound-ghosts}
 use Rattle.area_theorems.proofs.Joined.{words, word-at, piece-first, piece-behind, slots-length, slots-at}
 use Rattle.area_theorems.proofs.Kept.{Ghosts}
 use Rattle.area_theorems.proofs.Zones.{few-trees, core-slot}

@@ -1,18 +1,19 @@
 -- Means, no part of what is promised: what inner functions require, and values that mirror their code; proofs/ says that they decide area's Close.
 use Prim.Native.Nat.{ℕ, _+_, _*_, _≤_, _<_}
 use mathlib.Core.Path.{_≡_}
-use mathlib.Core.Bool.{Bool, true, false, cond, _&&_, _||_}
+use mathlib.Core.Bool.{Bool, true, false, cond, _&&_}
 use mathlib.Core.List.{List}
-use lib.Dec.{ltb, leb, eqb}
+use lib.Dec.{ltb, eqb}
 use lib.ListN.{length}
-use Rattle.encoding.specs.Below.{allBelow, anyBelow, countBelow, leastBelow, sumBelow}
+use Rattle.encoding.specs.Below.{allBelow, anyBelow, countBelow, sumBelow}
 use Rattle.encoding.specs.Pieces.{piece}
 use Rattle.offsets.specs.Limits.{maxTrees}
 use Rattle.pattern.specs.Sets.{getsFrom}
 use Rattle.records.specs.Shape.{shapeOk, dimensionOf, faceCount}
-use Rattle.records.specs.Record.{coreSize, treeSize, numberOf, shapeOf, neighbourOf}
+use Rattle.records.specs.Record.{coreSize, treeSize, numberOf, shapeOf, neighbourOf, inForm}
 use Rattle.mesh.specs.Link.{orientationOk}
-use Rattle.part.specs.Means.{held, heldCore, viewSound, inRange, neighbourIn, ghostHas}
+use Rattle.ghost_links.specs.Means.{ghostUps, ghostDowns, ghostFromOneEnd}
+use Rattle.part.specs.Means.{held, heldCore, viewSound, inRange, neighbourIn}
 use Rattle.positions.specs.Means.{Indexed}
 use Rattle.area.specs.Layout.{ghostSlotsPlace}
 use Rattle.area.specs.Area.{areaDimension, areaK, areaP, areaRank, areaCount, areaGhosts, areaOld, areaNew, areaFirst, heard, treeSlotCore, ghostSlot, areaSound}
@@ -41,14 +42,14 @@ pub record Slots (a : List ℕ) (at first n g : ℕ) : Type 0 where
   pub outside : (j : ℕ) → j < g → inRange first (first + n) (numberOf (ghostFrom a at n j)) ≡ false
   pub ascends : (i j : ℕ) → i < j → j < g → numberOf (ghostFrom a at n i) < numberOf (ghostFrom a at n j)
 
--- and whose numbers are below K and whose shapes are known
+-- and whose numbers are below K, whose trees have a shape and whose ghosts are in form
 pub record SlotsNumbered (a : List ℕ) (at first n g K : ℕ) : Type 0 where
   pub slots : Slots a at first n g
   pub below : (j : ℕ) → j < g → numberOf (ghostFrom a at n j) < K
   pub range : first + n ≤ K
   pub few : K ≤ maxTrees
   pub treesShaped : (i : ℕ) → i < n → shapeOk (shapeOf (treeFrom a at i)) ≡ true
-  pub ghostsShaped : (j : ℕ) → j < g → shapeOk (shapeOf (ghostFrom a at n j)) ≡ true
+  pub ghostsFormed : (j : ℕ) → j < g → inForm (numberOf (ghostFrom a at n j)) (ghostFrom a at n j) ≡ true
 
 -- the tests of the records, by either rule of a link: mesh's linkBetween, or its linkByDimension, which reads links by the dimension; proofs/ByDimension.antt: over all records both find the same
 module _ (link : ℕ → List ℕ → ℕ → List ℕ → Bool) (a : List ℕ) (at first n g : ℕ) where
@@ -85,7 +86,7 @@ module _ (link : ℕ → List ℕ → ℕ → List ℕ → Bool) (a : List ℕ) 
   unfoldable pub recordsJoin : ℕ → ℕ → Bool
   recordsJoin D K = allBelow n (treeJoins D) && allBelow g (ghostJoins D K)
 
--- ---- each link looked at from one end, and a count: between a tree and a ghost from the tree, else from the record with the higher number. In proofs/FromOneEnd.antt: over all records it says what recordsJoin says by the dimension
+-- ---- each link looked at from one end, and a count: between a tree and a ghost from the tree, else from the record with the higher number. The tests of ghosts are ghost_links'. In proofs/FromOneEnd.antt: over all records it says what recordsJoin says by the dimension
 
 -- the link of face f of tree i leads up, to a tree with a higher number; or down, to a tree with a lower one or out of the range
 module _ (a : List ℕ) (at first n : ℕ) where
@@ -102,30 +103,6 @@ module _ (a : List ℕ) (at first n : ℕ) where
   unfoldable pub treeDowns : ℕ → ℕ
   treeDowns i = countBelow (faceCount (shapeOf (treeFrom a at i))) (treeLeadsDown i)
 
--- a link of a ghost r leads to a number below K, with an orientation below the corners
-unfoldable pub ghostInside : ℕ → List ℕ → ℕ → Bool
-ghostInside K r f = ltb (neighbourOf r f) K && orientationOk r f
-
--- `marked` passes the numbers of ghosts
-module _ (marked : ℕ → Bool) where
-  -- a link of a ghost r leads up, to a tree or to a ghost with a higher number; or down, to a ghost with a lower one
-  unfoldable pub ghostLeadsUp : ℕ → ℕ → List ℕ → ℕ → Bool
-  ghostLeadsUp first n r f = neighbourIn first (first + n) r f || (marked (neighbourOf r f) && ltb (numberOf r) (neighbourOf r f))
-
-  unfoldable pub ghostLeadsDown : List ℕ → ℕ → Bool
-  ghostLeadsDown r f = marked (neighbourOf r f) && ltb (neighbourOf r f) (numberOf r)
-
-  -- to a ghost with no higher number
-  unfoldable pub ghostListed : List ℕ → ℕ → Bool
-  ghostListed r f = marked (neighbourOf r f) && leb (neighbourOf r f) (numberOf r)
-
-  -- how many links of ghost j lead up and down
-  unfoldable pub ghostUps : List ℕ → ℕ → ℕ → ℕ → ℕ → ℕ
-  ghostUps a at first n j = countBelow (faceCount (shapeOf (ghostFrom a at n j))) (ghostLeadsUp first n (ghostFrom a at n j))
-
-  unfoldable pub ghostDowns : List ℕ → ℕ → ℕ → ℕ → ℕ
-  ghostDowns a at n j = countBelow (faceCount (shapeOf (ghostFrom a at n j))) (ghostLeadsDown (ghostFrom a at n j))
-
 -- by a rule of a link
 module _ (link : ℕ → List ℕ → ℕ → List ℕ → Bool) where
   -- a link of tree i leads up, or obeys the rule
@@ -136,34 +113,11 @@ module _ (link : ℕ → List ℕ → ℕ → List ℕ → Bool) where
   treeFromOneEnd a at first n g D i =
       eqb (dimensionOf (shapeOf (treeFrom a at i))) D && allBelow (faceCount (shapeOf (treeFrom a at i))) (treeFace a at first n g i)
 
-  -- the link of ghost j to the ghost that has the neighbour's number
-  unfoldable pub linkAmongGhosts : List ℕ → ℕ → ℕ → ℕ → ℕ → ℕ → Bool
-  linkAmongGhosts a at n g j f =
-      link (numberOf (ghostFrom a at n j)) (ghostFrom a at n j) f (ghostFrom a at n (leastBelow g (ghostHas (ghostFrom a at n) (neighbourOf (ghostFrom a at n j) f))))
-
-  -- obeys the rule if it is listed
-  unfoldable pub listedLink : (ℕ → Bool) → List ℕ → ℕ → ℕ → ℕ → ℕ → ℕ → Bool
-  listedLink marked a at n g j f = cond (ghostListed marked (ghostFrom a at n j) f) (linkAmongGhosts a at n g j f) true
-
-  unfoldable pub ghostFromOneEnd : (ℕ → Bool) → List ℕ → ℕ → ℕ → ℕ → ℕ → ℕ → ℕ → ℕ → Bool
-  ghostFromOneEnd marked a at first n g D K j =
-      eqb (dimensionOf (shapeOf (ghostFrom a at n j))) D
-      && (allBelow (faceCount (shapeOf (ghostFrom a at n j))) (ghostInside K (ghostFrom a at n j))
-      && anyBelow (faceCount (shapeOf (ghostFrom a at n j))) (neighbourIn first (first + n) (ghostFrom a at n j)))
-      && allBelow (faceCount (shapeOf (ghostFrom a at n j))) (listedLink marked a at n g j)
-
   -- all records, and as many links up as down
-  unfoldable pub recordsFromOneEnd : (ℕ → Bool) → List ℕ → ℕ → ℕ → ℕ → ℕ → ℕ → ℕ → Bool
-  recordsFromOneEnd marked a at first n g D K =
-      allBelow n (treeFromOneEnd a at first n g D) && allBelow g (ghostFromOneEnd marked a at first n g D K)
-      && eqb (sumBelow n (treeUps a at first n) + sumBelow g (ghostUps marked a at first n)) (sumBelow n (treeDowns a at first n) + sumBelow g (ghostDowns marked a at n))
-
--- what a loop over so many records answers: the test, and where it passes the links up and down
-pub record AllSeen (records : ℕ) (test : Bool) (up down : ℕ) (ok : Bool) (ups downs : ℕ) : Type 0 where
-  pub tested : ok ≡ test
-  pub upward : ok ≡ true → ups ≡ up
-  pub downward : ok ≡ true → downs ≡ down
-  pub few : (ups ≤ 6 * records) × (downs ≤ 6 * records)
+  unfoldable pub recordsFromOneEnd : List ℕ → ℕ → ℕ → ℕ → ℕ → ℕ → ℕ → Bool
+  recordsFromOneEnd a at first n g D K =
+      allBelow n (treeFromOneEnd a at first n g D) && allBelow g (ghostFromOneEnd link g (ghostFrom a at n) first n D K)
+      && eqb (sumBelow n (treeUps a at first n) + sumBelow g (ghostUps first n g (ghostFrom a at n))) (sumBelow n (treeDowns a at first n) + sumBelow g (ghostDowns g (ghostFrom a at n)))
 
 -- the records in an area's slots are those of a sound part; proofs/Reading.antt: with every due sender heard this is the joined part's soundness
 unfoldable pub joinSound : List ℕ → Bool

@@ -1,26 +1,25 @@
 // Whether the records in an area's slots make a sound part. Trees and ghosts have global numbers here, and links are followed by these. Each link is looked at from one end: between a tree and a ghost from the tree, else from the record with the higher number. Where as many links lead up as down, each link up is then the answer to one down (proofs/FromOneEnd.antt).
+use ghost_links::check::ghosts_linked;
 use mesh::link::link_ok;
-use mesh::sound::Links;
 use mesh::sound::Seen;
 use mesh::sound::one;
-use mesh::sound::pushed;
 use mesh::sound::refused;
 use part::layout::place_near;
 use records::index::GlobalIndex;
 use records::index::LocalIndex;
 ghost use mathlib.Core.Path.{_≡_};
-ghost use mathlib.Core.Bool.{true, false, _&&_};
+ghost use mathlib.Core.Bool.{true, false};
 ghost use Prim.Native.Nat.{_+_, _*_, _≤_, _<_};
 ghost use lib.ListN.{length};
-ghost use Rattle.encoding.specs.Below.{allBelow, anyBelow, countBelow, sumBelow};
+ghost use Rattle.encoding.specs.Below.{allBelow, countBelow, sumBelow};
 ghost use Rattle.encoding.specs.Pieces.{piece};
-ghost use Rattle.bits.specs.Bits.{inSet};
 ghost use Rattle.records.specs.Record.{coreSize, treeSize, neighbourOf};
-ghost use Rattle.part.specs.Means.{inRange, neighbourIn};
+ghost use Rattle.part.specs.Means.{inRange};
 ghost use Rattle.positions.specs.Means.{Indexed};
-ghost use Rattle.mesh.specs.Means.{packed, linkByDimension, SeenAs};
-ghost use Rattle.area.specs.Area.{areaNew, areaFirst};
-ghost use Rattle.close_check.specs.Means.{ghostFrom, Slots, SlotsNumbered, linkOfTree, recordsJoin, treeLeadsUp, treeLeadsDown, treeFace, treeFromOneEnd, treeUps, treeDowns, ghostLeadsUp, ghostLeadsDown, ghostInside, ghostListed, linkAmongGhosts, listedLink, ghostFromOneEnd, ghostUps, ghostDowns, AllSeen, joinSound, Complete, GhostsIndexed};
+ghost use Rattle.mesh.specs.Means.{linkByDimension, SeenAs};
+ghost use Rattle.area.specs.Area.{areaK, areaNew, areaFirst};
+ghost use Rattle.ghost_links.specs.Means.{SummedAs};
+ghost use Rattle.close_check.specs.Means.{Slots, SlotsNumbered, linkOfTree, recordsJoin, treeLeadsUp, treeLeadsDown, treeFace, treeFromOneEnd, treeUps, treeDowns, joinSound, Complete, GhostsIndexed};
 
 // ---- trees
 
@@ -189,7 +188,7 @@ fn trees_join(
     behind: &[u32],
 ) -> Seen
     requires { ⌜ Slots (now area) at first count ghosts × Indexed (now area) (at + treeSize * count) ghosts (now marks) (now behind) ⌝ }
-    ensures { λ r. ⌜ AllSeen count (allBelow count (treeFromOneEnd (linkByDimension dimension) (now (area .entry)) at first count ghosts dimension)) (sumBelow count (treeUps (now (area .entry)) at first count)) (sumBelow count (treeDowns (now (area .entry)) at first count)) (r .ok) (r .ups) (r .downs) ⌝ }
+    ensures { λ r. ⌜ SummedAs (allBelow count (treeFromOneEnd (linkByDimension dimension) (now (area .entry)) at first count ghosts dimension)) (sumBelow count (treeUps (now (area .entry)) at first count)) (sumBelow count (treeDowns (now (area .entry)) at first count)) (6 * count) (r .ok) (r .ups) (r .downs) ⌝ }
 {
     let mut i = 0;
     let mut ups = 0;
@@ -220,227 +219,6 @@ fn trees_join(
     }
 }
 
-// ---- ghosts
-
-// Whether a tree is in the range, by one comparison.
-fn within(first: u32, count: u32, tree: u32) -> bool
-    requires { ⌜ first + count ≤ 4294967296 ⌝ }
-    ensures { λ r. ⌜ r ≡ inRange first (first + count) tree ⌝ }
-{
-    place_near(0, first, tree) < count
-}
-
-// Whether a ghost has the number.
-fn marked(marks: &[u64], k: u32) -> bool
-    ensures { λ r. ⌜ r ≡ inSet (now (marks .entry)) k ⌝ }
-{
-    if marks.len() <= (k / 64) as usize {
-        return false;
-    }
-    bits::set::in_set(marks, k)
-}
-
-// The links of the ghost at byte `from`, sorted: those to a ghost with no higher number as digits to base 8, and how many lead up and down. No branch hangs on where a link leads.
-fn sorted(
-    area: &[u8],
-    from: usize,
-    first: u32,
-    count: u32,
-    trees: u32,
-    marks: &[u64],
-    faces: u32,
-) -> Links
-    requires { ⌜ (from + coreSize ≤ length (now area)) × (first + count ≤ 4294967296) × (faces ≤ 6) ⌝ }
-    ensures { λ r. ⌜ (SeenAs (allBelow faces (ghostInside trees (piece (now (area .entry)) from coreSize)) && anyBelow faces (neighbourIn first (first + count) (piece (now (area .entry)) from coreSize))) (countBelow faces (ghostLeadsUp (inSet (now (marks .entry))) first count (piece (now (area .entry)) from coreSize))) (countBelow faces (ghostLeadsDown (inSet (now (marks .entry))) (piece (now (area .entry)) from coreSize))) (r .ok) (r .ups) (r .downs)) × (r .ok ≡ true → r .list ≡ packed faces (ghostListed (inSet (now (marks .entry))) (piece (now (area .entry)) from coreSize))) ⌝ }
-{
-    let own = records::read::number_of(area, from);
-    let mut face = 0;
-    let mut list = 0;
-    let mut ups = 0;
-    let mut downs = 0;
-    let mut met = false;
-    while face < faces {
-        let k = records::read::neighbour_of(area, from, face);
-        if (trees <= k) | !mesh::link::orientation_ok(area, from, face) {
-            return Links {
-                ok: false,
-                list: 0,
-                ups: 0,
-                downs: 0,
-            };
-        }
-        let inside = within(first, count, k);
-        let held = marked(marks, k);
-        list = pushed(list, face, held & (k <= own));
-        ups += one(inside | (held & (own < k)));
-        downs += one(held & (k < own));
-        met = met | inside;
-        face += 1;
-    }
-    Links {
-        ok: met,
-        list,
-        ups,
-        downs,
-    }
-}
-
-// A link to a ghost with no higher number.
-fn ghost_link(
-    area: &[u8],
-    at: usize,
-    count: u32,
-    ghosts: u32,
-    dimension: u32,
-    marks: &[u64],
-    behind: &[u32],
-    j: u32,
-    face: u32,
-) -> bool
-    requires { ⌜ (at + treeSize * count + coreSize * ghosts ≤ length (now area)) × (j < ghosts) × (face < 6) × Indexed (now area) (at + treeSize * count) ghosts (now marks) (now behind) × (ghostListed (inSet (now marks)) (ghostFrom (now area) at count j) face ≡ true) ⌝ }
-    ensures { λ r. ⌜ r ≡ linkAmongGhosts (linkByDimension dimension) (now (area .entry)) at count ghosts j face ⌝ }
-{
-    let ghosts_at = at + 64 * (count as usize);
-    let from = ghosts_at + 40 * (j as usize);
-    let own = records::read::number_of(area, from);
-    let k = records::read::neighbour_of(area, from, face);
-    let position = positions::index::find(marks, behind, ghosts, GlobalIndex(k));
-    link_ok(
-        area,
-        dimension,
-        own,
-        from,
-        face,
-        ghosts_at + 40 * (position as usize),
-    )
-}
-
-// The faces of a list, the last first.
-fn ghost_links(
-    area: &[u8],
-    at: usize,
-    count: u32,
-    ghosts: u32,
-    dimension: u32,
-    marks: &[u64],
-    behind: &[u32],
-    j: u32,
-    faces: u32,
-    list: u32,
-) -> bool
-    requires { ⌜ (at + treeSize * count + coreSize * ghosts ≤ length (now area)) × (j < ghosts) × (faces ≤ 6) × Indexed (now area) (at + treeSize * count) ghosts (now marks) (now behind) × (list ≡ packed faces (ghostListed (inSet (now marks)) (ghostFrom (now area) at count j))) ⌝ }
-    ensures { λ r. ⌜ r ≡ allBelow faces (listedLink (linkByDimension dimension) (inSet (now (marks .entry))) (now (area .entry)) at count ghosts j) ⌝ }
-{
-    let mut left = list;
-    while 0 < left {
-        if !ghost_link(
-            area,
-            at,
-            count,
-            ghosts,
-            dimension,
-            marks,
-            behind,
-            j,
-            left % 8 - 1,
-        ) {
-            return false;
-        }
-        left = left / 8;
-    }
-    true
-}
-
-fn ghost_joins(
-    area: &[u8],
-    at: usize,
-    first: u32,
-    count: u32,
-    ghosts: u32,
-    dimension: u32,
-    trees: u32,
-    marks: &[u64],
-    behind: &[u32],
-    j: u32,
-) -> Seen
-    requires { ⌜ Slots (now area) at first count ghosts × (j < ghosts) × Indexed (now area) (at + treeSize * count) ghosts (now marks) (now behind) ⌝ }
-    ensures { λ r. ⌜ SeenAs (ghostFromOneEnd (linkByDimension dimension) (inSet (now (marks .entry))) (now (area .entry)) at first count ghosts dimension trees j) (ghostUps (inSet (now (marks .entry))) (now (area .entry)) at first count j) (ghostDowns (inSet (now (marks .entry))) (now (area .entry)) at count j) (r .ok) (r .ups) (r .downs) ⌝ }
-{
-    let from = at + 64 * (count as usize) + 40 * (j as usize);
-    let shape = records::read::shape_of(area, from);
-    if records::shape::dimension_of(shape) != dimension {
-        return refused();
-    }
-    let faces = records::shape::face_count(shape);
-    let links = sorted(area, from, first, count, trees, marks, faces);
-    if !links.ok {
-        return refused();
-    }
-    if !ghost_links(
-        area,
-        at,
-        count,
-        ghosts,
-        dimension,
-        marks,
-        behind,
-        j,
-        faces,
-        links.list,
-    ) {
-        return refused();
-    }
-    Seen {
-        ok: true,
-        ups: links.ups,
-        downs: links.downs,
-    }
-}
-
-fn ghosts_join(
-    area: &[u8],
-    at: usize,
-    first: u32,
-    count: u32,
-    ghosts: u32,
-    dimension: u32,
-    trees: u32,
-    marks: &[u64],
-    behind: &[u32],
-) -> Seen
-    requires { ⌜ Slots (now area) at first count ghosts × Indexed (now area) (at + treeSize * count) ghosts (now marks) (now behind) ⌝ }
-    ensures { λ r. ⌜ AllSeen ghosts (allBelow ghosts (ghostFromOneEnd (linkByDimension dimension) (inSet (now (marks .entry))) (now (area .entry)) at first count ghosts dimension trees)) (sumBelow ghosts (ghostUps (inSet (now (marks .entry))) (now (area .entry)) at first count)) (sumBelow ghosts (ghostDowns (inSet (now (marks .entry))) (now (area .entry)) at count)) (r .ok) (r .ups) (r .downs) ⌝ }
-{
-    let mut j = 0;
-    let mut ups = 0;
-    let mut downs = 0;
-    while j < ghosts {
-        let seen = ghost_joins(
-            area,
-            at,
-            first,
-            count,
-            ghosts,
-            dimension,
-            trees,
-            marks,
-            behind,
-            j,
-        );
-        if !seen.ok {
-            return refused();
-        }
-        ups += seen.ups;
-        downs += seen.downs;
-        j += 1;
-    }
-    Seen {
-        ok: true,
-        ups,
-        downs,
-    }
-}
-
 // All records, and as many links up as down.
 fn records_join(
     area: &[u8],
@@ -453,21 +231,22 @@ fn records_join(
     marks: &[u64],
     behind: &[u32],
 ) -> bool
-    requires { ⌜ SlotsNumbered (now area) at first count ghosts trees × Indexed (now area) (at + treeSize * count) ghosts (now marks) (now behind) ⌝ }
+    requires { ⌜ SlotsNumbered (now area) at first count ghosts trees × Indexed (now area) (at + treeSize * count) ghosts (now marks) (now behind) × (trees ≤ 64 * length (now marks)) ⌝ }
     ensures { λ r. ⌜ r ≡ recordsJoin (linkByDimension dimension) (now (area .entry)) at first count ghosts dimension trees ⌝ }
 {
     let of_trees = trees_join(area, at, first, count, ghosts, dimension, marks, behind);
     if !of_trees.ok {
         return false;
     }
-    let of_ghosts = ghosts_join(
+    let of_ghosts = ghosts_linked(
         area,
-        at,
+        at + 64 * (count as usize),
+        ghosts,
         first,
         count,
-        ghosts,
         dimension,
         trees,
+        true,
         marks,
         behind,
     );
@@ -559,7 +338,7 @@ pub fn join_sound(area: &[u8], new: &[u8]) -> bool
 
 // The same, by the index of the area's ghosts. `first` is the first tree of the new range.
 pub fn join_by(area: &[u8], first: GlobalIndex, marks: &[u64], behind: &[u32]) -> bool
-    requires { ⌜ Complete (now area) (areaNew (now area)) × (first .0 ≡ areaFirst (now area)) × GhostsIndexed (now area) (now marks) (now behind) ⌝ }
+    requires { ⌜ Complete (now area) (areaNew (now area)) × (first .0 ≡ areaFirst (now area)) × GhostsIndexed (now area) (now marks) (now behind) × (areaK (now area) ≤ 64 * length (now marks)) ⌝ }
     ensures { λ r. ⌜ r ≡ joinSound (now (area .entry)) ⌝ }
 {
     records_join(

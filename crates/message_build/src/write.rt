@@ -286,8 +286,8 @@ fn build_of_many(
     )
 }
 
-// The same. To clear the words for all trees takes longer than to write a small message: up to 65,536 trees have fewer words.
-pub fn build_sent(
+// The same, with words for up to 65,536 trees where these are enough.
+fn build_of_more(
     part: &[u8],
     old: &[u8],
     new: &[u8],
@@ -318,4 +318,38 @@ pub fn build_sent(
         );
     }
     build_of_many(part, old, new, p, q, low, n, epoch, &mut *out)
+}
+
+// The same. To clear the words for all trees takes longer than to write a small message: up to 16,384 trees have fewer words.
+pub fn build_sent(
+    part: &[u8],
+    old: &[u8],
+    new: &[u8],
+    p: u32,
+    q: u32,
+    low: u32,
+    n: u32,
+    epoch: u32,
+    out: &mut [u8],
+) -> Length
+    requires { ⌜ SendingRange (now part) (now old) (now new) p q low n ⌝ }
+    ensures { λ r. ⌜ (r, now (out .exit)) ≡ builtRange (partMessage (now (part .entry)) (now (old .entry)) (now (new .entry)) p q epoch) (now (out .entry)) ⌝ }
+{
+    let words = mark_words(part);
+    if words <= 256 {
+        let mut marks = [0u64; 256];
+        return build_range(
+            part,
+            old,
+            new,
+            p,
+            q,
+            low,
+            n,
+            epoch,
+            &mut marks[..words],
+            &mut *out,
+        );
+    }
+    build_of_more(part, old, new, p, q, low, n, epoch, &mut *out)
 }

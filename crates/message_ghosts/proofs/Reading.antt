@@ -14,20 +14,12 @@ use Rattle.pattern.specs.Means.{RankOf}
 use Rattle.pattern.proofs.Laws.{row-fits, receiver-in-new}
 use Rattle.records.specs.Shape.{faceCount}
 use Rattle.records.specs.Record.{coreSize, numberOf, shapeOf, neighbourOf}
-use Rattle.part.specs.Layout.{treePlace, ghostPlace}
+use Rattle.part.specs.Means.{recordPlace}
 use Rattle.part.specs.Part.{partCore}
-use Rattle.message_ghosts.specs.Means.{numberIn, AtRecord, AtFace, Beside, recordPlace, recordIn, acrossAt, sentBefore, besideBefore}
+use Rattle.message_ghosts.specs.Means.{numberIn, AtRecord, AtFace, Beside, recordIn, acrossAt, sentBefore, besideBefore}
 use Rattle.message_ghosts.proofs.Records.{shape-is, across-is, at-face}
 
 -- ---- records by their local index
-
-pub place-tree : (n j r : ℕ) → j < n → r ≡ treePlace j → r ≡ recordPlace n j
-unfolding recordPlace
-place-tree n j r h e = rw (lt-ltb j n h) e
-
-pub place-ghost : (n j r : ℕ) → n ≤ j → r ≡ ghostPlace n (j - n) → r ≡ recordPlace n j
-unfolding recordPlace
-place-ghost n j r h e = rw (le-ltb j n h) e
 
 module _ (part : List ℕ) (n j at : ℕ) (place : at ≡ recordPlace n j) where
   pub number-read : (r : ℕ) → r ≡ numberOf (piece part at coreSize) → r ≡ numberIn part n j

@@ -19,10 +19,11 @@ use Rattle.records.specs.Shape.{faceCount, facesIn}
 use Rattle.records.specs.Record.{coreSize, unused, numberOf, shapeOf, neighbourOf}
 use Rattle.records.proofs.Shapes.{count-six}
 use Rattle.part.specs.Layout.{treePlace, ghostPlace}
+use Rattle.part.specs.Means.{recordPlace}
 use Rattle.part.specs.Part.{noTree, partDimension, partK, partFirst, partCount, partGhostCount, storedTree, storedGhost, globalNumber, globalTree, partHolds, partCore, partSound}
 use Rattle.part_theorems.proofs.Renamed.{renamed-number, renamed-shape, renamed-neighbour}
 use Rattle.part_theorems.proofs.SoundParts.{part-header, part-length, part-tree, part-number, part-held, part-core-tree, part-core-ghost, part-ghost-held, part-ghost-below, part-outside, part-ascends, part-below}
-use Rattle.message_ghosts.specs.Means.{numberIn, Known, recordPlace, recordIn, acrossAt, AtFace, Numbered}
+use Rattle.message_ghosts.specs.Means.{numberIn, Known, recordIn, acrossAt, AtFace, Numbered}
 
 -- a number that is read has 32 bits
 number-small : (r : List ℕ) → Bytes r → numberOf r < 4294967296

@@ -17,12 +17,13 @@ use Rattle.offsets.specs.Table.{trees}
 use Rattle.records.specs.Shape.{faceCount}
 use Rattle.records.specs.Record.{coreSize, shapeOf, neighbourOf}
 use Rattle.part.specs.Layout.{treePlace}
+use Rattle.part.specs.Means.{recordPlace}
 use Rattle.part.specs.Part.{partFirst, partGhostCount, partCore}
 use Rattle.positions.specs.Means.{Added}
 use Rattle.positions.proofs.Positions.{added-none, added-one, added-then}
 use Rattle.part_cut.specs.Means.{outFaces, outTrees, FacesFit}
 use Rattle.part_cut.proofs.Marking.{trees-more}
-use Rattle.message_ghosts.specs.Means.{numberIn, recordPlace, recordIn, Known, AtRecord, Near, NearRoom, Room, goes, goesNear}
+use Rattle.message_ghosts.specs.Means.{numberIn, recordIn, Known, AtRecord, Near, NearRoom, Room, goes, goesNear}
 use Rattle.message_ghosts.proofs.Records.{held-below, place-fits, tree-number, number-held, shape-is, tree-next}
 
 -- the faces of a tree as the part stores it

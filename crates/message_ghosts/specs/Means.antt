@@ -13,8 +13,7 @@ use Rattle.pattern.specs.Means.{PairOf}
 use Rattle.pattern.specs.Sender.{sentFirst, sentCount}
 use Rattle.records.specs.Shape.{faceCount}
 use Rattle.records.specs.Record.{coreSize, numberOf, shapeOf, neighbourOf}
-use Rattle.part.specs.Layout.{treePlace, ghostPlace}
-use Rattle.part.specs.Means.{inRange}
+use Rattle.part.specs.Means.{inRange, recordPlace}
 use Rattle.part.specs.Part.{partCount, partGhostCount, partHolds, partCore, partSound}
 use Rattle.message.specs.Build.{partRecord}
 use Rattle.message.specs.Rule.{ghostGoes}
@@ -78,10 +77,6 @@ pub record NearRoom (part old new : List ℕ) (p q count start end : ℕ) (near 
   pub room : count + partGhostCount part ≤ 64 * length near
 
 -- ---- the records of a part by their local index: trees first, then ghosts
-
--- where record j of a part with n trees begins
-unfoldable pub recordPlace : ℕ → ℕ → ℕ
-recordPlace n j = cond {A = ℕ} (ltb j n) (treePlace j) (ghostPlace n (j - n))
 
 module _ (part : List ℕ) (n : ℕ) where
   -- its core as it stands

@@ -1,33 +1,15 @@
 // The records of a part by their local index: trees first, then ghosts.
+use part::layout::record_at;
 use records::index::GlobalIndex;
 use records::index::LocalIndex;
 ghost use mathlib.Core.Path.{_≡_};
 ghost use Prim.Native.Nat.{_+_, _≤_};
 ghost use lib.ListN.{length};
 ghost use Rattle.records.specs.Record.{coreSize};
-ghost use Rattle.part.specs.Means.{inRange};
-ghost use Rattle.message_ghosts.specs.Means.{numberIn, recordPlace, acrossAt, AtFace, Numbered};
+ghost use Rattle.part.specs.Means.{recordPlace};
+ghost use Rattle.message_ghosts.specs.Means.{numberIn, acrossAt, AtFace, Numbered};
 
-// Whether a number or a local index is in a range, by one comparison.
-pub fn within(first: u32, end: u32, k: u32) -> bool
-    requires { ⌜ first ≤ end ⌝ }
-    ensures { λ r. ⌜ r ≡ inRange first end k ⌝ }
-{
-    ((((k as u64) + (4294967296 - (first as u64))) % 4294967296) as u32) < end - first
-}
-
-// Where a record of a part with `count` trees begins.
-pub fn record_at(count: u32, local: LocalIndex) -> usize
-    ensures { λ r. ⌜ r ≡ recordPlace count (local .0) ⌝ }
-{
-    let j = local.0;
-    if j < count {
-        return part::layout::tree_at(local);
-    }
-    part::layout::ghost_at(count, j - count)
-}
-
-// Its number: the trees are numbered from `own` on.
+// The number of a record: the trees are numbered from `own` on.
 pub fn number_at(part: &[u8], own: u32, count: u32, local: LocalIndex) -> GlobalIndex
     requires { ⌜ (recordPlace count (local .0) + coreSize ≤ length (now part)) × Numbered (now part) own count ⌝ }
     ensures { λ r. ⌜ r .0 ≡ numberIn (now (part .entry)) count (local .0) ⌝ }

@@ -1,7 +1,7 @@
 // Whether a record beside a tree that p sends q goes with the message.
 use crate::read::across;
-use crate::read::record_at;
-use crate::read::within;
+use part::layout::record_at;
+use part::range::within;
 use records::index::GlobalIndex;
 use records::index::LocalIndex;
 ghost use mathlib.Core.Path.{_≡_};

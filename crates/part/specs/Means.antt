@@ -12,7 +12,7 @@ use Rattle.offsets.specs.Table.{ranks, ranksOk, valid}
 use Rattle.records.specs.Shape.{dimensionOf, faceCount}
 use Rattle.records.specs.Record.{coreSize, numberOf, shapeOf, neighbourOf, inForm}
 use Rattle.mesh.specs.Link.{orientationOk, linkOk}
-use Rattle.part.specs.Layout.{ghostPlace, partSize}
+use Rattle.part.specs.Layout.{treePlace, ghostPlace, partSize}
 use Rattle.part.specs.Part.{partDimension, partK, partFirst, partCount, partGhostCount, storedGhost, globalTree, partHeaderSound}
 
 -- k is in the range
@@ -47,6 +47,10 @@ rowWith rename row = rename (getD row 0 0) ∷ getD row 1 0 ∷ getD row 2 0 ∷
 unfoldable pub rowsWith : (ℕ → ℕ) → List (List ℕ) → List (List ℕ)
 rowsWith rename rows =
     rowWith rename (getD rows 0 []) ∷ rowWith rename (getD rows 1 []) ∷ rowWith rename (getD rows 2 []) ∷ rowWith rename (getD rows 3 []) ∷ rowWith rename (getD rows 4 []) ∷ rowWith rename (getD rows 5 []) ∷ []
+
+-- where the record with local index j of a part with n trees begins: trees first, then ghosts
+unfoldable pub recordPlace : ℕ → ℕ → ℕ
+recordPlace n j = cond {A = ℕ} (ltb j n) (treePlace j) (ghostPlace n (j - n))
 
 -- ghost j of a part with n trees
 unfoldable pub ghostCore : List ℕ → ℕ → ℕ → List ℕ

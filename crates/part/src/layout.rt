@@ -5,6 +5,7 @@ ghost use mathlib.Core.Path.{_≡_};
 ghost use Prim.Native.Nat.{_+_, _-_, _%_, _≤_};
 ghost use lib.ListN.{length};
 ghost use Rattle.part.specs.Layout.{partHeader, treePlace, ghostPlace};
+ghost use Rattle.part.specs.Means.{recordPlace};
 ghost use Rattle.part.specs.Part.{partDimension, partK, partFirst, partCount, partGhostCount};
 
 // Where the record of a tree begins.
@@ -20,6 +21,17 @@ pub fn ghost_at(count: u32, j: u32) -> usize
     ensures { λ r. ⌜ r ≡ ghostPlace count j ⌝ }
 {
     32 + (64 * (count as usize) + 40 * (j as usize))
+}
+
+// Where a record of a part with `count` trees begins: trees first, then ghosts.
+pub fn record_at(count: u32, local: LocalIndex) -> usize
+    ensures { λ r. ⌜ r ≡ recordPlace count (local .0) ⌝ }
+{
+    let j = local.0;
+    if j < count {
+        return tree_at(local);
+    }
+    ghost_at(count, j - count)
 }
 
 pub fn dimension(part: &[u8]) -> u32

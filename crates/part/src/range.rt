@@ -35,6 +35,14 @@ pub fn in_range(first: u32, end: u32, tree: GlobalIndex) -> bool
     (first <= k) & (k < end)
 }
 
+// Whether a number or a local index is in a range, by one comparison: on meshes whose links lead far a branch for each bound is often foretold wrongly.
+pub fn within(first: u32, end: u32, k: u32) -> bool
+    requires { ⌜ first ≤ end ⌝ }
+    ensures { λ r. ⌜ r ≡ inRange first end k ⌝ }
+{
+    ((((k as u64) + (4294967296 - (first as u64))) % 4294967296) as u32) < end - first
+}
+
 // Whether the record at byte `at` has a face neighbour in the range.
 pub fn beside(bs: &[u8], at: usize, faces: u32, first: u32, end: u32) -> bool
     requires { ⌜ (at + coreSize ≤ length (now bs)) × (faces ≤ 6) ⌝ }

@@ -1,31 +1,30 @@
 -- What the functions that check a part find is what the definitions say.
-use Prim.Native.Nat.{ℕ, _+_, _-_, _*_, _%_, _≤_, _<_}
-use native.Mathlib.Numerals.{add-one}
+use Prim.Native.Nat.{ℕ, _+_, _-_, _*_, _≤_, _<_}
 use native.Mathlib.Omega.{arith}
-use mathlib.Core.Path.{_≡_, refl, sym, ap, _∙_}
-use mathlib.Core.Bool.{Bool, true, false, cond, not, _&&_, _||_, and-false}
+use mathlib.Core.Path.{_≡_, refl, sym, ap, fun-ext, _∙_}
+use mathlib.Core.Bool.{Bool, true, false, cond, not, _&&_, and-false}
 use mathlib.Core.List.{List}
-use lib.Dec.{leb, ltb, eqb}
+use lib.Dec.{ltb, eqb}
 use lib.ListN.{length}
-use borrow.Author.Tests.{ltb-true, leb-true, leb-false, lt-ltb, le-ltb, eq-eqb, ne-eqb, eqb-true}
-use Rattle.encoding.specs.Below.{allBelow, anyBelow, countBelow, leastBelow, sumBelow}
+use borrow.Author.Tests.{ltb-true, lt-ltb, le-ltb, eq-eqb, ne-eqb, eqb-true}
+use Rattle.encoding.specs.Below.{allBelow, countBelow, leastBelow, sumBelow}
 use Rattle.encoding.specs.Numbers.{u32At}
 use Rattle.encoding.specs.Pieces.{piece, Bytes}
-use Rattle.encoding.proofs.Below.{tests, either, clash, iff-eq, all-at, all-fails, all-to, and-fst, and-snd, and-intro, any-same, count-more, least-lt, least-same}
-use Rattle.records.specs.Shape.{dimensionOf, faceCount}
+use Rattle.encoding.proofs.Below.{tests, either, clash, iff-eq, all-at, and-fst, and-snd, and-intro, count-more, least-same}
+use Rattle.records.specs.Shape.{faceCount}
 use Rattle.records.specs.Record.{coreSize, numberOf, shapeOf, neighbourOf, boundaryOk}
-use Rattle.mesh.specs.Link.{orientationOk}
 use Rattle.mesh.specs.Mesh.{dimensionOk}
 use Rattle.offsets.specs.Table.{ranks, entry, trees, firstTree, endTree, treeCount}
 use Rattle.offsets.proofs.Tables.{count-add, end-trees, trees-high}
 use Rattle.part.specs.Layout.{treePlace, ghostPlace, partSize}
-use Rattle.positions.specs.Means.{hasNumber, someHas, positionOf, memberPosition, Numbered, Indexed}
+use Rattle.positions.specs.Means.{hasNumber, positionOf, memberPosition, Numbered, Indexed}
 use Rattle.positions.proofs.Positions.{index-position}
-use Rattle.part.specs.Means.{viewSound, inRange, neighbourIn, numberAt, Ascending, ghostCore, ghostHas, RankKnown, partLinked}
+use Rattle.part.specs.Means.{recordPlace, viewSound, inRange, numberAt, Ascending, ghostCore, ghostHas, RankKnown, partLinked}
 use Rattle.part.proofs.Sound.{part-sound-is}
 use Rattle.part.specs.Part.{partDimension, partK, partFirst, partCount, partGhostCount, storedTree, storedGhost, globalNumber, globalTree, partHeaderSound, partSound}
 use Rattle.mesh.specs.Means.{linkByDimension, SeenAs}
-use Rattle.part_check.specs.Means.{plainForm, unusedFrom, formAlone, recordPlace, treeTo, treeFace, treeFits, treeNumbered, ghostBehind, ghostNumbered, numbersSound, recordsSound, treeUp, treeDown, ghostUp, ghostDown, ghostListed, treeUps, treeDowns, ghostUps, ghostDowns, evenLinks, ghostLow, treeFaceDown, treeFromOneEnd, ghostAnswered, ghostFaceDown, ghostFromOneEnd, treeSeen, recordsFromOneEnd, PartLaid, PartNumbered, PartCounted, TreeKnown, GhostsMarked, SummedAs}
+use Rattle.ghost_links.specs.Means.{formAlone, ghostUps, ghostDowns, ghostFromOneEnd, SummedAs, coreFrom, GhostsMarked}
+use Rattle.part_check.specs.Means.{treeTo, treeFace, treeFits, treeNumbered, ghostBehind, ghostNumbered, numbersSound, recordsSound, treeUp, treeDown, treeUps, treeDowns, evenLinks, treeFaceDown, treeFromOneEnd, treeSeen, recordsFromOneEnd, PartLaid, PartNumbered, PartCounted, TreeKnown}
 use Rattle.part.proofs.Global.{global-alike, global-neighbour}
 use Rattle.part_check.proofs.Judging.{numbered-few, ghosts-ascend, lookedUp, Seen, view-is}
 use Rattle.part_check.proofs.FromOneEnd.{trees-seen, records-from-one-end}
@@ -148,27 +147,7 @@ place-fits {n} j known h e =
     (λ p. let place = rw p at e in omega (tests, place, known .long))
     (λ p. let place = rw p at e in omega (tests, place, known .long))
 
--- what a record shows without its links
-pub alone-read : {p u : Bool} {shape faces dimension : ℕ} (D : ℕ) (r : List ℕ) → shape ≡ shapeOf r → p ≡ plainForm r → faces ≡ faceCount shape → u ≡ allBelow 6 (unusedFrom faces r) → dimension ≡ dimensionOf shape
-    → (p && u && eqb dimension D) ≡ formAlone D r
-unfolding formAlone
-alone-read D r e p q u d = rw (p, u, d, q, e)
-
 -- ---- ghosts
-
--- one comparison of numbers of 32 bits
-pub within-is : (first n k : ℕ) {p : ℕ} → first + n ≤ 4294967296 → k < 4294967296 → p ≡ (0 + k + (4294967296 - first)) % 4294967296 → ltb p n ≡ inRange first (first + n) k
-unfolding inRange
-within-is first n k {p} h l e =
-    either (leb first k)
-    (λ q.
-    let b : first ≤ k = leb-true first k q in
-    let d : p ≡ k - first = omega (arith, e) in
-    rw (q, d) (iff-eq (ltb (k - first) n) (ltb k (first + n)) (λ t. lt-ltb k (first + n) (omega tests)) (λ t. lt-ltb (k - first) n (omega tests))))
-    (λ q.
-    let b : k < first = leb-false first k q in
-    let d : p ≡ k + (4294967296 - first) = omega (arith, e) in
-    rw (q, le-ltb p n (omega (arith, d))))
 
 module _ (part : List ℕ) (n j : ℕ) where
   pub behind-none : j ≡ 0 → true ≡ ghostBehind (ghostCore part n) j
@@ -183,21 +162,6 @@ module _ (part : List ℕ) (n j : ℕ) where
     pub ghost-numbered-is : (first K : ℕ) {b a : Bool} → b ≡ inRange first (first + n) v → a ≡ ghostBehind (ghostCore part n) j → (ltb v K && not b && a) ≡ ghostNumbered first n (ghostCore part n) K j
     unfolding ghostNumbered ghostCore
     ghost-numbered-is first K p q = rw (← here, ← number, p, q)
-
-  module _ {at : ℕ} (here : at ≡ ghostPlace n j) where
-    ghost-here : piece part at coreSize ≡ ghostCore part n j
-    unfolding ghostCore
-    ghost-here = rw here
-
-    pub low-read : {o : Bool} (f : ℕ) {k : ℕ} (K : ℕ) → k ≡ neighbourOf (piece part at coreSize) f → o ≡ orientationOk (piece part at coreSize) f → (ltb k K && o) ≡ ghostLow (ghostCore part n) K j f
-    unfolding ghostLow
-    low-read f K read e = rw (← ghost-here, ← read, e)
-
-  -- the faces of a ghost that were looked at, and whether one led into the range
-  module _ (first f : ℕ) {m : Bool} (met : m ≡ anyBelow f (neighbourIn first (first + n) (ghostCore part n j))) where
-    pub met-more : {at k : ℕ} {b : Bool} → at ≡ ghostPlace n j → k ≡ neighbourOf (piece part at coreSize) f → b ≡ inRange first (first + n) k → (m || b) ≡ anyBelow (f + 1) (neighbourIn first (first + n) (ghostCore part n j))
-    unfolding anyBelow neighbourIn ghostCore
-    met-more here read test = rw (add-one f, met, test, read, here)
 
 module _ (part : List ℕ) (n g : ℕ) where
   module _ (first K : ℕ) (known : PartNumbered part first n g K) where
@@ -223,18 +187,19 @@ module _ (part : List ℕ) (n g : ℕ) where
       pub ghosts-numbered : Numbered part at g K
       ghosts-numbered = rw from (record { ascending = ghosts-ascending; low = ghosts-low })
 
-      pub ghosts-indexed : {ws behind : List ℕ} → Indexed part at g ws behind → Indexed part (ghostPlace n 0) g ws behind
-      ghosts-indexed x = rw from at x
+      pub ghosts-marked : {ws behind : List ℕ} → K ≤ 64 * length ws → Indexed part at g ws behind → GhostsMarked part at g first n K ws behind
+      ghosts-marked room x = record { fits = omega (arith, from, known .laid .long); low = omega (arith, known .laid .within, known .laid .most); room = room; indexed = x }
 
-  -- the members of the set are those of the index
-  pub ghosts-marked : {first K : ℕ} {ws behind : List ℕ} → PartNumbered part first n g K → K ≤ 64 * length ws → Indexed part (ghostPlace n 0) g ws behind → GhostsMarked part first n g K ws
-  unfolding someHas hasNumber ghostHas
-  ghosts-marked known room x =
-      record {
-        numbered = known;
-        room = room;
-        members = λ k. x .members k ∙ any-same g (hasNumber part (ghostPlace n 0) k) (ghostHas (ghostCore part n) k) (λ i h. ap (λ (y : ℕ). eqb y k) (number-there part n g i));
-      }
+  -- they stand behind the trees
+  module _ {at : ℕ} (from : at ≡ ghostPlace n 0) where
+    ghosts-are : coreFrom part at ≡ ghostCore part n
+    unfolding coreFrom ghostCore
+    ghosts-are = fun-ext (λ j. ap (λ (p : ℕ). piece part p coreSize) (omega (arith, from)))
+
+    pub ghosts-read : (D first K : ℕ) {ok : Bool} {ups downs : ℕ}
+        → SummedAs (allBelow g (ghostFromOneEnd (linkByDimension D) g (coreFrom part at) first n D K)) (sumBelow g (ghostUps first n g (coreFrom part at))) (sumBelow g (ghostDowns g (coreFrom part at))) (6 * g) ok ups downs
+        → SummedAs (allBelow g (ghostFromOneEnd (linkByDimension D) g (ghostCore part n) first n D K)) (sumBelow g (ghostUps first n g (ghostCore part n))) (sumBelow g (ghostDowns g (ghostCore part n))) (6 * g) ok ups downs
+    ghosts-read D first K s = rw ghosts-are at s
 
   -- the ghost that is looked up
   pub ghost-found : {ws behind : List ℕ} → Indexed part (ghostPlace n 0) g ws behind → (k : ℕ) {p : ℕ} → p ≡ memberPosition ws g k → p ≡ leastBelow g (ghostHas (ghostCore part n) k)
@@ -242,75 +207,6 @@ module _ (part : List ℕ) (n g : ℕ) where
   ghost-found x k e =
       e ∙ index-position x k
       ∙ least-same g (hasNumber part (ghostPlace n 0) k) (ghostHas (ghostCore part n) k) (λ i h. ap (λ (y : ℕ). eqb y k) (number-there part n g i))
-
--- ---- the links of a ghost
-
-module _ (part : List ℕ) (n g j : ℕ) {at : ℕ} (here : at ≡ ghostPlace n j) where
-  is-here : ghostCore part n j ≡ piece part at coreSize
-  is-here = sym (ghost-here part n j here)
-
-  module _ (f : ℕ) {k : ℕ} (read : k ≡ neighbourOf (piece part at coreSize) f) where
-    module _ {own : ℕ} (number : own ≡ numberOf (piece part at coreSize)) where
-      -- whether the neighbour is held stands in a set
-      module _ {h : Bool} (held : h ≡ anyBelow g (ghostHas (ghostCore part n) k)) where
-        pub up-ghost : {b : Bool} (first : ℕ) → b ≡ inRange first (first + n) k → (b || (h && ltb own k)) ≡ ghostUp first n g (ghostCore part n) j f
-        unfolding ghostUp
-        up-ghost first e = rw (is-here, ← read, ← number, held, e)
-
-        pub down-ghost : (h && ltb k own) ≡ ghostDown g (ghostCore part n) j f
-        unfolding ghostDown
-        down-ghost = rw (is-here, ← read, ← number, held)
-
-        pub listed-ghost : (h && leb k own) ≡ ghostListed g (ghostCore part n) j f
-        unfolding ghostListed
-        listed-ghost = rw (is-here, ← read, ← number, held)
-
-      -- the rules of a link to a ghost
-      module _ (D : ℕ) {b : Bool} (edge : b ≡ boundaryOk own (piece part at coreSize) f) where
-        pub answered-not : b ≡ false → false ≡ ghostAnswered (linkByDimension D) g (ghostCore part n) j f
-        unfolding ghostAnswered
-        answered-not h = rw (is-here, ← number, ← edge, h)
-
-        pub answered-read : {p to : ℕ} {r : Bool} → b ≡ true → p ≡ leastBelow g (ghostHas (ghostCore part n) k) → to ≡ ghostPlace n p
-            → r ≡ linkByDimension D own (piece part at coreSize) f (piece part to coreSize) → r ≡ ghostAnswered (linkByDimension D) g (ghostCore part n) j f
-        unfolding ghostAnswered
-        answered-read h position there e =
-            let found : ghostCore part n (leastBelow g (ghostHas (ghostCore part n) k)) ≡ piece part _ coreSize = ap (ghostCore part n) (sym position) ∙ sym (ghost-here part n _ there) in
-            rw (is-here, ← number, ← edge, h, ← read, found, e)
-
-    -- a ghost that is listed is there
-    pub listed-there : {p : ℕ} → ghostListed g (ghostCore part n) j f ≡ true → p ≡ leastBelow g (ghostHas (ghostCore part n) k) → p < g
-    unfolding ghostListed
-    listed-there e position =
-        let same : neighbourOf (ghostCore part n j) f ≡ k = ap (λ r. neighbourOf r f) is-here ∙ sym read in
-        let held : anyBelow g (ghostHas (ghostCore part n) k) ≡ true = rw same at (and-fst (anyBelow g (ghostHas (ghostCore part n) (neighbourOf (ghostCore part n j) f))) _ e) in
-        rw position (least-lt g (ghostHas (ghostCore part n) k) held)
-
-module _ (D g j : ℕ) (ghostly : ℕ → List ℕ) where
-  pub not-listed : (f : ℕ) → ghostListed g ghostly j f ≡ false → ghostFaceDown (linkByDimension D) g ghostly j f ≡ true
-  unfolding ghostFaceDown
-  not-listed f e = rw e
-
-  pub listed-is : (f : ℕ) → ghostListed g ghostly j f ≡ true → ghostFaceDown (linkByDimension D) g ghostly j f ≡ ghostAnswered (linkByDimension D) g ghostly j f
-  unfolding ghostFaceDown
-  listed-is f e = rw e
-
--- a link that fails by itself, and one that doesn't
-pub low-fails : (n : ℕ) (f : ℕ → Bool) (b : Bool) (i : ℕ) → i < n → f i ≡ false → (allBelow n f && b) ≡ false
-low-fails n f b i h e = ap (λ (x : Bool). x && b) (all-fails n f i h e)
-
-pub low-under : (k K : ℕ) (o : Bool) {room : ℕ} → (ltb k K && o) ≡ true → K ≤ room → k < room
-low-under k K o e h = omega (arith, ltb-true k K (and-fst (ltb k K) o e))
-
--- ---- what is seen of a record
-
--- the loop over the faces of a ghost has come to its end
-pub seen-met : {ups downs : ℕ} {met : Bool} (n face : ℕ) (f m p q : ℕ → Bool) → face ≤ n → n ≤ face → n ≤ 6 → allBelow face f ≡ true → met ≡ anyBelow face m → (ups ≡ countBelow face p) × (ups ≤ face) → (downs ≡ countBelow face q) × (downs ≤ face)
-    → SeenAs (allBelow n f && anyBelow n m) (countBelow n p) (countBelow n q) met ups downs
-seen-met n face f m p q h k six a e u v =
-    let same : face ≡ n = omega arith in
-    let all : allBelow n f ≡ true = all-to n f face h k a in
-    record { tested = rw (all, ← same) e; upward = λ t. rw (← same) (u .0); downward = λ t. rw (← same) (v .0); few = (omega (arith, u .1), omega (arith, v .1)) }
 
 -- a number that doesn't count
 pub count-same-next : {n : ℕ} (i : ℕ) (f : ℕ → Bool) → f i ≡ false → n ≡ countBelow i f → n ≡ countBelow (i + 1) f
@@ -339,46 +235,7 @@ module _ (part : List ℕ) (D first n g i : ℕ) {at : ℕ} (here : at ≡ treeP
         let y : formAlone D (storedTree part i) ≡ true = sym tree-formed ∙ and-snd t a passes in
         rw (x, y, own) s
 
-module _ (part : List ℕ) (D first n g K j : ℕ) {at : ℕ} (here : at ≡ ghostPlace n j) where
-  ghost-alone : {a : Bool} → a ≡ formAlone D (piece part at coreSize) → formAlone D (ghostCore part n j) ≡ a
-  ghost-alone e = ap (formAlone D) (sym (ghost-here part n j here)) ∙ sym e
-
-  pub ghost-off : {a : Bool} → a ≡ formAlone D (piece part at coreSize) → a ≡ false → ghostFromOneEnd (linkByDimension D) g (ghostCore part n) first n D K j ≡ false
-  unfolding ghostFromOneEnd
-  ghost-off e h = let no : formAlone D (ghostCore part n j) ≡ false = ghost-alone e ∙ h in rw no
-
-  module _ {shape faces : ℕ} (shaped : shape ≡ shapeOf (piece part at coreSize)) (counted : faces ≡ faceCount shape) where
-    faces-here : faceCount (shapeOf (ghostCore part n j)) ≡ faces
-    faces-here = ap (λ r. faceCount (shapeOf r)) (sym (ghost-here part n j here)) ∙ sym (counted ∙ ap faceCount shaped)
-
-    pub ghost-unsorted : (allBelow faces (ghostLow (ghostCore part n) K j) && anyBelow faces (neighbourIn first (first + n) (ghostCore part n j))) ≡ false
-        → ghostFromOneEnd (linkByDimension D) g (ghostCore part n) first n D K j ≡ false
-    unfolding ghostFromOneEnd
-    ghost-unsorted h = rw (faces-here, h, and-false)
-
-    pub ghost-unanswered : allBelow faces (ghostFaceDown (linkByDimension D) g (ghostCore part n) j) ≡ false → ghostFromOneEnd (linkByDimension D) g (ghostCore part n) first n D K j ≡ false
-    unfolding ghostFromOneEnd
-    ghost-unanswered h = rw (faces-here, h, and-false)
-
-    pub ghost-seen : {a ok : Bool} {ups downs : ℕ} → a ≡ formAlone D (piece part at coreSize) → a ≡ true → allBelow faces (ghostFaceDown (linkByDimension D) g (ghostCore part n) j) ≡ true
-        → SeenAs (allBelow faces (ghostLow (ghostCore part n) K j) && anyBelow faces (neighbourIn first (first + n) (ghostCore part n j))) (countBelow faces (ghostUp first n g (ghostCore part n) j)) (countBelow faces (ghostDown g (ghostCore part n) j)) ok ups downs
-        → ok ≡ true → SeenAs (ghostFromOneEnd (linkByDimension D) g (ghostCore part n) first n D K j) (ghostUps first n g (ghostCore part n) j) (ghostDowns g (ghostCore part n) j) true ups downs
-    unfolding ghostFromOneEnd ghostUps ghostDowns
-    ghost-seen e h l s passes =
-        let x : formAlone D (ghostCore part n j) ≡ true = ghost-alone e ∙ h in
-        let y : (allBelow faces (ghostLow (ghostCore part n) K j) && anyBelow faces (neighbourIn first (first + n) (ghostCore part n j))) ≡ true = sym (s .tested) ∙ passes in
-        rw (faces-here, x, y, l) (record { tested = refl; upward = λ q. s .upward passes; downward = λ q. s .downward passes; few = s .few })
-
 -- ---- over all records
-
-pub summed-refused : {test : Bool} {up down most : ℕ} {ok : Bool} {ups downs : ℕ} → test ≡ false → (ok ≡ false) × ((ups ≡ 0) × (downs ≡ 0)) → SummedAs test up down most ok ups downs
-summed-refused e r = record { tested = r .0 ∙ sym e; upward = λ t. clash t (r .0); downward = λ t. clash t (r .0); few = (omega (arith, r .1 .0), omega (arith, r .1 .1)) }
-
-pub summed-all : {ups downs : ℕ} (n i : ℕ) (f : ℕ → Bool) (p q : ℕ → ℕ) → i ≤ n → n ≤ i → allBelow i f ≡ true → (ups ≡ sumBelow i p) × (ups ≤ 6 * i) → (downs ≡ sumBelow i q) × (downs ≤ 6 * i)
-    → SummedAs (allBelow n f) (sumBelow n p) (sumBelow n q) (6 * n) true ups downs
-summed-all n i f p q h k a u v =
-    let e : i ≡ n = omega arith in
-    record { tested = sym (all-to n f i h k a); upward = λ t. rw (← e) (u .0); downward = λ t. rw (← e) (v .0); few = (omega (arith, u .1), omega (arith, v .1)) }
 
 pub part-counted : (part : List ℕ) (first n g K : ℕ) → PartLaid part first n g K → {x : Bool} → x ≡ allBelow g (ghostNumbered first n (ghostCore part n) K) → x ≡ true → PartCounted part first n g
 part-counted part first n g K laid ghosts some =

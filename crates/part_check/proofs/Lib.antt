@@ -1,7 +1,6 @@
 -- Laws, for this crate's proofs and for the crates above.
 pub mod Checks
 pub mod Judging
-pub mod Faces
 pub mod FromOneEnd
 pub mod ByDimension
 pub mod Checking

@@ -1,27 +1,19 @@
 -- Means, no part of what is promised: a part as the code checks it, over the records as they stand.
-use Prim.Native.Nat.{ℕ, _+_, _-_, _*_, _≤_, _<_}
-use mathlib.Core.Bool.{Bool, true, false, cond, not, _&&_, _||_}
+use Prim.Native.Nat.{ℕ, _+_, _-_, _≤_, _<_}
+use mathlib.Core.Bool.{Bool, true, false, cond, not, _&&_}
 use mathlib.Core.Path.{_≡_}
 use mathlib.Core.List.{List}
-use lib.Dec.{leb, ltb, eqb}
+use lib.Dec.{ltb, eqb}
 use lib.ListN.{length}
 use Rattle.encoding.specs.Below.{allBelow, anyBelow, countBelow, leastBelow, sumBelow}
-use Rattle.bits.specs.Bits.{inSet}
 use Rattle.offsets.specs.Limits.{maxTrees}
-use Rattle.records.specs.Shape.{dimensionOf, faceCount, shapeOk}
-use Rattle.records.specs.Record.{numberOf, shapeOf, neighbourOf, regionOk, zerosOk, unusedOk, boundaryOk, inForm}
+use Rattle.records.specs.Shape.{dimensionOf, faceCount}
+use Rattle.records.specs.Record.{numberOf, shapeOf, neighbourOf, boundaryOk, inForm}
 use Rattle.mesh.specs.Link.{orientationOk}
-use Rattle.part.specs.Layout.{treePlace, ghostPlace, partSize}
+use Rattle.part.specs.Layout.{partSize}
 use Rattle.part.specs.Part.{storedTree}
+use Rattle.ghost_links.specs.Means.{formAlone, ghostUps, ghostDowns, ghostFromOneEnd}
 use Rattle.part.specs.Means.{inRange, neighbourIn, ghostCore, ghostHas}
-
--- a record in form, its faces apart
-unfoldable pub plainForm : List ℕ → Bool
-plainForm r = shapeOk (shapeOf r) && zerosOk r && regionOk r
-
--- the faces from n on are marked unused
-unfoldable pub unusedFrom : ℕ → List ℕ → ℕ → Bool
-unusedFrom n r f = cond (ltb f n) true (unusedOk r f)
 
 -- the trees of a part as they stand, their neighbours as local indices; by either rule of a link
 module _ (link : ℕ → List ℕ → ℕ → List ℕ → Bool) (n g : ℕ) (tree ghostly : ℕ → List ℕ) where
@@ -42,10 +34,6 @@ module _ (link : ℕ → List ℕ → ℕ → List ℕ → Bool) (n g : ℕ) (tr
   unfoldable pub treeStored : ℕ → ℕ → Bool
   treeStored dimension i =
       inForm i (tree i) && eqb (dimensionOf (shapeOf (tree i))) dimension && allBelow (faceCount (shapeOf (tree i))) (treeFace i)
-
--- where the record with local index j begins
-unfoldable pub recordPlace : ℕ → ℕ → ℕ
-recordPlace n j = cond (ltb j n) (treePlace j) (ghostPlace n (j - n))
 
 -- tree i has its number
 unfoldable pub treeNumbered : ℕ → (ℕ → List ℕ) → ℕ → Bool
@@ -86,7 +74,7 @@ module _ (link : ℕ → List ℕ → ℕ → List ℕ → Bool) (first n g : �
   unfoldable pub recordsSound : ℕ → ℕ → Bool
   recordsSound dimension K = numbersSound first n g tree ghostly K && (allBelow n (treeStored link n g tree ghostly dimension) && allBelow g (ghostStored dimension K))
 
--- ---- each link looked at from one end, and a count. Ghosts are below all trees; among trees and among ghosts the numbers decide. In proofs/FromOneEnd.antt: over all records it is what recordsSound says
+-- ---- each link looked at from one end, and a count. Ghosts are below all trees; among trees and among ghosts the numbers decide. The tests of ghosts are ghost_links'. In proofs/FromOneEnd.antt: over all records it is what recordsSound says
 
 -- the link of face f of tree i leads to a higher tree, or to a lower record
 unfoldable pub treeUp : ℕ → (ℕ → List ℕ) → ℕ → ℕ → Bool
@@ -95,42 +83,17 @@ treeUp n tree i f = ltb i (neighbourOf (tree i) f) && ltb (neighbourOf (tree i) 
 unfoldable pub treeDown : ℕ → (ℕ → List ℕ) → ℕ → ℕ → Bool
 treeDown n tree i f = not (treeUp n tree i f) && not (eqb (neighbourOf (tree i) f) i)
 
--- ghost j's link leads to a tree of the range or a higher ghost, to a lower ghost, or to a ghost that isn't higher
-unfoldable pub ghostUp : ℕ → ℕ → ℕ → (ℕ → List ℕ) → ℕ → ℕ → Bool
-ghostUp first n g ghostly j f =
-    inRange first (first + n) (neighbourOf (ghostly j) f) || (anyBelow g (ghostHas ghostly (neighbourOf (ghostly j) f)) && ltb (numberOf (ghostly j)) (neighbourOf (ghostly j) f))
-
-unfoldable pub ghostDown : ℕ → (ℕ → List ℕ) → ℕ → ℕ → Bool
-ghostDown g ghostly j f = anyBelow g (ghostHas ghostly (neighbourOf (ghostly j) f)) && ltb (neighbourOf (ghostly j) f) (numberOf (ghostly j))
-
-unfoldable pub ghostListed : ℕ → (ℕ → List ℕ) → ℕ → ℕ → Bool
-ghostListed g ghostly j f = anyBelow g (ghostHas ghostly (neighbourOf (ghostly j) f)) && leb (neighbourOf (ghostly j) f) (numberOf (ghostly j))
-
--- how many links of a record do
+-- how many links of tree i do
 unfoldable pub treeUps : ℕ → (ℕ → List ℕ) → ℕ → ℕ
 treeUps n tree i = countBelow (faceCount (shapeOf (tree i))) (treeUp n tree i)
 
 unfoldable pub treeDowns : ℕ → (ℕ → List ℕ) → ℕ → ℕ
 treeDowns n tree i = countBelow (faceCount (shapeOf (tree i))) (treeDown n tree i)
 
-unfoldable pub ghostUps : ℕ → ℕ → ℕ → (ℕ → List ℕ) → ℕ → ℕ
-ghostUps first n g ghostly j = countBelow (faceCount (shapeOf (ghostly j))) (ghostUp first n g ghostly j)
-
-unfoldable pub ghostDowns : ℕ → (ℕ → List ℕ) → ℕ → ℕ
-ghostDowns g ghostly j = countBelow (faceCount (shapeOf (ghostly j))) (ghostDown g ghostly j)
-
 -- as many links lead up as down
 unfoldable pub evenLinks : ℕ → ℕ → ℕ → (ℕ → List ℕ) → (ℕ → List ℕ) → Bool
 evenLinks first n g tree ghostly =
     eqb (sumBelow n (treeUps n tree) + sumBelow g (ghostUps first n g ghostly)) (sumBelow n (treeDowns n tree) + sumBelow g (ghostDowns g ghostly))
-
--- what a record shows without its links
-unfoldable pub formAlone : ℕ → List ℕ → Bool
-formAlone dimension r = plainForm r && allBelow 6 (unusedFrom (faceCount (shapeOf r)) r) && eqb (dimensionOf (shapeOf r)) dimension
-
--- and what a link of ghost j shows without its neighbour
-unfoldable pub ghostLow : (ℕ → List ℕ) → ℕ → ℕ → ℕ → Bool
-ghostLow ghostly K j f = ltb (neighbourOf (ghostly j) f) K && orientationOk (ghostly j) f
 
 module _ (link : ℕ → List ℕ → ℕ → List ℕ → Bool) (n g : ℕ) (tree ghostly : ℕ → List ℕ) where
   -- a tree's link that doesn't lead up obeys the rules
@@ -139,23 +102,6 @@ module _ (link : ℕ → List ℕ → ℕ → List ℕ → Bool) (n g : ℕ) (tr
 
   unfoldable pub treeFromOneEnd : ℕ → ℕ → Bool
   treeFromOneEnd dimension i = formAlone dimension (tree i) && allBelow (faceCount (shapeOf (tree i))) (treeFaceDown i)
-
-module _ (link : ℕ → List ℕ → ℕ → List ℕ → Bool) (g : ℕ) (ghostly : ℕ → List ℕ) where
-  -- the link of ghost j to a ghost obeys the rules
-  unfoldable pub ghostAnswered : ℕ → ℕ → Bool
-  ghostAnswered j f =
-      boundaryOk (numberOf (ghostly j)) (ghostly j) f
-      && link (numberOf (ghostly j)) (ghostly j) f (ghostly (leastBelow g (ghostHas ghostly (neighbourOf (ghostly j) f))))
-
-  -- each that is listed does
-  unfoldable pub ghostFaceDown : ℕ → ℕ → Bool
-  ghostFaceDown j f = cond (ghostListed g ghostly j f) (ghostAnswered j f) true
-
-  unfoldable pub ghostFromOneEnd : ℕ → ℕ → ℕ → ℕ → ℕ → Bool
-  ghostFromOneEnd first n dimension K j =
-      formAlone dimension (ghostly j)
-      && (allBelow (faceCount (shapeOf (ghostly j))) (ghostLow ghostly K j) && anyBelow (faceCount (shapeOf (ghostly j))) (neighbourIn first (first + n) (ghostly j)))
-      && allBelow (faceCount (shapeOf (ghostly j))) (ghostFaceDown j)
 
 module _ (link : ℕ → List ℕ → ℕ → List ℕ → Bool) (first n g : ℕ) (tree ghostly : ℕ → List ℕ) where
   -- tree i and its number
@@ -188,16 +134,3 @@ pub record PartCounted (part : List ℕ) (first n g : ℕ) : Type 0 where
 pub record TreeKnown (part : List ℕ) (first n i : ℕ) : Type 0 where
   pub below : i < n
   pub number : treeNumbered first (storedTree part) i ≡ true
-
--- the ghosts' numbers as a set, which has room for every number below K
-pub record GhostsMarked (part : List ℕ) (first n g K : ℕ) (marks : List ℕ) : Type 0 where
-  pub numbered : PartNumbered part first n g K
-  pub room : K ≤ 64 * length marks
-  pub members : (k : ℕ) → inSet marks k ≡ anyBelow g (ghostHas (ghostCore part n) k)
-
--- what a loop over records answers: the test, and where it passes the links up and down, each no more than most
-pub record SummedAs (test : Bool) (up down most : ℕ) (ok : Bool) (ups downs : ℕ) : Type 0 where
-  pub tested : ok ≡ test
-  pub upward : ok ≡ true → ups ≡ up
-  pub downward : ok ≡ true → downs ≡ down
-  pub few : (ups ≤ most) × (downs ≤ most)

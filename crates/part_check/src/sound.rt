@@ -1,19 +1,16 @@
 // Whether a part is sound. Its tree records hold local indices, its ghosts global numbers: each link is followed by what stands in the record, and looked at from one end. Between a tree and a ghost that is the tree, between two trees or two ghosts the one with the higher number. Where as many links lead up as down, each link up is then the answer to one down (proofs/FromOneEnd.antt).
+use ghost_links::check::alone;
+use ghost_links::check::ghosts_linked;
 use mesh::link::answered_there;
 use mesh::link::corners_fit;
-use mesh::link::link_ok;
-use mesh::link::orientation_ok;
 use mesh::link::parted;
-use mesh::sound::Links;
 use mesh::sound::Seen;
 use mesh::sound::one;
-use mesh::sound::pushed;
 use mesh::sound::refused;
 use part::layout::dimension;
 use part::layout::first_tree;
 use part::layout::ghost_at;
 use part::layout::ghost_count;
-use part::layout::place_near;
 use part::layout::tree_at;
 use part::layout::tree_count;
 use part::layout::trees;
@@ -27,16 +24,16 @@ ghost use mathlib.Core.Bool.{true, cond, _&&_};
 ghost use Prim.Native.Nat.{_+_, _*_, _≤_, _<_};
 ghost use lib.Dec.{ltb, eqb};
 ghost use lib.ListN.{length};
-ghost use Rattle.encoding.specs.Below.{allBelow, anyBelow, countBelow, leastBelow, sumBelow};
+ghost use Rattle.encoding.specs.Below.{allBelow, countBelow, leastBelow, sumBelow};
 ghost use Rattle.encoding.specs.Pieces.{piece};
 ghost use Rattle.offsets.specs.Limits.{maxTrees};
-ghost use Rattle.records.specs.Record.{coreSize, neighbourOf, boundaryOk};
+ghost use Rattle.records.specs.Record.{coreSize, neighbourOf};
 ghost use Rattle.part.specs.Layout.{treePlace, ghostPlace, partSize};
 ghost use Rattle.part.specs.Part.{partCount, partGhostCount, storedTree, partHeaderSound, partSound};
-ghost use Rattle.part.specs.Means.{inRange, neighbourIn, Ascending, ghostCore, ghostHas, RankKnown};
-ghost use Rattle.mesh.specs.Means.{linkByDimension, packed, SeenAs};
-ghost use Rattle.positions.specs.Means.{Indexed};
-ghost use Rattle.part_check.specs.Means.{plainForm, unusedFrom, formAlone, recordPlace, treeFits, treeNumbered, ghostBehind, ghostNumbered, treeUp, treeDown, ghostUp, ghostDown, ghostListed, treeUps, treeDowns, ghostUps, ghostDowns, treeFaceDown, treeSeen, ghostLow, ghostAnswered, ghostFaceDown, ghostFromOneEnd, recordsSound, PartLaid, PartNumbered, PartCounted, TreeKnown, GhostsMarked, SummedAs};
+ghost use Rattle.part.specs.Means.{recordPlace, Ascending, ghostCore, ghostHas, RankKnown};
+ghost use Rattle.mesh.specs.Means.{linkByDimension, SeenAs};
+ghost use Rattle.ghost_links.specs.Means.{ghostUps, ghostDowns, ghostFromOneEnd, SummedAs};
+ghost use Rattle.part_check.specs.Means.{treeFits, treeNumbered, ghostBehind, ghostNumbered, treeUp, treeDown, treeUps, treeDowns, treeFaceDown, treeSeen, recordsSound, PartLaid, PartNumbered, PartCounted, TreeKnown};
 
 // Whether the header is as table and rank say, and the length as the header says.
 pub fn header_sound(part: &[u8], table: &[u8], rank: u32) -> bool
@@ -110,60 +107,6 @@ fn ghost_numbers(part: &[u8], first: u32, count: u32, ghosts: u32, trees: u32) -
     true
 }
 
-// ---- forms: what records::form::in_form asks for, so that a record's faces are looked at once, with their links
-
-// Shape, zero bytes and region.
-fn plain(part: &[u8], at: usize) -> bool
-    requires { ⌜ at + coreSize ≤ length (now part) ⌝ }
-    ensures { λ r. ⌜ r ≡ plainForm (piece (now (part .entry)) at coreSize) ⌝ }
-{
-    records::shape::shape_ok(records::read::shape_of(part, at))
-        & ((part[at + 5] == 0) & (part[at + 6] == 0) & (part[at + 7] == 0))
-        & (records::read::region_of(part, at) < records::form::REGIONS)
-}
-
-// The faces that the shape doesn't have.
-fn unused_from(part: &[u8], at: usize, faces: u32) -> bool
-    requires { ⌜ (at + coreSize ≤ length (now part)) × (faces ≤ 6) ⌝ }
-    ensures { λ r. ⌜ r ≡ allBelow 6 (unusedFrom faces (piece (now (part .entry)) at coreSize)) ⌝ }
-{
-    let mut face = faces;
-    while face < 6 {
-        let k = records::read::neighbour_of(part, at, face);
-        let code = records::read::code_of(part, at, face);
-        if !((k == records::form::UNUSED) & (code == 0)) {
-            return false;
-        }
-        face += 1;
-    }
-    true
-}
-
-// A face that it has: no boundary, or one with orientation 0.
-fn boundary_ok(part: &[u8], at: usize, own: u32, face: u32) -> bool
-    requires { ⌜ (at + coreSize ≤ length (now part)) × (face < 6) ⌝ }
-    ensures { λ r. ⌜ r ≡ boundaryOk own (piece (now (part .entry)) at coreSize) face ⌝ }
-{
-    if records::read::neighbour_of(part, at, face) != own {
-        return true;
-    }
-    if records::read::face_of(part, at, face) != face {
-        return true;
-    }
-    records::read::orientation_of(part, at, face) == 0
-}
-
-// What a record shows without its links.
-fn alone(part: &[u8], dimension: u32, at: usize) -> bool
-    requires { ⌜ at + coreSize ≤ length (now part) ⌝ }
-    ensures { λ r. ⌜ r ≡ formAlone dimension (piece (now (part .entry)) at coreSize) ⌝ }
-{
-    let shape = records::read::shape_of(part, at);
-    plain(part, at)
-        & unused_from(part, at, records::shape::face_count(shape))
-        & (records::shape::dimension_of(shape) == dimension)
-}
-
 // ---- trees
 
 // The rule of a link, as `mesh::link::link_ok` has it: a function with one caller costs no call.
@@ -223,7 +166,7 @@ fn tree_face(
     let i = tree.0;
     let at = tree_at(tree);
     let j = records::read::neighbour_of(part, at, face);
-    if !boundary_ok(part, at, i, face) {
+    if !records::form::boundary_ok(part, at, i, face) {
         return false;
     }
     tree_link(
@@ -337,205 +280,7 @@ pub fn ghost_with(part: &[u8], count: u32, ghosts: u32, number: GlobalIndex) -> 
     position
 }
 
-// Whether a tree is in the range, by one comparison.
-fn within(first: u32, count: u32, tree: u32) -> bool
-    requires { ⌜ first + count ≤ 4294967296 ⌝ }
-    ensures { λ r. ⌜ r ≡ inRange first (first + count) tree ⌝ }
-{
-    place_near(0, first, tree) < count
-}
-
-// The links of a ghost, sorted: those to ghosts that aren't higher as digits to base 8, and how many lead up and down; and whether one leads into the range. No branch hangs on where a link leads: with random links it would be guessed wrong every second time.
-fn ghost_sorted(
-    part: &[u8],
-    first: u32,
-    count: u32,
-    ghosts: u32,
-    trees: u32,
-    marks: &[u64],
-    j: u32,
-    faces: u32,
-) -> Links
-    requires { ⌜ GhostsMarked (now part) first count ghosts trees (now marks) × (j < ghosts) × (faces ≤ 6) ⌝ }
-    ensures { λ r. ⌜ (SeenAs (allBelow faces (ghostLow (ghostCore (now (part .entry)) count) trees j) && anyBelow faces (neighbourIn first (first + count) (ghostCore (now (part .entry)) count j))) (countBelow faces (ghostUp first count ghosts (ghostCore (now (part .entry)) count) j)) (countBelow faces (ghostDown ghosts (ghostCore (now (part .entry)) count) j)) (r .ok) (r .ups) (r .downs)) × (r .ok ≡ true → r .list ≡ packed faces (ghostListed ghosts (ghostCore (now (part .entry)) count) j)) ⌝ }
-{
-    let at = ghost_at(count, j);
-    let own = records::read::number_of(part, at);
-    let mut face = 0;
-    let mut list = 0;
-    let mut ups = 0;
-    let mut downs = 0;
-    let mut met = false;
-    while face < faces {
-        let k = records::read::neighbour_of(part, at, face);
-        if !((k < trees) & orientation_ok(part, at, face)) {
-            return Links {
-                ok: false,
-                list: 0,
-                ups: 0,
-                downs: 0,
-            };
-        }
-        let inside = within(first, count, k);
-        let held = bits::set::in_set(marks, k);
-        list = pushed(list, face, held & (k <= own));
-        ups += one(inside | (held & (own < k)));
-        downs += one(held & (k < own));
-        met = met | inside;
-        face += 1;
-    }
-    Links {
-        ok: met,
-        list,
-        ups,
-        downs,
-    }
-}
-
-// A link to a ghost that isn't higher.
-fn ghost_face(
-    part: &[u8],
-    count: u32,
-    ghosts: u32,
-    dimension: u32,
-    marks: &[u64],
-    behind: &[u32],
-    j: u32,
-    face: u32,
-) -> bool
-    requires { ⌜ (length (now part) ≡ partSize count ghosts) × (j < ghosts) × (face < 6) × (ghostListed ghosts (ghostCore (now part) count) j face ≡ true) × Indexed (now part) (ghostPlace count 0) ghosts (now marks) (now behind) ⌝ }
-    ensures { λ r. ⌜ r ≡ ghostAnswered (linkByDimension dimension) ghosts (ghostCore (now (part .entry)) count) j face ⌝ }
-{
-    let at = ghost_at(count, j);
-    let own = records::read::number_of(part, at);
-    let k = records::read::neighbour_of(part, at, face);
-    if !boundary_ok(part, at, own, face) {
-        return false;
-    }
-    let position = positions::index::find(marks, behind, ghosts, GlobalIndex(k));
-    link_ok(part, dimension, own, at, face, ghost_at(count, position))
-}
-
-// The faces of a list, the last first.
-fn ghost_listed(
-    part: &[u8],
-    count: u32,
-    ghosts: u32,
-    dimension: u32,
-    marks: &[u64],
-    behind: &[u32],
-    j: u32,
-    faces: u32,
-    list: u32,
-) -> bool
-    requires { ⌜ (length (now part) ≡ partSize count ghosts) × (j < ghosts) × (faces ≤ 6) × (list ≡ packed faces (ghostListed ghosts (ghostCore (now part) count) j)) × Indexed (now part) (ghostPlace count 0) ghosts (now marks) (now behind) ⌝ }
-    ensures { λ r. ⌜ r ≡ allBelow faces (ghostFaceDown (linkByDimension dimension) ghosts (ghostCore (now (part .entry)) count) j) ⌝ }
-{
-    let mut left = list;
-    while 0 < left {
-        if !ghost_face(
-            part,
-            count,
-            ghosts,
-            dimension,
-            marks,
-            behind,
-            j,
-            left % 8 - 1,
-        ) {
-            return false;
-        }
-        left = left / 8;
-    }
-    true
-}
-
-fn ghost_sound(
-    part: &[u8],
-    first: u32,
-    count: u32,
-    ghosts: u32,
-    dimension: u32,
-    trees: u32,
-    marks: &[u64],
-    behind: &[u32],
-    j: u32,
-) -> Seen
-    requires { ⌜ GhostsMarked (now part) first count ghosts trees (now marks) × (j < ghosts) × Indexed (now part) (ghostPlace count 0) ghosts (now marks) (now behind) ⌝ }
-    ensures { λ r. ⌜ SeenAs (ghostFromOneEnd (linkByDimension dimension) ghosts (ghostCore (now (part .entry)) count) first count dimension trees j) (ghostUps first count ghosts (ghostCore (now (part .entry)) count) j) (ghostDowns ghosts (ghostCore (now (part .entry)) count) j) (r .ok) (r .ups) (r .downs) ⌝ }
-{
-    let at = ghost_at(count, j);
-    if !alone(part, dimension, at) {
-        return refused();
-    }
-    let faces = records::shape::face_count(records::read::shape_of(part, at));
-    let links = ghost_sorted(part, first, count, ghosts, trees, marks, j, faces);
-    if !links.ok {
-        return refused();
-    }
-    if !ghost_listed(
-        part,
-        count,
-        ghosts,
-        dimension,
-        marks,
-        behind,
-        j,
-        faces,
-        links.list,
-    ) {
-        return refused();
-    }
-    Seen {
-        ok: true,
-        ups: links.ups,
-        downs: links.downs,
-    }
-}
-
-fn ghosts_sound(
-    part: &[u8],
-    first: u32,
-    count: u32,
-    ghosts: u32,
-    dimension: u32,
-    trees: u32,
-    marks: &[u64],
-    behind: &[u32],
-) -> Seen
-    requires { ⌜ GhostsMarked (now part) first count ghosts trees (now marks) × Indexed (now part) (ghostPlace count 0) ghosts (now marks) (now behind) ⌝ }
-    ensures { λ r. ⌜ SummedAs (allBelow ghosts (ghostFromOneEnd (linkByDimension dimension) ghosts (ghostCore (now (part .entry)) count) first count dimension trees)) (sumBelow ghosts (ghostUps first count ghosts (ghostCore (now (part .entry)) count))) (sumBelow ghosts (ghostDowns ghosts (ghostCore (now (part .entry)) count))) (6 * ghosts) (r .ok) (r .ups) (r .downs) ⌝ }
-{
-    let mut j = 0;
-    let mut ups = 0;
-    let mut downs = 0;
-    while j < ghosts {
-        let seen = ghost_sound(
-            part,
-            first,
-            count,
-            ghosts,
-            dimension,
-            trees,
-            marks,
-            behind,
-            j,
-        );
-        if !seen.ok {
-            return refused();
-        }
-        ups += seen.ups;
-        downs += seen.downs;
-        j += 1;
-    }
-    Seen {
-        ok: true,
-        ups,
-        downs,
-    }
-}
-
-// The same, with an index for as many trees as there can be.
+// All ghosts: their form, and their links from one end. With an index for as many trees as there can be.
 fn ghosts_of_many(
     part: &[u8],
     first: u32,
@@ -547,23 +292,19 @@ fn ghosts_of_many(
     requires { ⌜ PartNumbered (now part) first count ghosts trees ⌝ }
     ensures { λ r. ⌜ SummedAs (allBelow ghosts (ghostFromOneEnd (linkByDimension dimension) ghosts (ghostCore (now (part .entry)) count) first count dimension trees)) (sumBelow ghosts (ghostUps first count ghosts (ghostCore (now (part .entry)) count))) (sumBelow ghosts (ghostDowns ghosts (ghostCore (now (part .entry)) count))) (6 * ghosts) (r .ok) (r .ups) (r .downs) ⌝ }
 {
+    let at = ghost_at(count, 0);
     let mut marks = [0u64; 16384];
     let mut behind = [0u32; 16384];
-    positions::index::make(
+    positions::index::make(part, at, ghosts, trees, &mut marks, &mut behind);
+    ghosts_linked(
         part,
-        ghost_at(count, 0),
+        at,
         ghosts,
-        trees,
-        &mut marks,
-        &mut behind,
-    );
-    ghosts_sound(
-        part,
         first,
         count,
-        ghosts,
         dimension,
         trees,
+        false,
         &marks,
         &behind,
     )
@@ -582,23 +323,19 @@ fn all_ghosts_sound(
     ensures { λ r. ⌜ SummedAs (allBelow ghosts (ghostFromOneEnd (linkByDimension dimension) ghosts (ghostCore (now (part .entry)) count) first count dimension trees)) (sumBelow ghosts (ghostUps first count ghosts (ghostCore (now (part .entry)) count))) (sumBelow ghosts (ghostDowns ghosts (ghostCore (now (part .entry)) count))) (6 * ghosts) (r .ok) (r .ups) (r .downs) ⌝ }
 {
     if trees <= 65536 {
+        let at = ghost_at(count, 0);
         let mut marks = [0u64; 1024];
         let mut behind = [0u32; 1024];
-        positions::index::make(
+        positions::index::make(part, at, ghosts, trees, &mut marks, &mut behind);
+        return ghosts_linked(
             part,
-            ghost_at(count, 0),
+            at,
             ghosts,
-            trees,
-            &mut marks,
-            &mut behind,
-        );
-        return ghosts_sound(
-            part,
             first,
             count,
-            ghosts,
             dimension,
             trees,
+            false,
             &marks,
             &behind,
         );

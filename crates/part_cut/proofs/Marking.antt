@@ -27,24 +27,6 @@ use Rattle.part_cut.specs.Calls.{cutChecks}
 use Rattle.part_cut.specs.Means.{outFaces, outTrees, FacesFit, TreesFit, CutSpace, GhostSet, Measured}
 use Rattle.part_cut.proofs.Cutting.{Cuttable, CutFits, all-hold, cut-fits}
 
--- ---- one comparison
-
-pub range-wraps : (first end k : ℕ) → first ≤ end → end ≤ 4294967296 → k < 4294967296 → ltb ((k + (4294967296 - first)) % 4294967296) (end - first) ≡ inRange first end k
-unfolding inRange
-range-wraps first end k h l u =
-    either (ltb k first)
-    (λ p.
-    let below : k < first = ltb-true k first p in
-    let far : (k + (4294967296 - first)) % 4294967296 ≡ k + (4294967296 - first) = omega arith in
-    rw (far, lt-leb first k below) (le-ltb (k + (4294967296 - first)) (end - first) (omega arith)))
-    (λ p.
-    let from : first ≤ k = omega tests in
-    let near : (k + (4294967296 - first)) % 4294967296 ≡ k - first = omega arith in
-    rw (near, le-leb first k from)
-    (either (ltb k end)
-    (λ q. rw q (lt-ltb (k - first) (end - first) (omega tests)))
-    (λ q. rw q (le-ltb (k - first) (end - first) (omega tests)))))
-
 -- ---- one record
 
 module _ (first end : ℕ) (r : List ℕ) where

@@ -30,11 +30,11 @@ unfoldable pub outTrees : (ℕ → List ℕ) → ℕ → ℕ → ℕ → ℕ →
 outTrees core first end n k = anyBelow n (λ i. outFaces first end (core (first + i)) (faceCount (shapeOf (core (first + i)))) k)
 
 -- the record at byte at, whose first faces lead to numbers that the set can hold
-pub record FacesFit (mesh : List ℕ) (at faces first end : ℕ) (ws : List ℕ) : Type 0 where
-  pub fits : at + coreSize ≤ length mesh
+pub record FacesFit (bs : List ℕ) (at faces first end : ℕ) (ws : List ℕ) : Type 0 where
+  pub fits : at + coreSize ≤ length bs
   pub few : faces ≤ 6
   pub range : first ≤ end
-  pub low : (f : ℕ) → f < faces → neighbourOf (piece mesh at coreSize) f < 64 * length ws
+  pub low : (f : ℕ) → f < faces → neighbourOf (piece bs at coreSize) f < 64 * length ws
 
 -- a range of a sound mesh, whose trees the set can hold
 pub record TreesFit (mesh : List ℕ) (first end : ℕ) (ws : List ℕ) : Type 0 where

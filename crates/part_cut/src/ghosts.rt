@@ -1,33 +1,23 @@
 // The ghosts of a rank's range as a set of bits: what the range's own trees have across their faces. Answered links make these the trees outside with a neighbour inside, and no other tree of the mesh is read.
-use records::index::GlobalIndex;
+use part::range::within;
 ghost use mathlib.Core.Path.{_≡_};
-ghost use Prim.Native.Nat.{_-_, _≤_};
+ghost use Prim.Native.Nat.{_-_};
 ghost use Rattle.encoding.specs.Pieces.{piece};
 ghost use Rattle.records.specs.Record.{coreSize};
 ghost use Rattle.mesh.specs.Mesh.{meshCore};
-ghost use Rattle.part.specs.Means.{inRange};
 ghost use Rattle.positions.specs.Means.{Added};
 ghost use Rattle.part_cut.specs.Means.{outFaces, outTrees, FacesFit, TreesFit, CutSpace, Measured};
 
-// Whether a tree is in a range, by one comparison: on meshes whose links lead far a branch for each bound is often foretold wrongly.
-pub fn within(first: u32, end: u32, tree: GlobalIndex) -> bool
-    requires { ⌜ first ≤ end ⌝ }
-    ensures { λ r. ⌜ r ≡ inRange first end (tree .0) ⌝ }
-{
-    let k = tree.0;
-    ((((k as u64) + (4294967296 - (first as u64))) % 4294967296) as u32) < end - first
-}
-
-// Adds the neighbours, outside the range, across the first faces of the record at byte `at`.
-fn mark_faces(mesh: &[u8], at: usize, faces: u32, first: u32, end: u32, marks: &mut [u64])
-    requires { ⌜ FacesFit (now mesh) at faces first end (now marks) ⌝ }
-    ensures { λ u. ⌜ Added (now (marks .entry)) (outFaces first end (piece (now (mesh .entry)) at coreSize) faces) (now (marks .exit)) ⌝ }
+// Adds the neighbours, outside the range, across the first faces of the record at byte `at`: numbers where it is a mesh's, local indices where it is a tree of a part.
+pub fn mark_faces(bs: &[u8], at: usize, faces: u32, first: u32, end: u32, marks: &mut [u64])
+    requires { ⌜ FacesFit (now bs) at faces first end (now marks) ⌝ }
+    ensures { λ u. ⌜ Added (now (marks .entry)) (outFaces first end (piece (now (bs .entry)) at coreSize) faces) (now (marks .exit)) ⌝ }
 {
     let mut face = 0;
     while face < faces {
-        let k = records::read::neighbour_of(mesh, at, face);
+        let k = records::read::neighbour_of(bs, at, face);
         face += 1;
-        if !within(first, end, GlobalIndex(k)) {
+        if !within(first, end, k) {
             bits::set::add_member(&mut *marks, k);
         }
     }

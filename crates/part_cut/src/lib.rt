@@ -7,7 +7,7 @@ use crate::ghosts::measure;
 use encoding::answer::Length;
 use part::layout::ghost_at;
 
-mod ghosts;
+pub mod ghosts;
 pub mod locals;
 mod write;
 

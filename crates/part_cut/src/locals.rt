@@ -1,5 +1,5 @@
 // Tree records with local indices, by the index of the ghosts' numbers.
-use crate::ghosts::within;
+use part::range::within;
 use records::index::GlobalIndex;
 use records::index::LocalIndex;
 use records::index::ghost_index;
@@ -29,7 +29,7 @@ fn local_index(
     if k == 4294967295 {
         return LocalIndex(4294967295);
     }
-    if within(first, end, neighbour) {
+    if within(first, end, k) {
         return to_local(neighbour, GlobalIndex(first));
     }
     let position = positions::index::count_below(marks, behind, count, neighbour);

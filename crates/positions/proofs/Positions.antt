@@ -331,3 +331,8 @@ index-position {bs} {at} {count} {ws} x k =
     let number : numberAt bs at (found .0) ≡ k = has-is bs at count (x .ascending) k (found .0) (found .2) in
     rw t (index-smaller x k ∙ smaller-is bs at count (x .ascending) k (found .0) (found .1) number ∙ found-is bs at count (x .ascending) k (found .0) (found .1) number))
     (λ f. rw f (none-is bs at count (x .ascending) k (sym (x .members k) ∙ f)))
+
+-- a record with the number is where it is looked up
+pub position-near : {bs : List ℕ} {at count : ℕ} {ws behind : List ℕ} → Indexed bs at count ws behind → {k p number : ℕ} → p < count → number ≡ u32At bs (at + coreSize * p) → number ≡ k → (p ≡ memberPosition ws count k) × (p ≤ count)
+unfolding numberAt
+position-near {bs} {at} {count} x {k} {p} h e d = (found-is bs at count (x .ascending) k p h (sym e ∙ d) ∙ sym (index-position x k), omega arith)

@@ -2,6 +2,7 @@
 use bits::set::in_set;
 use bits::word::ones;
 use encoding::bytes::read_u32;
+use part::layout::place_near;
 use records::index::GlobalIndex;
 ghost use mathlib.Core.Path.{_≡_};
 ghost use Prim.Native.Nat.{_*_, _≤_, _<_};
@@ -86,4 +87,37 @@ pub fn find(marks: &[u64], behind: &[u32], count: u32, number: GlobalIndex) -> u
         return count;
     }
     members_below(marks, behind, count, k)
+}
+
+// A position, or j where no record has it.
+fn position_or(position: u32, count: u32, j: u32) -> u32
+    requires { ⌜ j < count ⌝ }
+    ensures { λ r. ⌜ r < count ⌝ }
+{
+    if position < count {
+        return position;
+    }
+    j
+}
+
+// The same among the records indexed, with a guess first: where the numbers between that of record j and this one are consecutive, as in a layer of a brick, its position follows from j. Some record is read in any case: where links lead far, a branch on whether the guess has one is often foretold wrongly.
+pub fn find_near(
+    bs: &[u8],
+    at: usize,
+    marks: &[u64],
+    behind: &[u32],
+    count: u32,
+    j: u32,
+    number: GlobalIndex,
+) -> u32
+    requires { ⌜ Indexed (now bs) at count (now marks) (now behind) × (j < count) ⌝ }
+    ensures { λ r. ⌜ (r ≡ memberPosition (now (marks .entry)) count (number .0)) × (r ≤ count) ⌝ }
+{
+    let k = number.0;
+    let own = read_u32(bs, at + 40 * (j as usize));
+    let near = position_or(place_near(j, own, k), count, j);
+    if read_u32(bs, at + 40 * (near as usize)) == k {
+        return near;
+    }
+    find(marks, behind, count, number)
 }

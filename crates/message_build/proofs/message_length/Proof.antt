@@ -41,7 +41,8 @@ going-requires c κs =
     let if1 = c .before .before .before .if1 in
     let sent = c .before .before .sent in
     let mark-words = c .before .mark-words in
-    ((may-range _ _ _ _ _ (refusal .ensures) (λ i. shared-slice-known2 .given i .fits) (λ i. shared-slice-known3 .given i .fits) (if1 .left) (sent .ensures .0) (sent .ensures .1)), marks-room _ _ _ _ _ _ _ (may-range _ _ _ _ _ (refusal .ensures) (λ i. shared-slice-known2 .given i .fits) (λ i. shared-slice-known3 .given i .fits) (if1 .left) (sent .ensures .0) (sent .ensures .1)) _ (prefix-length 16384 (mark-words .ensures .1)) (mark-words .ensures .0) (mark-words .ensures .1))
+    let range = may-range _ _ _ _ _ (refusal .ensures) (λ i. shared-slice-known2 .given i .fits) (λ i. shared-slice-known3 .given i .fits) (if1 .left) (sent .ensures .0) (sent .ensures .1) in
+    (range, marks-room _ _ _ _ _ _ _ range _ (prefix-length 16384 (mark-words .ensures .1)) (mark-words .ensures .0) (mark-words .ensures .1))
 
 ghost-at-requires : tie.Need-ghost-at-requires
 ghost-at-requires c κs = search needs

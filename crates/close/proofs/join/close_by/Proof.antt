@@ -46,7 +46,7 @@ join-by-requires c κs =
     let ghosts = c .before .before .before .before .before .before .before .before .before .before .before .before .before .ghosts in
     let ghost-slots-place = c .before .before .before .before .before .before .before .before .before .before .before .ghost-slots-place in
     let make = c .before .before .before .before .before .before .before .make in
-    (pre .0, first-tree .ensures .0, index-read _ (ranks .ensures) (count .ensures) (ghosts .ensures) (ghost-slots-place .ensures .0) (make .ensures))
+    (pre .0, first-tree .ensures .0, index-read _ (ranks .ensures) (count .ensures) (ghosts .ensures) (ghost-slots-place .ensures .0) (make .ensures), omega (arith, pre .1))
 
 same-length : tie.Need-same-length
 same-length c = search needs

@@ -27,7 +27,7 @@ slice-aggregate-records-join-2 : tie.Need-slice-aggregate-records-join-2
 slice-aggregate-records-join-2 c = search needs
 
 records-join-requires : tie.Need-records-join-requires
-records-join-requires c κs = (c .before .before .before .before .before .before .before .before .before .pre, c .before .before .before .before .make .ensures)
+records-join-requires c κs = (c .before .before .before .before .before .before .before .before .before .pre, c .before .before .before .before .make .ensures, omega arith)
 
 returns : tie.Need-returns
 returns c = search needs

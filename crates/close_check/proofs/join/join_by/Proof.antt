@@ -29,7 +29,7 @@ records-join-requires c κs =
     let slots-place = c .before .before .before .before .slots-place in
     let count = c .before .before .before .count in
     let ghosts = c .before .before .ghosts in
-    slots-by (λ i. shared-slice-known .given i .fits) (pre .0) (pre .1) (ranks .ensures) (slots-place .ensures .0) (count .ensures) (ghosts .ensures) (pre .2) (c .trees .ensures)
+    slots-by (λ i. shared-slice-known .given i .fits) (pre .0) (pre .1) (ranks .ensures) (slots-place .ensures .0) (count .ensures) (ghosts .ensures) (pre .2) (c .trees .ensures) (pre .3)
 
 returns : tie.Need-returns
 returns c =

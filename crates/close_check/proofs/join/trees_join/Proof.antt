@@ -8,7 +8,7 @@ use Rattle.encoding.proofs.Below.{all-more, all-fails}
 use Rattle.mesh.specs.Means.{linkByDimension}
 use Rattle.mesh.proofs.Checking.{sum-next}
 use Rattle.close_check.specs.Means.{treeFromOneEnd, treeUps, treeDowns}
-use Rattle.close_check.proofs.Loops.{all-refused, all-seen}
+use Rattle.ghost_links.proofs.Checking.{summed-refused, summed-all}
 use borrow.Author.Needs.{needs}
 use Rattle.close_check.proofs.join.trees_join.Statement.{statement}
 use Rattle.close_check.proofs.join.trees_join.Tie as tie
@@ -38,7 +38,7 @@ returns c =
     let loop-test = c .before .before .before .before .loop-test in
     let tree-joins = c .before .before .before .tree-joins in
     let if1 = c .before .if1 in
-    all-refused (all-fails _ _ _ (loop-test .taken) (sym (tree-joins .ensures .tested) ∙ not-true _ (if1 .taken))) (c .refused .ensures)
+    summed-refused (all-fails _ _ _ (loop-test .taken) (sym (tree-joins .ensures .tested) ∙ not-true _ (if1 .taken))) (c .refused .ensures)
 
 add-ups : tie.Need-add-ups Inv-loop μ-loop
 add-ups c = omega (arith, c .before .before .before .tree-joins .ensures .few .0)
@@ -71,7 +71,7 @@ loop-again c =
     )
 
 returns-2 : tie.Need-returns-2 Inv-loop μ-loop
-returns-2 c = let inv = c .before .loop .inv in all-seen _ _ _ _ _ (inv .0) (omega arith) (inv .1 .0) (inv .1 .1 .0) (inv .1 .1 .1)
+returns-2 c = let inv = c .before .loop .inv in summed-all _ _ _ _ _ (inv .0) (omega arith) (inv .1 .0) (inv .1 .1 .0) (inv .1 .1 .1)
 
 pub trees-join-spec : {M : Type 1} → statement M
 trees-join-spec =

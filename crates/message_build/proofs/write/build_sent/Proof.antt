@@ -12,14 +12,14 @@ array-borrow-prefix-marks : tie.Need-array-borrow-prefix-marks
 array-borrow-prefix-marks c = search needs
 
 slice-aggregate-build-range : tie.Need-slice-aggregate-build-range
-slice-aggregate-build-range c = sym (prefix-length 1024 (c .before .if1 .taken))
+slice-aggregate-build-range c = sym (prefix-length 256 (c .before .if1 .taken))
 
 build-range-requires : tie.Need-build-range-requires
 build-range-requires c κs =
     let pre = c .before .before .before .before .before .before .before .before .pre in
     let if1 = c .before .before .if1 in
     let mark-words = c .before .before .before .mark-words in
-    (pre, marks-room _ _ _ _ _ _ _ pre _ (prefix-length 1024 (if1 .taken)) (mark-words .ensures .0) (mark-words .ensures .1))
+    (pre, marks-room _ _ _ _ _ _ _ pre _ (prefix-length 256 (if1 .taken)) (mark-words .ensures .0) (mark-words .ensures .1))
 
 same-length : tie.Need-same-length
 same-length c = search needs
@@ -27,14 +27,14 @@ same-length c = search needs
 returns : tie.Need-returns
 returns c = c .before .before .before .build-range .ensures
 
-build-of-many-requires : tie.Need-build-of-many-requires
-build-of-many-requires c κs = c .before .before .before .before .before .before .before .pre
+build-of-more-requires : tie.Need-build-of-more-requires
+build-of-more-requires c κs = c .before .before .before .before .before .before .before .pre
 
 same-length-2 : tie.Need-same-length-2
 same-length-2 c = search needs
 
 returns-2 : tie.Need-returns-2
-returns-2 c = c .before .before .build-of-many .ensures
+returns-2 c = c .before .before .build-of-more .ensures
 
 pub build-sent-spec : {M : Type 1} → statement M
 build-sent-spec =
@@ -46,6 +46,6 @@ build-sent-spec =
     build-range-requires
     same-length
     returns
-    build-of-many-requires
+    build-of-more-requires
     same-length-2
     returns-2)

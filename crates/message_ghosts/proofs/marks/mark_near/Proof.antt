@@ -63,7 +63,8 @@ loop-again c =
     let if1 = c .before .before .before .before .if1 in
     let pre = c .before .before .before .before .before .before .before .before .before .before .before .before .before .before .before .before .pre in
     let add-member = c .before .before .add-member in
-    walk-goes _ _ _ _ _ _ _ _ _ (loop .inv) (omega arith) (next-member2 .ensures) (number-at .ensures) (goes .ensures) (if1 .taken) (omega (arith, member-below _ _ _ _ _ _ (pre .0) (pre .1) _ (loop .inv .member (omega arith)) (number-at .ensures), pre .2 .enough, loop .inv .added .same-length)) (add-member .ensures)
+    let below = member-below _ _ _ _ _ _ (pre .0) (pre .1) _ (loop .inv .member (omega arith)) (number-at .ensures) in
+    walk-goes _ _ _ _ _ _ _ _ _ (loop .inv) (omega arith) (next-member2 .ensures) (number-at .ensures) (goes .ensures) (if1 .taken) (omega (arith, below, pre .2 .enough, loop .inv .added .same-length)) (add-member .ensures)
 
 loop-less-2 : tie.Need-loop-less-2 Inv-loop μ-loop
 loop-less-2 c = omega (arith, member-behind _ _ _ (c .before .before .next-member2 .ensures))

@@ -31,8 +31,8 @@ shape-of-requires c κs =
 face-count-requires : tie.Need-face-count-requires Inv-loop μ-loop
 face-count-requires c κs = search needs
 
-add-faces-requires : tie.Need-add-faces-requires Inv-loop μ-loop
-add-faces-requires c κs =
+mark-faces-requires : tie.Need-mark-faces-requires Inv-loop μ-loop
+mark-faces-requires c κs =
     let pre = c .before .before .before .before .before .before .before .before .before .before .pre in
     let loop = c .before .before .before .before .before .loop in
     let loop-test = c .before .before .before .before .loop-test in
@@ -55,8 +55,8 @@ loop-again c =
     let tree-at = c .before .before .before .before .before .before .tree-at in
     let shape-of = c .before .before .before .before .before .shape-of in
     let face-count = c .before .before .before .before .face-count in
-    let add-faces = c .before .before .add-faces in
-    (omega (arith, loop .inv .0), omega arith, tree-added _ _ _ _ _ _ _ _ pre (loop .inv .0) (loop-test .taken) (tree-at .ensures) (shape-of .ensures) (face-count .ensures .0) (loop .inv .2) (add-faces .ensures))
+    let mark-faces = c .before .before .mark-faces in
+    (omega (arith, loop .inv .0), omega arith, tree-added _ _ _ _ _ _ _ _ pre (loop .inv .0) (loop-test .taken) (tree-at .ensures) (shape-of .ensures) (face-count .ensures .0) (loop .inv .2) (mark-faces .ensures))
 
 same-length : tie.Need-same-length Inv-loop μ-loop
 same-length c = c .before .loop .inv .2 .same-length
@@ -74,7 +74,7 @@ add-near-spec =
     tree-at-requires
     shape-of-requires
     face-count-requires
-    add-faces-requires
+    mark-faces-requires
     add-i
     loop-less
     loop-again

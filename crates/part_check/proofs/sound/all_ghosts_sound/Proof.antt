@@ -1,5 +1,7 @@
-use Rattle.part_check.proofs.Checking.{ghosts-numbered, ghosts-indexed, ghosts-marked}
+use Rattle.part_check.proofs.Checking.{ghosts-numbered, ghosts-marked, ghosts-read}
 use Rattle.positions.proofs.Positions.{blank}
+use Rattle.encoding.proofs.Below.{clash}
+use mathlib.Core.Path.{refl}
 use native.Mathlib.Omega.{arith}
 use borrow.Author.Needs.{needs}
 use Rattle.part_check.proofs.sound.all_ghosts_sound.Statement.{statement}
@@ -20,21 +22,21 @@ make-requires c κs =
     let ghost-at = c .before .before .ghost-at in
     (ghosts-numbered _ _ _ _ _ pre (ghost-at .ensures), omega arith, blank 1024 (omega arith))
 
-slice-aggregate-ghosts-sound : tie.Need-slice-aggregate-ghosts-sound
-slice-aggregate-ghosts-sound c = search needs
+slice-aggregate-ghosts-linked : tie.Need-slice-aggregate-ghosts-linked
+slice-aggregate-ghosts-linked c = search needs
 
-slice-aggregate-ghosts-sound-2 : tie.Need-slice-aggregate-ghosts-sound-2
-slice-aggregate-ghosts-sound-2 c = search needs
+slice-aggregate-ghosts-linked-2 : tie.Need-slice-aggregate-ghosts-linked-2
+slice-aggregate-ghosts-linked-2 c = search needs
 
-ghosts-sound-requires : tie.Need-ghosts-sound-requires
-ghosts-sound-requires c κs =
+ghosts-linked-requires : tie.Need-ghosts-linked-requires
+ghosts-linked-requires c κs =
     let pre = c .before .before .before .before .before .before .before .before .before .before .pre in
     let ghost-at = c .before .before .before .before .before .before .before .ghost-at in
     let make = c .before .before .before .before .make in
-    (ghosts-marked _ _ _ pre (omega arith) (ghosts-indexed _ _ _ _ _ pre (ghost-at .ensures) (make .ensures)), ghosts-indexed _ _ _ _ _ pre (ghost-at .ensures) (make .ensures))
+    (ghosts-marked _ _ _ _ _ pre (ghost-at .ensures) (omega arith) (make .ensures), λ e. clash e refl)
 
 returns : tie.Need-returns
-returns c = search needs
+returns c = ghosts-read _ _ _ (c .before .before .before .before .before .before .before .before .ghost-at .ensures) _ _ _ (c .ghosts-linked .ensures)
 
 ghosts-of-many-requires : tie.Need-ghosts-of-many-requires
 ghosts-of-many-requires c κs = search needs
@@ -50,9 +52,9 @@ all-ghosts-sound-spec =
     slice-aggregate-make
     slice-aggregate-make-2
     make-requires
-    slice-aggregate-ghosts-sound
-    slice-aggregate-ghosts-sound-2
-    ghosts-sound-requires
+    slice-aggregate-ghosts-linked
+    slice-aggregate-ghosts-linked-2
+    ghosts-linked-requires
     returns
     ghosts-of-many-requires
     returns-2)

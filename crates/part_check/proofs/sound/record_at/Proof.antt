@@ -1,4 +1,4 @@
-use Rattle.part_check.specs.Means.{recordPlace}
+use Rattle.part.specs.Means.{recordPlace}
 use borrow.Author.Tests.{lt-ltb, le-ltb}
 use borrow.Author.Needs.{needs}
 use Rattle.part_check.proofs.sound.record_at.Statement.{statement}

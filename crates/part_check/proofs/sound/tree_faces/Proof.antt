@@ -46,8 +46,12 @@ loop-again : tie.Need-loop-again Inv-loop μ-loop
 loop-again c =
     let loop = c .before .before .before .before .loop in
     let tree-at = c .before .before .tree-at in
-    let neighbour-of = c .before .neighbour-of in
-    (omega arith, all-more _ _ (loop .inv .1) (up-passes _ _ (tree-at .ensures) _ _ _ _ (neighbour-of .ensures) (c .if1 .taken)), (count-next {b = true} _ _ refl (up-counts _ _ (tree-at .ensures) _ (neighbour-of .ensures) _ (c .if1 .taken)) (loop .inv .2 .0), omega arith), (count-same-next _ _ (up-no-down _ _ (tree-at .ensures) _ (neighbour-of .ensures) _ (c .if1 .taken)) (loop .inv .3 .0), omega arith))
+    let neighbour-of = c .before .neighbour-of in (
+      omega arith,
+      all-more _ _ (loop .inv .1) (up-passes _ _ (tree-at .ensures) _ _ _ _ (neighbour-of .ensures) (c .if1 .taken)),
+      (count-next {b = true} _ _ refl (up-counts _ _ (tree-at .ensures) _ (neighbour-of .ensures) _ (c .if1 .taken)) (loop .inv .2 .0), omega arith),
+      (count-same-next _ _ (up-no-down _ _ (tree-at .ensures) _ (neighbour-of .ensures) _ (c .if1 .taken)) (loop .inv .3 .0), omega arith),
+    )
 
 add-if2 : tie.Need-add-if2 Inv-loop μ-loop
 add-if2 c = omega (arith, c .before .before .before .before .before .before .pre .0 .low, c .before .before .before .before .before .before .pre .0 .few)
@@ -100,8 +104,12 @@ loop-again-2 c =
     let neighbour-of = c .before .before .before .before .before .neighbour-of in
     let if1 = c .before .before .before .before .if1 in
     let tree-face = c .before .before .tree-face in
-    let if3 = c .before .if3 in
-    (omega arith, all-more _ _ (loop .inv .1) (down-is _ _ (tree-at .ensures) _ _ _ _ (neighbour-of .ensures) (if1 .left) (tree-face .ensures) ∙ not-false _ (if3 .left)), (count-same-next _ _ (down-no-up _ _ (tree-at .ensures) _ (neighbour-of .ensures) _ (if1 .left)) (loop .inv .2 .0), omega arith), (count-next _ _ (c .one .ensures .0) (down-counts _ _ (tree-at .ensures) _ (neighbour-of .ensures) _ (if1 .left)) (loop .inv .3 .0), omega arith))
+    let if3 = c .before .if3 in (
+      omega arith,
+      all-more _ _ (loop .inv .1) (down-is _ _ (tree-at .ensures) _ _ _ _ (neighbour-of .ensures) (if1 .left) (tree-face .ensures) ∙ not-false _ (if3 .left)),
+      (count-same-next _ _ (down-no-up _ _ (tree-at .ensures) _ (neighbour-of .ensures) _ (if1 .left)) (loop .inv .2 .0), omega arith),
+      (count-next _ _ (c .one .ensures .0) (down-counts _ _ (tree-at .ensures) _ (neighbour-of .ensures) _ (if1 .left)) (loop .inv .3 .0), omega arith),
+    )
 
 returns-3 : tie.Need-returns-3 Inv-loop μ-loop
 returns-3 c =

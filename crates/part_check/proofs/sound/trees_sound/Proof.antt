@@ -1,4 +1,4 @@
-use Rattle.part_check.proofs.Checking.{summed-refused, summed-all}
+use Rattle.ghost_links.proofs.Checking.{summed-refused, summed-all}
 use Rattle.part_check.specs.Means.{treeUps, treeDowns, treeSeen}
 use Rattle.part.specs.Means.{ghostCore}
 use Rattle.part.specs.Part.{storedTree}
@@ -56,8 +56,12 @@ loop-again : tie.Need-loop-again Inv-loop μ-loop
 loop-again c =
     let loop = c .before .before .before .before .before .before .loop in
     let tree-sound = c .before .before .before .before .tree-sound in
-    let if1 = c .before .before .if1 in
-    (omega arith, all-more _ _ (loop .inv .1) (sym (tree-sound .ensures .tested) ∙ not-false _ (if1 .left)), (sum-next _ _ (tree-sound .ensures .upward (not-false _ (if1 .left))) (loop .inv .2 .0), omega (arith, tree-sound .ensures .few .0)), (sum-next _ _ (tree-sound .ensures .downward (not-false _ (if1 .left))) (loop .inv .3 .0), omega (arith, tree-sound .ensures .few .1)))
+    let if1 = c .before .before .if1 in (
+      omega arith,
+      all-more _ _ (loop .inv .1) (sym (tree-sound .ensures .tested) ∙ not-false _ (if1 .left)),
+      (sum-next _ _ (tree-sound .ensures .upward (not-false _ (if1 .left))) (loop .inv .2 .0), omega (arith, tree-sound .ensures .few .0)),
+      (sum-next _ _ (tree-sound .ensures .downward (not-false _ (if1 .left))) (loop .inv .3 .0), omega (arith, tree-sound .ensures .few .1)),
+    )
 
 returns-2 : tie.Need-returns-2 Inv-loop μ-loop
 returns-2 c = summed-all _ _ _ _ _ (c .before .loop .inv .0) (omega arith) (c .before .loop .inv .1) (c .before .loop .inv .2) (c .before .loop .inv .3)

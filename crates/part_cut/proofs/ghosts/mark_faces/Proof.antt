@@ -11,10 +11,10 @@ use Rattle.part_cut.proofs.ghosts.mark_faces.Statement.{statement}
 use Rattle.part_cut.proofs.ghosts.mark_faces.Tie as tie
 
 abbrev Inv-loop : tie.InvT-loop
-Inv-loop mesh at faces first end marks₀ face₀ marks face = (face ≤ faces) × Added marks₀ (outFaces first end (piece mesh at coreSize) face) marks
+Inv-loop bs at faces first end marks₀ face₀ marks face = (face ≤ faces) × Added marks₀ (outFaces first end (piece bs at coreSize) face) marks
 
 abbrev μ-loop : tie.MeasureT-loop
-μ-loop mesh at faces first end marks₀ face₀ marks face = faces - face
+μ-loop bs at faces first end marks₀ face₀ marks face = faces - face
 
 loop-holds : tie.Need-loop-holds Inv-loop μ-loop
 loop-holds c = (omega arith, faces-start _ _ _ _)

@@ -2,20 +2,20 @@
 use Prim.Native.Nat.{ℕ, _+_, _-_, _≤_, _<_}
 use native.Mathlib.Nat.{add-sub-cancel-left}
 use native.Mathlib.Omega.{arith}
-use mathlib.Core.Path.{_≡_, refl, sym, _∙_}
+use mathlib.Core.Path.{_≡_, sym, _∙_}
 use mathlib.Core.Bool.{Bool, true, false, cond, not, _&&_, and-false}
 use mathlib.Core.List.{List}
-use lib.Dec.{leb, ltb, eqb}
-use borrow.Author.Tests.{ltb-true, leb-true, eqb-true, eq-eqb, ne-eqb, lt-ltb, le-ltb, le-leb}
+use lib.Dec.{ltb, eqb}
+use borrow.Author.Tests.{ltb-true, eqb-true, eq-eqb, ne-eqb, lt-ltb, le-ltb}
 use Rattle.encoding.specs.Below.{allBelow, anyBelow, countBelow, leastBelow, sumBelow}
-use Rattle.encoding.proofs.Below.{tests, either, clash, and-fst, and-snd, and-intro, iff-eq, all-at, all-intro, all-same, least-lt, least-at, least-is, least-none, sum-same, count-same}
+use Rattle.encoding.proofs.Below.{tests, either, clash, and-fst, and-snd, and-intro, iff-eq, all-at, all-intro, all-same, least-lt, least-none, sum-same, count-same}
 use Rattle.records.specs.Shape.{dimensionOf, faceCount}
 use Rattle.records.specs.Record.{numberOf, shapeOf, neighbourOf}
 use Rattle.mesh.specs.Means.{linkByDimension}
 use Rattle.mesh.proofs.ByDimension.{Fits}
 use Rattle.part.specs.Means.{isLocal, ghostIs, held, heldCore, inRange, neighbourIn, ghostHas}
 use Rattle.ghost_links.specs.Means.{ghostUps, ghostDowns, ghostFromOneEnd, SummedAs}
-use Rattle.ghost_links.proofs.FromOneEnd.{treeRuleTo, treeRule, upTree, downTree, ghostRuleTo, ghostRule, ghostWhole, Numbers, rules-even, ghost-passes, tree-obeys, ghost-whole}
+use Rattle.ghost_links.proofs.FromOneEnd.{treeRuleTo, treeRule, upTree, downTree, ghostRuleTo, ghostRule, ghostWhole, Numbers, range-tree, range-both, position, there-number, rules-even, ghost-passes, tree-obeys, ghost-whole}
 use Rattle.close_check.specs.Means.{treeFrom, ghostFrom, SlotsNumbered, treeTo, linkOfTree, ghostTo, linkOfGhost, treeJoins, ghostJoins, recordsJoin, treeLeadsUp, treeLeadsDown, treeUps, treeDowns, treeFace, treeFromOneEnd, recordsFromOneEnd}
 
 module _ (D : ℕ) (a : List ℕ) (at first n g K : ℕ) (S : SlotsNumbered a at first n g K) where
@@ -38,38 +38,23 @@ module _ (D : ℕ) (a : List ℕ) (at first n g K : ℕ) (S : SlotsNumbered a at
   unfoldable placeOf : ℕ → ℕ
   placeOf k = cond (inRange first (first + n) k) (k - first) (n + leastBelow g (ghostHas (ghostFrom a at n) k))
 
-  range-both : (k : ℕ) → inRange first (first + n) k ≡ true → (first ≤ k) × (k < first + n)
-  unfolding inRange
-  range-both k e = (leb-true first k (and-fst (leb first k) (ltb k (first + n)) e), ltb-true k (first + n) (and-snd (leb first k) (ltb k (first + n)) e))
-
-  range-tree : (i : ℕ) → i < n → inRange first (first + n) (first + i) ≡ true
-  unfolding inRange
-  range-tree i h = rw (le-leb first (first + i) (omega arith), lt-ltb (first + i) (first + n) (omega arith))
-
-  position : (j : ℕ) → j < g → leastBelow g (ghostHas (ghostFrom a at n) (numberOf (ghostFrom a at n j))) ≡ j
-  unfolding ghostHas
-  position j h =
-      let k : ℕ = numberOf (ghostly j) in
-      least-is g (ghostHas ghostly k) j h (eq-eqb k k refl) (λ i p. ne-eqb (numberOf (ghostly i)) k (λ e. omega (arith, S .slots .ascends i j p h)))
-
   placed : (b : ℕ) → b < n + g → placeOf (numberFor b) ≡ b
   unfolding placeOf numberFor
   placed b h =
       either (ltb b n)
-      (λ p. rw (p, range-tree b (ltb-true b n p)) (add-sub-cancel-left first b))
-      (λ p. let less : b - n < g = omega tests in rw (p, S .slots .outside (b - n) less, position (b - n) less) (omega tests))
+      (λ p. rw (p, range-tree first n b (ltb-true b n p)) (add-sub-cancel-left first b))
+      (λ p. let less : b - n < g = omega tests in rw (p, S .slots .outside (b - n) less, position g ghostly (S .slots .ascends) (b - n) less) (omega tests))
 
   -- the ghost with a number that is found
   there : (k : ℕ) → leastBelow g (ghostHas (ghostFrom a at n) k) < g → numberOf (ghostFrom a at n (leastBelow g (ghostHas (ghostFrom a at n) k))) ≡ k
-  unfolding ghostHas
   there k h =
-      eqb-true _ _ (least-at g (ghostHas ghostly k) (either (anyBelow g (ghostHas ghostly k)) (λ q. q) (λ q. absurd (omega (arith, least-none g (ghostHas ghostly k) q)))))
+      there-number g ghostly k (either (anyBelow g (ghostHas ghostly k)) (λ q. q) (λ q. absurd (omega (arith, least-none g (ghostHas ghostly k) q))))
 
   named : (k : ℕ) → placeOf k < n + g → numberFor (placeOf k) ≡ k
   unfolding placeOf numberFor
   named k =
       either (inRange first (first + n) k)
-      (λ p. let b = range-both k p in rw p (λ h. rw (lt-ltb (k - first) n (omega (arith, b .0, b .1))) (omega (arith, b .0))))
+      (λ p. let b = range-both first n k p in rw p (λ h. rw (lt-ltb (k - first) n (omega (arith, b .0, b .1))) (omega (arith, b .0))))
       (λ p.
       let m : ℕ = leastBelow g (ghostHas ghostly k) in
       rw p (λ h. rw (le-ltb (n + m) n (omega arith), add-sub-cancel-left n m) (there k (omega arith))))
@@ -95,7 +80,7 @@ module _ (D : ℕ) (a : List ℕ) (at first n g K : ℕ) (S : SlotsNumbered a at
       let k : ℕ = neighbourOf (tree i) f in
       let m : ℕ = leastBelow g (ghostHas ghostly k) in
       either (inRange first (first + n) k)
-      (λ p. let b = range-both k p in rw (p, lt-ltb (k - first) n (omega (arith, b .0, b .1)), lt-ltb i n h))
+      (λ p. let b = range-both first n k p in rw (p, lt-ltb (k - first) n (omega (arith, b .0, b .1)), lt-ltb i n h))
       (λ p. either (anyBelow g (ghostHas ghostly k))
       (λ q. rw (p, q, le-ltb (n + m) n (omega arith), add-sub-cancel-left n m, lt-ltb m g (least-lt g (ghostHas ghostly k) q)))
       (λ q. rw (p, q, le-ltb (n + m) n (omega arith), add-sub-cancel-left n m, le-ltb m g (omega (arith, least-none g (ghostHas ghostly k) q)))))
@@ -128,7 +113,7 @@ module _ (D : ℕ) (a : List ℕ) (at first n g K : ℕ) (S : SlotsNumbered a at
         let k : ℕ = neighbourOf (tree i) f in
         either (inRange first (first + n) k)
         (λ p.
-        let b = range-both k p in
+        let b = range-both first n k p in
         rw (in-place k p, p)
         (iff-eq (ltb i (k - first) && ltb (k - first) n) (ltb (first + i) k)
         (λ e. lt-ltb (first + i) k (omega (arith, ltb-true i (k - first) (and-fst (ltb i (k - first)) _ e))))
@@ -142,7 +127,7 @@ module _ (D : ℕ) (a : List ℕ) (at first n g K : ℕ) (S : SlotsNumbered a at
         let up : upTree n tree placeOf i f ≡ (inRange first (first + n) k && ltb (first + i) k) = up-is in
         either (inRange first (first + n) k)
         (λ p.
-        let b = range-both k p in
+        let b = range-both first n k p in
         rw (up, in-place k p, p)
         (iff-eq (not (ltb (first + i) k) && not (eqb (k - first) i)) (ltb k (first + i))
         (λ e. lower k i (b .0) (and-fst (not (ltb (first + i) k)) _ e) (and-snd (not (ltb (first + i) k)) _ e))

@@ -1,21 +1,15 @@
 -- What the loops over links and records find.
 use Prim.Native.Nat.{ℕ, _+_, _*_}
-use native.Mathlib.Omega.{arith}
 use mathlib.Core.Path.{_≡_, ap, _∙_}
 use mathlib.Core.Bool.{Bool, false}
 use mathlib.Core.List.{List}
 use borrow.Author.Tests.{eq-eqb, ne-eqb}
 use Rattle.encoding.specs.Below.{allBelow, countBelow}
 use Rattle.encoding.specs.Pieces.{piece}
-use Rattle.encoding.proofs.Below.{count-more}
 use Rattle.records.specs.Shape.{dimensionOf, faceCount}
 use Rattle.records.specs.Record.{coreSize, treeSize, shapeOf}
 use Rattle.mesh.specs.Means.{linkByDimension, SeenAs}
 use Rattle.close_check.specs.Means.{treeFrom, treeLeadsUp, treeLeadsDown, treeUps, treeDowns, treeFace, treeFromOneEnd}
-
--- one more number that doesn't count
-pub count-stays : {m : ℕ} (i : ℕ) (f : ℕ → Bool) → false ≡ f i → m ≡ countBelow i f → m ≡ countBelow (i + 1) f
-count-stays i f e h = rw (count-more i f, ← e) (omega arith)
 
 -- the links of a tree
 module _ (D : ℕ) (a : List ℕ) (at first n g i : ℕ) {shape dimension : ℕ} (shaped : shape ≡ shapeOf (piece a (at + treeSize * i) coreSize)) (is : dimension ≡ dimensionOf shape) where

@@ -59,6 +59,35 @@ unfolding linkBetween
 oriented D r s a b back f h e =
     and-fst (orientationOk r f) (sameCorners r f s) (and-fst (orientationOk r f && sameCorners r f s) (answered back r f s) (sym (link-same D r s a b back f h) ∙ e))
 
+-- ---- the range, and ghosts by their numbers
+
+module _ (first n : ℕ) where
+  pub range-tree : (i : ℕ) → i < n → inRange first (first + n) (first + i) ≡ true
+  unfolding inRange
+  range-tree i h = rw (le-leb first (first + i) (omega arith), lt-ltb (first + i) (first + n) (omega arith))
+
+  pub range-both : (k : ℕ) → inRange first (first + n) k ≡ true → (first ≤ k) × (k < first + n)
+  unfolding inRange
+  range-both k e = (leb-true first k (and-fst (leb first k) (ltb k (first + n)) e), ltb-true k (first + n) (and-snd (leb first k) (ltb k (first + n)) e))
+
+module _ (g : ℕ) (ghostly : ℕ → List ℕ) where
+  -- a ghost has its own number
+  has : (m : ℕ) → m < g → anyBelow g (ghostHas ghostly (numberOf (ghostly m))) ≡ true
+  unfolding ghostHas
+  has m h = any-intro g (ghostHas ghostly (numberOf (ghostly m))) m h (eq-eqb (numberOf (ghostly m)) (numberOf (ghostly m)) refl)
+
+  -- where they ascend, its position is found by it
+  pub position : ((i j : ℕ) → i < j → j < g → numberOf (ghostly i) < numberOf (ghostly j)) → (m : ℕ) → m < g → leastBelow g (ghostHas ghostly (numberOf (ghostly m))) ≡ m
+  unfolding ghostHas
+  position ascends m h =
+      least-is g (ghostHas ghostly (numberOf (ghostly m))) m h (eq-eqb (numberOf (ghostly m)) (numberOf (ghostly m)) refl)
+      (λ j l. ne-eqb (numberOf (ghostly j)) (numberOf (ghostly m)) (λ e. omega (arith, ascends j m l h)))
+
+  -- the ghost that is found by a number has it
+  pub there-number : (k : ℕ) → anyBelow g (ghostHas ghostly k) ≡ true → numberOf (ghostly (leastBelow g (ghostHas ghostly k))) ≡ k
+  unfolding ghostHas
+  there-number k held = eqb-true _ _ (least-at g (ghostHas ghostly k) held)
+
 -- ---- the records
 
 -- n trees from first on and g ghosts, K numbers in all. A tree's record has `name b` for the record with local index b; `place` leads back from there
@@ -119,16 +148,6 @@ module _ (D first n g K : ℕ) (tree ghostly : ℕ → List ℕ) (name place : �
   abbrev treeDown : ℕ → ℕ → Bool
   treeDown = downTree n tree place
 
-  has : (m : ℕ) → m < g → anyBelow g (ghostHas ghostly (numberOf (ghostly m))) ≡ true
-  unfolding ghostHas
-  has m h = any-intro g (ghostHas ghostly (numberOf (ghostly m))) m h (eq-eqb (numberOf (ghostly m)) (numberOf (ghostly m)) refl)
-
-  position : (m : ℕ) → m < g → leastBelow g (ghostHas ghostly (numberOf (ghostly m))) ≡ m
-  unfolding ghostHas
-  position m h =
-      least-is g (ghostHas ghostly (numberOf (ghostly m))) m h (eq-eqb (numberOf (ghostly m)) (numberOf (ghostly m)) refl)
-      (λ j l. ne-eqb (numberOf (ghostly j)) (numberOf (ghostly m)) (λ e. omega (arith, known .ascends j m l h)))
-
   -- the ghost with a number that is held
   module _ (k : ℕ) (held : anyBelow g (ghostHas ghostly k) ≡ true) where
     abbrev there : ℕ
@@ -137,15 +156,11 @@ module _ (D first n g K : ℕ) (tree ghostly : ℕ → List ℕ) (name place : �
     there-below : there < g
     there-below = least-lt g (ghostHas ghostly k) held
 
-    there-number : numberOf (ghostly there) ≡ k
-    unfolding ghostHas
-    there-number = eqb-true _ _ (least-at g (ghostHas ghostly k) held)
-
     held-outside : inRange first (first + n) k ≡ false
-    held-outside = rw (sym there-number) (known .outside there there-below)
+    held-outside = rw (sym (there-number g ghostly k held)) (known .outside there there-below)
 
     held-below : k < K
-    held-below = omega (arith, there-number, known .below there there-below)
+    held-below = omega (arith, there-number g ghostly k held, known .below there there-below)
 
   -- among ghosts, positions and numbers are ordered alike
   ordered : (p m : ℕ) → p < g → m < g → ltb (numberOf (ghostly p)) (numberOf (ghostly m)) ≡ ltb p m
@@ -155,14 +170,6 @@ module _ (D first n g K : ℕ) (tree ghostly : ℕ → List ℕ) (name place : �
       (λ s. absurd (omega (tests, known .ascends m p (ltb-true _ _ s) h)))
       (λ s. let same : p ≡ m = omega tests in absurd (omega (tests, ap (λ (i : ℕ). numberOf (ghostly i)) same)))))
       (λ e. lt-ltb _ _ (known .ascends p m (ltb-true _ _ e) l))
-
-  range-tree : (i : ℕ) → i < n → inRange first (first + n) (first + i) ≡ true
-  unfolding inRange
-  range-tree i h = rw (le-leb first (first + i) (omega arith), lt-ltb (first + i) (first + n) (omega arith))
-
-  range-both : (k : ℕ) → inRange first (first + n) k ≡ true → (first ≤ k) × (k < first + n)
-  unfolding inRange
-  range-both k e = (leb-true first k (and-fst (leb first k) (ltb k (first + n)) e), ltb-true k (first + n) (and-snd (leb first k) (ltb k (first + n)) e))
 
   -- ---- records by local index
 
@@ -245,7 +252,7 @@ module _ (D first n g K : ℕ) (tree ghostly : ℕ → List ℕ) (name place : �
       let k : ℕ = neighbourOf (ghostly m) f in
       either (inRange first (first + n) k)
       (λ p.
-      let b = range-both k p in
+      let b = range-both first n k p in
       let inside : k - first < n = omega (arith, b .0, b .1) in
       let q : ltb (k - first) n ≡ true = lt-ltb _ _ inside in
       record {
@@ -258,7 +265,7 @@ module _ (D first n g K : ℕ) (tree ghostly : ℕ → List ℕ) (name place : �
       let t : ℕ = leastBelow g (ghostHas ghostly k) in
       record {
         below = rw p (omega (arith, there-below k q));
-        leads = rw (past m, add-sub-cancel-left n m, p, past t, add-sub-cancel-left n t) (sym (there-number k q));
+        leads = rw (past m, add-sub-cancel-left n m, p, past t, add-sub-cancel-left n t) (sym (there-number g ghostly k q));
         obeys = rw (past m, add-sub-cancel-left n m, p, past t, add-sub-cancel-left n t) (rw (p, q) at e);
       })
 
@@ -268,13 +275,13 @@ module _ (D first n g K : ℕ) (tree ghostly : ℕ → List ℕ) (name place : �
       by-kind (λ b. Meets (n + m) f b → (placeOf (neighbourOf (ghostly m) f) ≡ b) × (ruleOfGhost m f ≡ true))
       (λ i l v.
       let leads : neighbourOf (ghostly m) f ≡ first + i = rw (past m, add-sub-cancel-left n m, lt-ltb i n l) at (v .leads) in (
-        rw (leads, range-tree i l, add-sub-cancel-left first i),
-        rw (leads, range-tree i l, add-sub-cancel-left first i) (rw (past m, add-sub-cancel-left n m, lt-ltb i n l) at (v .obeys)),
+        rw (leads, range-tree first n i l, add-sub-cancel-left first i),
+        rw (leads, range-tree first n i l, add-sub-cancel-left first i) (rw (past m, add-sub-cancel-left n m, lt-ltb i n l) at (v .obeys)),
       ))
       (λ p l v.
       let leads : neighbourOf (ghostly m) f ≡ numberOf (ghostly p) = rw (past m, add-sub-cancel-left n m, past p, add-sub-cancel-left n p) at (v .leads) in (
-        rw (leads, known .outside p l, position p l),
-        rw (leads, known .outside p l, has p l, position p l) (rw (past m, add-sub-cancel-left n m, past p, add-sub-cancel-left n p) at (v .obeys)),
+        rw (leads, known .outside p l, position g ghostly (known .ascends) p l),
+        rw (leads, known .outside p l, has g ghostly p l, position g ghostly (known .ascends) p l) (rw (past m, add-sub-cancel-left n m, past p, add-sub-cancel-left n p) at (v .obeys)),
       ))
       b (w .below) w
 
@@ -302,11 +309,11 @@ module _ (D first n g K : ℕ) (tree ghostly : ℕ → List ℕ) (name place : �
       by-kind (λ b. neighbourOf (ghostly m) f ≡ numberAt b → (ghostUp first n g ghostly m f ≡ ltb m (order b)) × (ghostDown g ghostly m f ≡ ltb (order b) m))
       (λ i l e.
       let leads : neighbourOf (ghostly m) f ≡ first + i = rw (lt-ltb i n l) at e in
-      let none : anyBelow g (ghostHas ghostly (first + i)) ≡ false = either (anyBelow g (ghostHas ghostly (first + i))) (λ q. clash (range-tree i l) (held-outside (first + i) q)) (λ q. q) in
-      (rw (leads, range-tree i l, lt-ltb i n l) (sym (lt-ltb m (g + i) (omega arith))), rw (leads, none, lt-ltb i n l) (sym (le-ltb (g + i) m (omega arith)))))
+      let none : anyBelow g (ghostHas ghostly (first + i)) ≡ false = either (anyBelow g (ghostHas ghostly (first + i))) (λ q. clash (range-tree first n i l) (held-outside (first + i) q)) (λ q. q) in
+      (rw (leads, range-tree first n i l, lt-ltb i n l) (sym (lt-ltb m (g + i) (omega arith))), rw (leads, none, lt-ltb i n l) (sym (le-ltb (g + i) m (omega arith)))))
       (λ p l e.
       let leads : neighbourOf (ghostly m) f ≡ numberOf (ghostly p) = rw (past p, add-sub-cancel-left n p) at e in
-      (rw (leads, known .outside p l, has p l, past p, add-sub-cancel-left n p) (ordered m p h l), rw (leads, has p l, past p, add-sub-cancel-left n p) (ordered p m l h)))
+      (rw (leads, known .outside p l, has g ghostly p l, past p, add-sub-cancel-left n p) (ordered m p h l), rw (leads, has g ghostly p l, past p, add-sub-cancel-left n p) (ordered p m l h)))
 
   -- ---- all records
 
@@ -430,7 +437,7 @@ module _ (D first n g K : ℕ) (tree ghostly : ℕ → List ℕ) (name place : �
         let e = ghost-face j f h face in
         either (inRange first (first + n) k)
         (λ p.
-        let b = range-both k p in
+        let b = range-both first n k p in
         (omega (arith, b .1, known .within), oriented D (ghostly j) (tree (k - first)) (all-fit .1 j h) (all-fit .0 (k - first) (omega (arith, b .0, b .1))) (name (n + j)) f face (rw p at e)))
         (λ p. either (anyBelow g (ghostHas ghostly k))
         (λ q. (held-below k q, oriented D (ghostly j) (ghostly (leastBelow g (ghostHas ghostly k))) (all-fit .1 j h) (all-fit .1 _ (there-below k q)) (numberOf (ghostly j)) f face (rw (p, q) at e)))
@@ -526,7 +533,7 @@ module _ (D first n g K : ℕ) (tree ghostly : ℕ → List ℕ) (name place : �
     -- a ghost's link to itself is listed
     own-listed : (j f : ℕ) → j < g → neighbourOf (ghostly j) f ≡ numberOf (ghostly j) → ghostListed g ghostly j f ≡ true
     unfolding ghostListed
-    own-listed j f h e = rw (e, has j h) (le-leb (numberOf (ghostly j)) (numberOf (ghostly j)) (omega arith))
+    own-listed j f h e = rw (e, has g ghostly j h) (le-leb (numberOf (ghostly j)) (numberOf (ghostly j)) (omega arith))
 
     ghost-up : (j f : ℕ) → j < g → f < faces (ghostly j) → ghostUp first n g ghostly j f ≡ true → ruleOfGhost j f ≡ true
     ghost-up j f h face e =

@@ -10,7 +10,7 @@ use borrow.Author.Tests.{ltb-true, lt-ltb, le-ltb, eq-eqb, ne-eqb, eqb-true}
 use Rattle.encoding.specs.Below.{allBelow, countBelow, leastBelow, sumBelow}
 use Rattle.encoding.specs.Numbers.{u32At}
 use Rattle.encoding.specs.Pieces.{piece, Bytes}
-use Rattle.encoding.proofs.Below.{tests, either, clash, iff-eq, all-at, and-fst, and-snd, and-intro, count-more, least-same}
+use Rattle.encoding.proofs.Below.{tests, either, clash, iff-eq, all-at, and-fst, and-snd, and-intro, least-same}
 use Rattle.records.specs.Shape.{faceCount}
 use Rattle.records.specs.Record.{coreSize, numberOf, shapeOf, neighbourOf, boundaryOk}
 use Rattle.mesh.specs.Mesh.{dimensionOk}
@@ -207,10 +207,6 @@ module _ (part : List ℕ) (n g : ℕ) where
   ghost-found x k e =
       e ∙ index-position x k
       ∙ least-same g (hasNumber part (ghostPlace n 0) k) (ghostHas (ghostCore part n) k) (λ i h. ap (λ (y : ℕ). eqb y k) (number-there part n g i))
-
--- a number that doesn't count
-pub count-same-next : {n : ℕ} (i : ℕ) (f : ℕ → Bool) → f i ≡ false → n ≡ countBelow i f → n ≡ countBelow (i + 1) f
-count-same-next i f e h = rw (count-more i f, e) (omega (arith, h))
 
 pub tree-known : (part : List ℕ) (first n i : ℕ) {t : Bool} (a : Bool) → t ≡ treeNumbered first (storedTree part) i → (t && a) ≡ true → i < n → TreeKnown part first n i
 tree-known part first n i {t} a numbered passes h = record { below = h; number = sym numbered ∙ and-fst t a passes }

@@ -1,5 +1,5 @@
 use Prim.Native.Nat.{_≤_, _-_}
-use mathlib.Core.Path.{_≡_, refl, _∙_}
+use mathlib.Core.Path.{_≡_, refl, sym, _∙_}
 use mathlib.Core.Bool.{true}
 use native.Mathlib.Omega.{arith}
 use borrow.Author.Tests.{not-true, not-false}
@@ -9,7 +9,7 @@ use Rattle.mesh.specs.Means.{linkByDimension}
 use Rattle.mesh.proofs.Checking.{seen-refused, seen-all, count-next}
 use Rattle.close_check.specs.Means.{treeFace, treeLeadsUp, treeLeadsDown}
 use Rattle.close_check.proofs.Links.{place-out, out-up, out-down, out-face, up-up, up-down, up-face, down-is, down-up, down-face}
-use Rattle.close_check.proofs.Loops.{count-stays}
+use Rattle.ghost_links.proofs.Checking.{count-stays}
 use borrow.Author.Needs.{needs}
 use Rattle.close_check.proofs.join.tree_links.Statement.{statement}
 use Rattle.close_check.proofs.join.tree_links.Tie as tie
@@ -71,7 +71,7 @@ loop-again c =
             omega arith,
           ),
           (
-            count-stays _ _ (up-down _ _ _ _ _ _ read (omega (arith, pre .0 .most)) (omega arith) placed (if1 .taken) (c .if2 .taken)) (inv .1 .1 .1 .0),
+            count-stays _ _ (sym (up-down _ _ _ _ _ _ read (omega (arith, pre .0 .most)) (omega arith) placed (if1 .taken) (c .if2 .taken))) (inv .1 .1 .1 .0),
             omega arith,
           ),
         ),
@@ -136,7 +136,7 @@ loop-again-2 c =
         all-more _ _ (inv .1 .0) (down-face _ _ _ _ _ _ read (omega (arith, pre .0 .most)) (omega arith) placed (if1 .taken) (if2 .left) _ _ (link-down .ensures) ∙ not-false _ (if3 .left)),
         (
           (
-            count-stays _ _ (down-up _ _ _ _ _ _ read (omega (arith, pre .0 .most)) (omega arith) placed (if1 .taken) (if2 .left)) (inv .1 .1 .0 .0),
+            count-stays _ _ (sym (down-up _ _ _ _ _ _ read (omega (arith, pre .0 .most)) (omega arith) placed (if1 .taken) (if2 .left))) (inv .1 .1 .0 .0),
             omega arith,
           ),
           (
@@ -190,7 +190,7 @@ loop-again-3 c =
       (
         all-more _ _ (inv .1 .0) (out-face _ _ _ _ _ _ read out _ _ (link-out .ensures) ∙ not-false _ (c .if4 .left)),
         (
-          (count-stays _ _ (out-up _ _ _ _ _ _ read out) (inv .1 .1 .0 .0), omega arith),
+          (count-stays _ _ (sym (out-up _ _ _ _ _ _ read out)) (inv .1 .1 .0 .0), omega arith),
           (count-next _ _ refl (out-down _ _ _ _ _ _ read out) (inv .1 .1 .1 .0), omega arith),
         ),
       ),

@@ -1,4 +1,5 @@
-use Rattle.part_check.proofs.Checking.{neighbour-low, up-counts, up-no-down, up-passes, down-no-up, down-counts, down-is, down-outside, count-same-next}
+use Rattle.ghost_links.proofs.Checking.{count-stays}
+use Rattle.part_check.proofs.Checking.{neighbour-low, up-counts, up-no-down, up-passes, down-no-up, down-counts, down-is, down-outside}
 use Rattle.part_check.specs.Means.{treeUp, treeDown, treeFaceDown}
 use Rattle.part.specs.Means.{ghostCore}
 use Rattle.part.specs.Part.{storedTree}
@@ -50,7 +51,7 @@ loop-again c =
       omega arith,
       all-more _ _ (loop .inv .1) (up-passes _ _ (tree-at .ensures) _ _ _ _ (neighbour-of .ensures) (c .if1 .taken)),
       (count-next {b = true} _ _ refl (up-counts _ _ (tree-at .ensures) _ (neighbour-of .ensures) _ (c .if1 .taken)) (loop .inv .2 .0), omega arith),
-      (count-same-next _ _ (up-no-down _ _ (tree-at .ensures) _ (neighbour-of .ensures) _ (c .if1 .taken)) (loop .inv .3 .0), omega arith),
+      (count-stays _ _ (up-no-down _ _ (tree-at .ensures) _ (neighbour-of .ensures) _ (c .if1 .taken)) (loop .inv .3 .0), omega arith),
     )
 
 add-if2 : tie.Need-add-if2 Inv-loop μ-loop
@@ -107,7 +108,7 @@ loop-again-2 c =
     let if3 = c .before .if3 in (
       omega arith,
       all-more _ _ (loop .inv .1) (down-is _ _ (tree-at .ensures) _ _ _ _ (neighbour-of .ensures) (if1 .left) (tree-face .ensures) ∙ not-false _ (if3 .left)),
-      (count-same-next _ _ (down-no-up _ _ (tree-at .ensures) _ (neighbour-of .ensures) _ (if1 .left)) (loop .inv .2 .0), omega arith),
+      (count-stays _ _ (down-no-up _ _ (tree-at .ensures) _ (neighbour-of .ensures) _ (if1 .left)) (loop .inv .2 .0), omega arith),
       (count-next _ _ (c .one .ensures .0) (down-counts _ _ (tree-at .ensures) _ (neighbour-of .ensures) _ (if1 .left)) (loop .inv .3 .0), omega arith),
     )
 

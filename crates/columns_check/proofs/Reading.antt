@@ -1,12 +1,14 @@
 -- What the functions that read a record find is what the definitions say of its core.
 use Prim.Native.Nat.{ℕ, _+_, _*_, _/_, _%_, _≤_, _<_}
 use native.Mathlib.Omega.{arith}
+use native.Mathlib.Numerals.{add-one}
 use mathlib.Core.Path.{_≡_, refl, sym, ap, _∙_}
-use mathlib.Core.Bool.{Bool, true, false, _&&_}
+use mathlib.Core.Bool.{Bool, true, false, _&&_, _||_}
 use mathlib.Core.List.{List}
 use lib.Dec.{ltb, eqb}
 use lib.ListN.{length, getD}
 use borrow.Author.Tests.{lt-ltb, le-ltb, eq-eqb, ne-eqb}
+use Rattle.encoding.specs.Below.{anyBelow}
 use Rattle.encoding.specs.Numbers.{leAt, u32At}
 use Rattle.encoding.proofs.Numbers.{four-bytes, at-step, at-one}
 use Rattle.records.specs.Shape.{shapeOk, dimensionOf, faceCount, facesIn, corners}
@@ -14,16 +16,13 @@ use Rattle.records.specs.Record.{unused, regionLimit, shapeOf, neighbourOf, cod
 use Rattle.records.specs.Means.{faceForm}
 use Rattle.mesh.specs.Link.{orientationOk}
 use Rattle.mesh.specs.Means.{cornersFit, cornersByDimension, answeredThere, answeredByDimension, linkByDimension}
+use Rattle.part.specs.Means.{inRange, neighbourIn}
 use Rattle.columns_check.specs.Means.{headOk}
 
 module _ (r : List ℕ) where
   pub word-read : {a b d e : ℕ} (j : ℕ) → j + 4 ≤ length r → a ≡ getD r j 0 → b ≡ getD r (j + 1) 0 → d ≡ getD r (j + 2) 0 → e ≡ getD r (j + 3) 0
       → a + 256 * b + 65536 * d + 16777216 * e ≡ u32At r j
   word-read j h p q s t = rw (p, q, s, t) (four-bytes r j h)
-
-  pub neighbour-is : {v : ℕ} (f : ℕ) → v ≡ u32At r (8 + 4 * f) → v ≡ neighbourOf r f
-  unfolding neighbourOf
-  neighbour-is f e = e
 
   pub two : 40 ≤ length r → leAt 2 r 38 ≡ getD r 38 0 + 256 * getD r 39 0
   two h = at-step 1 r 38 (omega arith) ∙ ap (λ (x : ℕ). getD r 38 0 + 256 * x) (at-one r 39)
@@ -62,3 +61,15 @@ pub link-read : (r s : List ℕ) (D back f : ℕ) {a : Bool} {code there turn sh
     → (a && (eqb neighbour back && eqb (answer + there) (code + f))) ≡ linkByDimension D back r f s
 unfolding linkByDimension cornersByDimension answeredByDimension answeredThere codeOf shapeOf neighbourOf
 link-read r s D back f k t o p q a n w = rw (a, n, w, o, p, q, t, k)
+
+-- ---- a neighbour in the range
+
+module _ (first end : ℕ) (r : List ℕ) where
+  -- one more turn of the loop
+  pub beside-more : {met b : Bool} {k : ℕ} (f : ℕ) → met ≡ anyBelow f (neighbourIn first end r) → k ≡ u32At r (8 + 4 * f) → b ≡ inRange first end k → (met || b) ≡ anyBelow (f + 1) (neighbourIn first end r)
+  unfolding anyBelow neighbourIn neighbourOf
+  beside-more f met read test = rw (add-one f, met, test, read)
+
+  -- a loop that has come to its bound
+  pub beside-to : {met : Bool} (faces f : ℕ) → f ≤ faces → faces ≤ f → met ≡ anyBelow f (neighbourIn first end r) → met ≡ anyBelow faces (neighbourIn first end r)
+  beside-to faces f p q met = let e : faces ≡ f = omega arith in rw e met

@@ -83,7 +83,7 @@ fn room(low: u8) -> u8
 }
 
 // How many of the 64 records behind the one at `at` are like it in a face. The loop has no exit, so that the compiler makes the tests of many records at once.
-fn sides_like(bs: &[u8], at: usize, step: u32, face: u32) -> u32
+fn sides_like(bs: &[u8], at: usize, step: u32, face: u32) -> u8
     requires { ⌜ (at + 64 + step * 39 < length (now bs)) × (face < 6) ⌝ }
     ensures { λ r. ⌜ Run (sideRun (now (bs .entry)) at step face) (getD (spaced (now (bs .entry)) at step coreSize) (8 + 4 * face) 0) r 64 ⌝ }
 {
@@ -96,10 +96,10 @@ fn sides_like(bs: &[u8], at: usize, step: u32, face: u32) -> u32
         some = lesser(some, unless(side_like(bs, at, step, face, i + 1), i as u8));
         i += 1;
     }
-    some as u32
+    some
 }
 
-fn heads_like(bs: &[u8], at: usize, step: u32) -> u32
+fn heads_like(bs: &[u8], at: usize, step: u32) -> u8
     requires { ⌜ at + 64 + step * 39 < length (now bs) ⌝ }
     ensures { λ r. ⌜ Run (headRun (now (bs .entry)) at step) (getD (spaced (now (bs .entry)) at step coreSize) 0 0) r 64 ⌝ }
 {
@@ -109,7 +109,7 @@ fn heads_like(bs: &[u8], at: usize, step: u32) -> u32
         some = lesser(some, unless(head_like(bs, at, step, i + 1), i as u8));
         i += 1;
     }
-    some as u32
+    some
 }
 
 // How many trees behind tree i are sound in a face where it is.
@@ -144,10 +144,7 @@ pub fn sides_on(
     let across = parted(dimension, byte(file, at, count, 32 + face));
     let there = across.face;
     let others = sides_like(file, 32 + (j as usize), count, there);
-    if own < others {
-        return own;
-    }
-    others
+    lesser(own, others) as u32
 }
 
 // How many trees behind tree i are in form, their faces apart, where it is.
@@ -166,5 +163,5 @@ pub fn heads_on(
     if count - i <= 64 {
         return 0;
     }
-    heads_like(file, 32 + (i as usize), count)
+    heads_like(file, 32 + (i as usize), count) as u32
 }

@@ -158,19 +158,18 @@ fn ghost_numbers(file: &[u8], first: u32, count: u32, ghosts: u32, trees: u32) -
     true
 }
 
-// Whether the record has a face neighbour in the range.
+// Whether the record has a face neighbour in the range. The loop has no exit: with random links it would be guessed wrong for every ghost.
 fn beside(file: &[u8], at: usize, step: u32, faces: u32, first: u32, end: u32) -> bool
     requires { ⌜ (at + step * 39 < length (now file)) × (faces ≤ 6) ⌝ }
     ensures { λ r. ⌜ r ≡ anyBelow faces (neighbourIn first end (spaced (now (file .entry)) at step coreSize)) ⌝ }
 {
     let mut face = 0;
+    let mut met = false;
     while face < faces {
-        if in_range(first, end, GlobalIndex(word(file, at, step, 8 + 4 * face))) {
-            return true;
-        }
+        met = met | in_range(first, end, GlobalIndex(word(file, at, step, 8 + 4 * face)));
         face += 1;
     }
-    false
+    met
 }
 
 // The ghosts, their numbers and their faces apart.

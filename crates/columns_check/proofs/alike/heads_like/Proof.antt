@@ -51,9 +51,6 @@ loop-again c =
     let head-like = c .before .before .head-like in
     (omega arith, run-more (loop .inv .1) (head-like .ensures) (c .before .unless .ensures) (c .lesser .ensures .0) (c .lesser .ensures .1))
 
-cast-result : tie.Need-cast-result Inv-loop μ-loop
-cast-result c = search needs
-
 returns : tie.Need-returns Inv-loop μ-loop
 returns c = run-whole (c .before .loop .inv .1) (omega arith)
 
@@ -74,5 +71,4 @@ heads-like-spec =
     add-i
     loop-less
     loop-again
-    cast-result
     returns)

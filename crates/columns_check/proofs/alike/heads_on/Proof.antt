@@ -16,8 +16,11 @@ add-heads-like c = search needs
 heads-like-requires : tie.Need-heads-like-requires
 heads-like-requires c κs = search needs
 
+cast-result : tie.Need-cast-result
+cast-result c = search needs
+
 returns-2 : tie.Need-returns-2
 returns-2 c = (omega (arith, c .heads-like .ensures .few), heads-run _ _ _ _ _ _ _ (c .heads-like .ensures))
 
 pub heads-on-spec : {M : Type 1} → statement M
-heads-on-spec = tie.close (tie.spec sub-if1 returns add-heads-like heads-like-requires returns-2)
+heads-on-spec = tie.close (tie.spec sub-if1 returns add-heads-like heads-like-requires cast-result returns-2)

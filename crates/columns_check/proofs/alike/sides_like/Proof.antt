@@ -63,9 +63,6 @@ loop-again c =
     let side-like2 = c .before .before .side-like2 in
     (omega arith, run-more (loop .inv .1) (side-like2 .ensures) (c .before .unless .ensures) (c .lesser .ensures .0) (c .lesser .ensures .1))
 
-cast-result : tie.Need-cast-result Inv-loop μ-loop
-cast-result c = search needs
-
 returns-2 : tie.Need-returns-2 Inv-loop μ-loop
 returns-2 c = run-whole (c .before .loop .inv .1) (omega arith)
 
@@ -90,5 +87,4 @@ sides-like-spec =
     add-i
     loop-less
     loop-again
-    cast-result
     returns-2)

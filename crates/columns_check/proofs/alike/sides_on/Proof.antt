@@ -61,6 +61,12 @@ add-sides-like c = search needs
 sides-like-requires-2 : tie.Need-sides-like-requires-2
 sides-like-requires-2 c κs = search needs
 
+lesser-requires : tie.Need-lesser-requires
+lesser-requires c κs = search needs
+
+cast-result : tie.Need-cast-result
+cast-result c = search needs
+
 returns-5 : tie.Need-returns-5
 returns-5 c =
     let sides-like2 = c .before .sides-like2 in
@@ -74,25 +80,8 @@ returns-5 c =
     let sides-like = c .before .before .before .before .before .before .before .before .before .before .sides-like in
     let if1 = c .before .before .before .before .before .before .before .before .before .before .before .if1 in
     let pre = c .before .before .before .before .before .before .before .before .before .before .before .before .before .pre in (
-      omega (arith, if1 .left, sides-like .ensures .few, sides-like2 .ensures .few),
-      sides-run _ _ _ _ _ _ _ _ (pre .2) (sides-like .ensures) (word .ensures) (byte .ensures .0) (face-count .ensures .0) (if4 .left) (byte2 .ensures .0) (parted .ensures .0) (parted .ensures .1 .1) (sides-like2 .ensures) (omega (arith, if1 .left, if3 .left)) (omega arith) (omega arith),
-    )
-
-returns-6 : tie.Need-returns-6
-returns-6 c =
-    let sides-like2 = c .before .sides-like2 in
-    let parted = c .before .before .parted in
-    let byte2 = c .before .before .before .byte2 in
-    let if4 = c .before .before .before .before .if4 in
-    let face-count = c .before .before .before .before .before .face-count in
-    let byte = c .before .before .before .before .before .before .byte in
-    let if3 = c .before .before .before .before .before .before .before .if3 in
-    let word = c .before .before .before .before .before .before .before .before .word in
-    let sides-like = c .before .before .before .before .before .before .before .before .before .before .sides-like in
-    let if1 = c .before .before .before .before .before .before .before .before .before .before .before .if1 in
-    let pre = c .before .before .before .before .before .before .before .before .before .before .before .before .before .pre in (
-      omega (arith, if1 .left, sides-like .ensures .few, sides-like2 .ensures .few),
-      sides-run _ _ _ _ _ _ _ _ (pre .2) (sides-like .ensures) (word .ensures) (byte .ensures .0) (face-count .ensures .0) (if4 .left) (byte2 .ensures .0) (parted .ensures .0) (parted .ensures .1 .1) (sides-like2 .ensures) (omega (arith, if1 .left, if3 .left)) (omega arith) (omega arith),
+      omega (arith, if1 .left, sides-like .ensures .few, c .lesser .ensures .0),
+      sides-run _ _ _ _ _ _ _ _ (pre .2) (sides-like .ensures) (word .ensures) (byte .ensures .0) (face-count .ensures .0) (if4 .left) (byte2 .ensures .0) (parted .ensures .0) (parted .ensures .1 .1) (sides-like2 .ensures) (omega (arith, if1 .left, if3 .left)) (c .lesser .ensures .0) (c .lesser .ensures .1),
     )
 
 pub sides-on-spec : {M : Type 1} → statement M
@@ -118,5 +107,6 @@ sides-on-spec =
     cast-sides-like
     add-sides-like
     sides-like-requires-2
-    returns-5
-    returns-6)
+    lesser-requires
+    cast-result
+    returns-5)

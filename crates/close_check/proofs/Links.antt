@@ -93,7 +93,7 @@ module _ (a : List ℕ) (at first n i f : ℕ) {k : ℕ} (read : k ≡ neighbour
     place-tells =
         let length : first + n - first ≡ n = omega arith in
         let same : p ≡ (k + (4294967296 - first)) % 4294967296 = omega (arith, placed) in
-        rw (same, ← length) (range-wraps first (first + n) k (omega arith) few word)
+        rw same (rw length at (range-wraps first (first + n) k (omega arith) few word))
 
     pub place-out : n ≤ p → inRange first (first + n) k ≡ false
     place-out h = sym place-tells ∙ le-ltb p n h

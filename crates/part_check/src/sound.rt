@@ -11,6 +11,7 @@ use part::layout::dimension;
 use part::layout::first_tree;
 use part::layout::ghost_at;
 use part::layout::ghost_count;
+use part::layout::record_at;
 use part::layout::tree_at;
 use part::layout::tree_count;
 use part::layout::trees;
@@ -30,7 +31,7 @@ ghost use Rattle.offsets.specs.Limits.{maxTrees};
 ghost use Rattle.records.specs.Record.{coreSize, neighbourOf};
 ghost use Rattle.part.specs.Layout.{treePlace, ghostPlace, partSize};
 ghost use Rattle.part.specs.Part.{partCount, partGhostCount, storedTree, partHeaderSound, partSound};
-ghost use Rattle.part.specs.Means.{recordPlace, Ascending, ghostCore, ghostHas, RankKnown};
+ghost use Rattle.part.specs.Means.{Ascending, ghostCore, ghostHas, RankKnown};
 ghost use Rattle.mesh.specs.Means.{linkByDimension, SeenAs};
 ghost use Rattle.ghost_links.specs.Means.{ghostUps, ghostDowns, ghostFromOneEnd, SummedAs};
 ghost use Rattle.part_check.specs.Means.{treeFits, treeNumbered, ghostBehind, ghostNumbered, treeUp, treeDown, treeUps, treeDowns, treeFaceDown, treeSeen, recordsSound, PartLaid, PartNumbered, PartCounted, TreeKnown};
@@ -129,17 +130,7 @@ fn tree_link(part: &[u8], dimension: u32, back: u32, at: usize, face: u32, to: u
     )
 }
 
-// Where the record with local index j begins.
-fn record_at(count: u32, j: u32) -> usize
-    ensures { λ r. ⌜ r ≡ recordPlace count j ⌝ }
-{
-    if j < count {
-        return tree_at(LocalIndex(j));
-    }
-    ghost_at(count, j - count)
-}
-
-// What that record has for tree i: a tree its local index, a ghost its number.
+// What the record with local index j has for tree i: a tree its local index, a ghost its number.
 fn back_of(first: u32, count: u32, i: u32, j: u32) -> u32
     requires { ⌜ first + i < maxTrees ⌝ }
     ensures { λ r. ⌜ r ≡ cond (ltb j count) i (first + i) ⌝ }
@@ -175,7 +166,7 @@ fn tree_face(
         back_of(first, count, i, j),
         at,
         face,
-        record_at(count, j),
+        record_at(count, LocalIndex(j)),
     )
 }
 

@@ -8,12 +8,11 @@ use mathlib.Core.List.{List}
 use lib.ListN.{length}
 use Rattle.encoding.specs.Below.{countBelow, sumBelow}
 use Rattle.encoding.specs.Numbers.{u64At}
-use Rattle.encoding.proofs.Below.{either, sum-more, count-same, count-none}
+use Rattle.encoding.proofs.Below.{either, sum-more, count-same, count-none, count-add}
 use Rattle.pattern.specs.Means.{rankSet}
 use Rattle.pattern.specs.Sets.{receiveSet}
 use Rattle.pattern.proofs.Answers.{set-receives}
 use Rattle.bits.specs.Bits.{bitOf}
-use Rattle.bits.proofs.Bits.{count-add}
 use Rattle.area.specs.Layout.{heardWords, wordsPlace}
 use Rattle.area.specs.Area.{areaP, areaRank, areaOld, areaNew, heard, areaSound}
 use Rattle.area_open.specs.Calls.{progressOf}

@@ -13,7 +13,7 @@ use lib.Pow.{pow-pos, pow-mono, pow-lt, pow-add, shl-exact, shl-shr, shr-shr, sp
 use lib.Seq.{getD-set-same, getD-set-other}
 use borrow.Author.Tests.{eqb-true, eqb-false, eq-eqb, ne-eqb}
 use Rattle.encoding.specs.Below.{countBelow, sumBelow}
-use Rattle.encoding.proofs.Below.{tests, either, count-same}
+use Rattle.encoding.proofs.Below.{tests, either, count-same, count-add}
 use Rattle.bits.specs.Bits.{bitOf, withBit, inSet, withMember}
 
 -- ---- bits of a word
@@ -167,12 +167,6 @@ unfolding withMember
 with-length ws k = simp length-set
 
 -- ---- how many members a set has
-
--- of m + n, those of the first m and those of the n behind them
-pub count-add : (m n : ℕ) (f : ℕ → Bool) → countBelow (m + n) f ≡ countBelow m f + countBelow n (λ i. f (m + i))
-unfolding countBelow
-count-add m zero f = rw (add-zero, add-zero)
-count-add m (suc n) f = rw (add-suc, count-add m n f, add-assoc)
 
 count-nothing : (f : ℕ → Bool) → 0 ≡ countBelow 0 f
 unfolding countBelow

@@ -1,9 +1,9 @@
 -- Laws of the loops over the numbers below n.
 use Prim.Native.Nat.{ℕ, zero, suc, _+_, _-_, _*_, _≤_, _<_, min}
-use native.Mathlib.Nat.{add-zero, add-suc, suc-mul, sub-zero, le-refl, le-of-lt, le-of-eq}
+use native.Mathlib.Nat.{add-zero, add-suc, add-assoc, suc-mul, sub-zero, le-refl, le-of-lt, le-of-eq}
 use native.Mathlib.Numerals.{add-one}
 use native.Mathlib.Omega.{arith}
-use mathlib.Core.Path.{_≡_, refl, sym, ap₂, _∙_}
+use mathlib.Core.Path.{_≡_, refl, sym, ap, ap₂, _∙_}
 use mathlib.Core.Bool.{Bool, true, false, cond, not, _&&_, _||_, false≢true, and-true, and-false, and-assoc, or-assoc, or-false, and-or-distrib-right, Bool·not-not}
 use mathlib.Core.List.{List, [], _∷_, _++_}
 use lib.ListN.{length, getD, length-append, List·getD-append}
@@ -158,6 +158,30 @@ unfolding sumBelow
 sum-le zero g b h = omega arith
 sum-le (suc n) g b h = rw suc-mul (omega (arith, sum-le n g b (λ i p. h i (omega arith)), h n (le-refl (suc n))))
 
+-- no numbers but 0
+pub sum-none : (n : ℕ) → sumBelow n (λ i. 0) ≡ 0
+unfolding sumBelow
+sum-none zero = refl
+sum-none (suc n) = rw (sum-none n)
+
+-- the sum of sums
+pub sum-plus : (n : ℕ) (f g : ℕ → ℕ) → sumBelow n (λ i. f i + g i) ≡ sumBelow n f + sumBelow n g
+unfolding sumBelow
+sum-plus zero f g = refl
+sum-plus (suc n) f g = let r = sum-plus n f g in omega arith
+
+-- of m + n: the first m, and the n behind them
+pub sum-add : (m n : ℕ) (g : ℕ → ℕ) → sumBelow (m + n) g ≡ sumBelow m g + sumBelow n (λ i. g (m + i))
+unfolding sumBelow
+sum-add m zero g = rw (add-zero, add-zero)
+sum-add m (suc n) g = rw (add-suc, sum-add m n g, add-assoc)
+
+-- a table of numbers has one sum, by rows and by columns
+pub sum-swap : (m n : ℕ) (g : ℕ → ℕ → ℕ) → sumBelow m (λ i. sumBelow n (g i)) ≡ sumBelow n (λ j. sumBelow m (λ i. g i j))
+unfolding sumBelow
+sum-swap zero n g = sym (sum-none n)
+sum-swap (suc m) n g = ap (λ s. s + sumBelow n (g m)) (sum-swap m n g) ∙ sym (sum-plus n (λ j. sumBelow m (λ i. g i j)) (g m))
+
 -- ---- count
 
 -- to count is to add ones
@@ -216,6 +240,28 @@ count-initial n f m h t e =
 -- where each fails, none is counted
 pub count-none : (n : ℕ) (f : ℕ → Bool) → ((i : ℕ) → i < n → f i ≡ false) → countBelow n f ≡ 0
 count-none n f h = count-initial n f 0 (omega arith) (λ i p. absurd (omega arith)) (λ i q. h i)
+
+-- of m + n: those of the first m, and of the n behind them
+pub count-add : (m n : ℕ) (f : ℕ → Bool) → countBelow (m + n) f ≡ countBelow m f + countBelow n (λ i. f (m + i))
+unfolding countBelow
+count-add m zero f = rw (add-zero, add-zero)
+count-add m (suc n) f = rw (add-suc, count-add m n f, add-assoc)
+
+-- of w, those of the first c
+pub count-first : (w c : ℕ) (f : ℕ → Bool) → c ≤ w → countBelow w (λ i. ltb i c && f i) ≡ countBelow c f
+count-first w c f h =
+    let e : w ≡ c + (w - c) = omega arith in
+    ap (λ (m : ℕ). countBelow m (λ i. ltb i c && f i)) e
+    ∙ count-add c (w - c) (λ i. ltb i c && f i)
+    ∙ ap₂ (λ (x y : ℕ). x + y) (count-same c (λ i. ltb i c && f i) f (λ i l. rw (lt-ltb i c l))) (count-none (w - c) (λ i. ltb (c + i) c && f (c + i)) (λ i l. rw (le-ltb (c + i) c (omega arith))))
+    ∙ add-zero (countBelow c f)
+
+-- the pairs that pass, by rows and by columns
+pub count-swap : (m n : ℕ) (f : ℕ → ℕ → Bool) → sumBelow m (λ i. countBelow n (f i)) ≡ sumBelow n (λ j. countBelow m (λ i. f i j))
+count-swap m n f =
+    sum-same m (λ i. countBelow n (f i)) (λ i. sumBelow n (λ j. cond (f i j) 1 0)) (λ i l. sum-count n (f i))
+    ∙ sum-swap m n (λ i j. cond (f i j) 1 0)
+    ∙ sym (sum-same n (λ j. countBelow m (λ i. f i j)) (λ j. sumBelow m (λ i. cond (f i j) 1 0)) (λ j l. sum-count m (λ i. f i j)))
 
 bit-or : (a b : Bool) → cond {A = ℕ} (a || b) 1 0 ≤ cond a 1 0 + cond b 1 0
 bit-or true b = omega arith
@@ -368,16 +414,6 @@ kept-ascends n f i j d h k =
     (λ p. absurd (omega (arith, count-mono b a f (omega tests), kept-found n f i d (omega arith), kept-found n f j d k)))
 
 -- ---- counting by value
-
-sum-plus : (n : ℕ) (f g : ℕ → ℕ) → sumBelow n (λ i. f i + g i) ≡ sumBelow n f + sumBelow n g
-unfolding sumBelow
-sum-plus zero f g = refl
-sum-plus (suc n) f g = let r = sum-plus n f g in omega arith
-
-pub sum-none : (n : ℕ) → sumBelow n (λ i. 0) ≡ 0
-unfolding sumBelow
-sum-none zero = refl
-sum-none (suc n) = rw (sum-none n)
 
 sum-one : (n v : ℕ) → v < n → sumBelow n (λ b. cond (eqb v b) 1 0) ≡ 1
 unfolding sumBelow

@@ -8,7 +8,7 @@ use mathlib.Core.List.{List}
 use lib.Dec.{leb, ltb, eqb}
 use borrow.Author.Tests.{ltb-true, leb-true, lt-ltb, le-ltb, le-leb, eqb-true, eqb-false, eq-eqb, ne-eqb}
 use Rattle.encoding.specs.Below.{allBelow, anyBelow, countBelow, leastBelow, sumBelow}
-use Rattle.encoding.proofs.Below.{tests, either, clash, and-fst, and-snd, and-intro, iff-eq, all-at, all-intro, any-intro, sum-same, count-same, least-is, least-lt, least-at}
+use Rattle.encoding.proofs.Below.{tests, either, clash, and-fst, and-snd, and-intro, iff-eq, all-at, all-intro, any-intro, sum-same, sum-add, count-same, least-is, least-lt, least-at}
 use Rattle.records.specs.Shape.{dimensionOf, faceCount}
 use Rattle.records.specs.Record.{numberOf, shapeOf, neighbourOf, faceOf, toItself, boundaryOk, inForm}
 use Rattle.records.proofs.Shapes.{count-six}
@@ -20,12 +20,6 @@ use Rattle.mesh.proofs.OneEnd.{Obeys, Turns, as-many, ups-obey}
 use Rattle.part.specs.Means.{inRange, neighbourIn, ghostHas}
 use Rattle.ghost_links.specs.Means.{formAlone, ghostUp, ghostDown, ghostListed, ghostUps, ghostDowns, ghostLow, ghostAnswered, ghostFaceDown, ghostFromOneEnd}
 use Rattle.ghost_links.proofs.Forms.{alone-from, alone-form, alone-fits}
-
--- a sum over m + n
-sum-behind : (m n : ℕ) (f : ℕ → ℕ) → sumBelow (m + n) f ≡ sumBelow m f + sumBelow n (λ i. f (m + i))
-unfolding sumBelow
-sum-behind m zero f = rw (add-zero, add-zero)
-sum-behind m (suc n) f = rw (add-suc, sum-behind m n f, add-assoc)
 
 or-snd : (a b : Bool) → a ≡ false → (a || b) ≡ true → b ≡ true
 or-snd true b h e = clash refl h
@@ -388,7 +382,7 @@ module _ (D first n g K : ℕ) (tree ghostly : ℕ → List ℕ) (name place : �
   sum-ups : sumBelow (n + g) (λ a. countBelow (facesAt a) (up a)) ≡ sumBelow n treeUps + sumBelow g (ghostUps first n g ghostly)
   unfolding ghostUps
   sum-ups =
-      sum-behind n g (λ a. countBelow (facesAt a) (up a))
+      sum-add n g (λ a. countBelow (facesAt a) (up a))
       ∙ ap₂ (λ (x y : ℕ). x + y)
       (sum-same n (λ a. countBelow (facesAt a) (up a)) treeUps (λ i h. count-same (facesAt i) (up i) (treeUp i) (λ f l. rw (lt-ltb i n h)) ∙ rw (lt-ltb i n h)))
       (sum-same g (λ m. countBelow (facesAt (n + m)) (up (n + m))) (ghostUps first n g ghostly) (λ m h. count-same (facesAt (n + m)) (up (n + m)) (ghostUp first n g ghostly m) (λ f l. rw (past m, add-sub-cancel-left n m)) ∙ rw (past m, add-sub-cancel-left n m)))
@@ -396,7 +390,7 @@ module _ (D first n g K : ℕ) (tree ghostly : ℕ → List ℕ) (name place : �
   sum-downs : sumBelow (n + g) (λ a. countBelow (facesAt a) (down a)) ≡ sumBelow n treeDowns + sumBelow g (ghostDowns g ghostly)
   unfolding ghostDowns
   sum-downs =
-      sum-behind n g (λ a. countBelow (facesAt a) (down a))
+      sum-add n g (λ a. countBelow (facesAt a) (down a))
       ∙ ap₂ (λ (x y : ℕ). x + y)
       (sum-same n (λ a. countBelow (facesAt a) (down a)) treeDowns (λ i h. count-same (facesAt i) (down i) (treeDown i) (λ f l. rw (lt-ltb i n h)) ∙ rw (lt-ltb i n h)))
       (sum-same g (λ m. countBelow (facesAt (n + m)) (down (n + m))) (ghostDowns g ghostly) (λ m h. count-same (facesAt (n + m)) (down (n + m)) (ghostDown g ghostly m) (λ f l. rw (past m, add-sub-cancel-left n m)) ∙ rw (past m, add-sub-cancel-left n m)))

@@ -10,7 +10,7 @@ use lib.Dec.{eqb, ltb}
 use lib.ListN.{length, getD, List·getD-eq-default}
 use borrow.Author.Tests.{eqb-true}
 use Rattle.encoding.specs.Below.{allBelow, sumBelow}
-use Rattle.encoding.proofs.Below.{tests, either, and-fst, and-snd, all-at}
+use Rattle.encoding.proofs.Below.{tests, either, and-fst, and-snd, all-at, sum-add}
 use Rattle.offsets_write.specs.Partition.{tableOf}
 use Rattle.leaf_shares.specs.Leaves.{leavesOk, leafStart, leafTotal, cut, leafFirst, leafCount, equalShares, leafTable}
 use Rattle.leaves.specs.Blocks.{blockCount, blockSum, sumsOk, pairs, rounds, pairTotal, blockShares, blockTable, PairsAdd, BlocksAgree}
@@ -78,15 +78,6 @@ unfolding pairTotal
 pair-total sums = one-total (rounds (length sums) sums) (rounds-one (length sums) sums (omega arith)) ∙ rounds-total (length sums) sums
 
 -- ---- blocks
-
--- the first m numbers, and n more
-sum-add : (m n : ℕ) (g : ℕ → ℕ) → sumBelow (m + n) g ≡ sumBelow m g + sumBelow n (λ i. g (m + i))
-unfolding sumBelow
-sum-add m zero g = let e : m + 0 ≡ m = omega arith in rw e (omega arith)
-sum-add m (suc n) g =
-    let i = sum-add m n g in
-    let e : m + suc n ≡ suc (m + n) = omega arith in
-    rw e (omega arith)
 
 -- the leaves before a block, and those of the block
 start-block : (ls : List ℕ) (b : ℕ) → leafStart ls (256 * b + 256) ≡ leafStart ls (256 * b) + blockSum ls b

@@ -7,7 +7,7 @@ use mathlib.Core.Bool.{Bool, true, false, cond, not, _&&_}
 use lib.Dec.{eqb, leb, ltb}
 use borrow.Author.Tests.{ltb-true, eqb-true, eq-eqb, lt-ltb, le-ltb, le-leb}
 use Rattle.encoding.specs.Below.{countBelow, sumBelow}
-use Rattle.encoding.proofs.Below.{tests, either, clash, and-fst, and-snd, and-intro, iff-eq, sum-same, sum-count, count-same, count-none, count-zero, count-range, count-by-value}
+use Rattle.encoding.proofs.Below.{tests, either, clash, and-fst, and-snd, and-intro, iff-eq, sum-same, sum-count, count-same, count-none, count-zero, count-range, count-add, count-first, count-by-value}
 
 -- ---- pairs
 
@@ -112,21 +112,6 @@ module _ (n : ℕ) (p q : ℕ → Bool) (t : ℕ → ℕ) (there : Paired n p q 
 
 -- ---- rows
 
--- of m + n, those of the first m and those of the n behind them
-count-behind : (m n : ℕ) (f : ℕ → Bool) → countBelow (m + n) f ≡ countBelow m f + countBelow n (λ i. f (m + i))
-unfolding countBelow
-count-behind m zero f = rw (add-zero, add-zero)
-count-behind m (suc n) f = rw (add-suc, count-behind m n f, add-assoc)
-
--- in a row of w, those of the first c
-count-first : (w c : ℕ) (f : ℕ → Bool) → c ≤ w → countBelow w (λ i. ltb i c && f i) ≡ countBelow c f
-count-first w c f h =
-    let e : w ≡ c + (w - c) = omega arith in
-    ap (λ (m : ℕ). countBelow m (λ i. ltb i c && f i)) e
-    ∙ count-behind c (w - c) (λ i. ltb i c && f i)
-    ∙ ap₂ (λ (x y : ℕ). x + y) (count-same c (λ i. ltb i c && f i) f (λ i l. rw (lt-ltb i c l))) (count-none (w - c) (λ i. ltb (c + i) c && f (c + i)) (λ i l. rw (le-ltb (c + i) c (omega arith))))
-    ∙ add-zero (countBelow c f)
-
 -- n rows of w numbers, of which row k has the first c k
 pub count-rows : (n w : ℕ) (c : ℕ → ℕ) (f : ℕ → ℕ → Bool) → ((k : ℕ) → c k ≤ w) → (p : ℕ → Bool) → ((k i : ℕ) → i < w → p (k * w + i) ≡ (ltb i (c k) && f k i))
     → countBelow (n * w) p ≡ sumBelow n (λ k. countBelow (c k) (f k))
@@ -134,4 +119,4 @@ unfolding sumBelow countBelow
 count-rows zero w c f h p e = rw zero-mul
 count-rows (suc n) w c f h p e =
     let m : suc n * w ≡ n * w + w = suc-mul n w in
-    rw (m, count-behind (n * w) w p, count-rows n w c f h p e, count-same w (λ i. p (n * w + i)) (λ i. ltb i (c n) && f n i) (e n), count-first w (c n) (f n) (h n))
+    rw (m, count-add (n * w) w p, count-rows n w c f h p e, count-same w (λ i. p (n * w + i)) (λ i. ltb i (c n) && f n i) (e n), count-first w (c n) (f n) (h n))

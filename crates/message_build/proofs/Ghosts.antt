@@ -10,9 +10,9 @@ use borrow.Author.Tests.{leb-true, ltb-true, lt-ltb, eqb-true, eqb-false}
 use Rattle.encoding.specs.Below.{anyBelow, leastBelow, countBelow, sumBelow}
 use Rattle.encoding.specs.Numbers.{u32At}
 use Rattle.encoding.specs.Pieces.{piece, splice}
-use Rattle.encoding.proofs.Below.{either, tests, and-fst, and-snd, count-same, count-initial, sum-more, least-lt}
+use Rattle.encoding.proofs.Below.{either, tests, and-fst, and-snd, count-same, count-initial, sum-more, least-lt, count-add}
 use Rattle.bits.specs.Bits.{bitOf, inSet}
-use Rattle.bits.proofs.Bits.{count-add, set-count}
+use Rattle.bits.proofs.Bits.{set-count}
 use Rattle.records.specs.Record.{coreSize, numberOf}
 use Rattle.part.specs.Layout.{treePlace, ghostPlace}
 use Rattle.part.specs.Cut.{renamed}

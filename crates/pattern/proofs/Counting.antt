@@ -7,7 +7,7 @@ use mathlib.Core.Bool.{Bool, true, false, cond, _&&_, _||_}
 use lib.Dec.{leb, ltb}
 use borrow.Author.Tests.{ltb-true, leb-true, lt-ltb, le-leb}
 use Rattle.encoding.specs.Below.{anyBelow, leastBelow, countBelow, sumBelow}
-use Rattle.encoding.proofs.Below.{tests, either, and-fst, and-snd, and-intro, any-intro, any-none, least-is, count-range, count-none, count-or, sum-count, sum-same, sum-le}
+use Rattle.encoding.proofs.Below.{tests, either, and-fst, and-snd, and-intro, any-intro, any-none, least-is, count-range, count-none, count-or, count-swap, sum-plus, sum-le}
 
 -- a number that passes is in the range
 pub range-true : (a b k : ℕ) → (leb a k && ltb k b) ≡ true → (a ≤ k) × (k < b)
@@ -73,28 +73,6 @@ pub sum-imp : (n : ℕ) (f g : ℕ → ℕ) → ((i : ℕ) → i < n → f i ≤
 unfolding sumBelow
 sum-imp zero f g h = omega arith
 sum-imp (suc n) f g h = omega (arith, sum-imp n f g (λ i l. h i (omega arith)), h n (le-refl (suc n)))
-
--- the sum of sums
-pub sum-plus : (n : ℕ) (f g : ℕ → ℕ) → sumBelow n (λ i. f i + g i) ≡ sumBelow n f + sumBelow n g
-unfolding sumBelow
-sum-plus zero f g = omega arith
-sum-plus (suc n) f g = omega (arith, sum-plus n f g)
-
-sum-zero : (n : ℕ) → sumBelow n (λ i. 0) ≡ 0
-sum-zero n = omega (arith, sum-le n (λ i. 0) 0 (λ i l. le-refl 0))
-
--- a table of numbers has one sum, by rows and by columns
-pub sum-swap : (m n : ℕ) (g : ℕ → ℕ → ℕ) → sumBelow m (λ i. sumBelow n (g i)) ≡ sumBelow n (λ j. sumBelow m (λ i. g i j))
-unfolding sumBelow
-sum-swap zero n g = sym (sum-zero n)
-sum-swap (suc m) n g = ap (λ s. s + sumBelow n (g m)) (sum-swap m n g) ∙ sym (sum-plus n (λ j. sumBelow m (λ i. g i j)) (g m))
-
--- the pairs that pass, by rows and by columns
-pub count-swap : (m n : ℕ) (f : ℕ → ℕ → Bool) → sumBelow m (λ i. countBelow n (f i)) ≡ sumBelow n (λ j. countBelow m (λ i. f i j))
-count-swap m n f =
-    sum-same m (λ i. countBelow n (f i)) (λ i. sumBelow n (λ j. cond (f i j) 1 0)) (λ i l. sum-count n (f i))
-    ∙ sum-swap m n (λ i j. cond (f i j) 1 0)
-    ∙ sym (sum-same n (λ j. countBelow m (λ i. f i j)) (λ j. sumBelow m (λ i. cond (f i j) 1 0)) (λ j l. sum-count m (λ i. f i j)))
 
 -- pairs that pass one of three tests, of which a row passes the first once, a column the second, a row the third
 pub pairs-three : (n : ℕ) (f a b c : ℕ → ℕ → Bool) → ((i j : ℕ) → i < n → j < n → f i j ≡ true → (a i j || (b i j || c i j)) ≡ true)

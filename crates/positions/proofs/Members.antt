@@ -9,10 +9,9 @@ use mathlib.Core.List.{List, [], _++_, append-nil}
 use lib.ListN.{length, length-append}
 use Rattle.encoding.specs.Below.{countBelow}
 use Rattle.encoding.specs.Pieces.{splice}
-use Rattle.encoding.proofs.Below.{either, count-more, count-mono, count-none}
+use Rattle.encoding.proofs.Below.{either, count-more, count-mono, count-none, count-add}
 use Rattle.encoding.proofs.Pieces.{length-splice, splice-none, splice-then}
 use Rattle.bits.specs.Bits.{leastFrom}
-use Rattle.bits.proofs.Bits.{count-add}
 use Rattle.bits.proofs.Scanning.{from-le, from-most, from-at, from-below}
 use Rattle.records.specs.Record.{coreSize}
 use Rattle.positions.specs.Means.{coresBelow}

@@ -11,9 +11,9 @@ use lib.Seq.{getD-set-same, getD-set-other}
 use borrow.Author.Tests.{ltb-true, lt-ltb, le-ltb, eqb-true, eqb-false, eq-eqb, ne-eqb}
 use Rattle.encoding.specs.Below.{anyBelow, countBelow, leastBelow}
 use Rattle.encoding.specs.Numbers.{u32At}
-use Rattle.encoding.proofs.Below.{either, tests, clash, below-suc, any-at, any-intro, count-more, count-same, count-none, count-le, count-mono, count-initial, least-is, least-none}
+use Rattle.encoding.proofs.Below.{either, tests, clash, below-suc, any-at, any-intro, count-more, count-same, count-none, count-le, count-mono, count-initial, least-is, least-none, count-add}
 use Rattle.bits.specs.Bits.{bitOf, inSet, withMember}
-use Rattle.bits.proofs.Bits.{bit-zero, bit-shift, bit-past, in-none, in-with, with-length, count-add}
+use Rattle.bits.proofs.Bits.{bit-zero, bit-shift, bit-past, in-none, in-with, with-length}
 use Rattle.records.specs.Record.{coreSize}
 use Rattle.part.specs.Means.{numberAt, Ascending, smaller}
 use Rattle.part.proofs.Search.{Between, between-end}

@@ -9,8 +9,8 @@ use Rattle.encoding.specs.Below.{allBelow}
 use Rattle.encoding.proofs.Below.{tests, either, iff-eq, and-fst, and-snd, and-intro, all-at, all-intro}
 use Rattle.records.specs.Shape.{dimensionOf, faceCount, shapeOk}
 use Rattle.records.specs.Record.{shapeOf, regionOk, zerosOk, unusedOk, boundaryOk, inForm}
+use Rattle.records.specs.Means.{unusedFrom}
 use Rattle.records.proofs.Forms.{form-shape, form-zeros, form-region, form-used, form-unused, form-intro}
-use Rattle.mesh.specs.Means.{unusedFrom}
 use Rattle.mesh.proofs.ByDimension.{Fits}
 use Rattle.ghost_links.specs.Means.{formAlone}
 

@@ -10,8 +10,8 @@ use Rattle.encoding.specs.Pieces.{piece}
 use Rattle.offsets.specs.Limits.{maxTrees}
 use Rattle.records.specs.Shape.{dimensionOf, faceCount, shapeOk}
 use Rattle.records.specs.Record.{coreSize, numberOf, shapeOf, neighbourOf, regionOk, zerosOk, boundaryOk, inForm}
+use Rattle.records.specs.Means.{unusedFrom}
 use Rattle.mesh.specs.Link.{orientationOk}
-use Rattle.mesh.specs.Means.{unusedFrom}
 use Rattle.part.specs.Means.{inRange, neighbourIn, ghostHas}
 use Rattle.positions.specs.Means.{Indexed}
 

@@ -17,24 +17,9 @@ ghost use lib.ListN.{length};
 ghost use Rattle.encoding.specs.Below.{allBelow, anyBelow, countBelow, sumBelow};
 ghost use Rattle.encoding.specs.Pieces.{piece};
 ghost use Rattle.records.specs.Record.{coreSize, numberOf, inForm};
-ghost use Rattle.mesh.specs.Means.{linkByDimension, packed, unusedFrom, SeenAs};
+ghost use Rattle.mesh.specs.Means.{linkByDimension, packed, SeenAs};
 ghost use Rattle.part.specs.Means.{neighbourIn};
 ghost use Rattle.ghost_links.specs.Means.{coreFrom, formAlone, ghostUp, ghostDown, ghostListed, ghostUps, ghostDowns, ghostLow, ghostAnswered, ghostFaceDown, ghostFromOneEnd, GhostsMarked, Formed, SummedAs};
-
-// The faces that the shape doesn't have.
-fn unused_from(bs: &[u8], at: usize, faces: u32) -> bool
-    requires { ⌜ (at + coreSize ≤ length (now bs)) × (faces ≤ 6) ⌝ }
-    ensures { λ r. ⌜ r ≡ allBelow 6 (unusedFrom faces (piece (now (bs .entry)) at coreSize)) ⌝ }
-{
-    let mut face = faces;
-    while face < 6 {
-        if !records::form::unused_ok(bs, at, face) {
-            return false;
-        }
-        face += 1;
-    }
-    true
-}
 
 // What a record shows without its links.
 pub fn alone(bs: &[u8], dimension: u32, at: usize) -> bool
@@ -45,7 +30,7 @@ pub fn alone(bs: &[u8], dimension: u32, at: usize) -> bool
     records::shape::shape_ok(shape)
         & records::form::zeros_ok(bs, at)
         & records::form::region_ok(bs, at)
-        & unused_from(bs, at, records::shape::face_count(shape))
+        & records::form::unused_from(bs, at, records::shape::face_count(shape))
         & (records::shape::dimension_of(shape) == dimension)
 }
 

@@ -13,8 +13,9 @@ use Rattle.encoding.proofs.Below.{clash, all-intro, all-fails, all-to, count-mo
 use Rattle.offsets.specs.Limits.{treeCountOk}
 use Rattle.records.specs.Shape.{shapeOk, dimensionOf, faceCount, facesIn}
 use Rattle.records.specs.Record.{coreSize, treeSize, numberOf, shapeOf, neighbourOf, codeOf, zerosOk, regionOk, unusedOk, boundaryOk, inForm}
+use Rattle.records.specs.Means.{unusedFrom}
 use Rattle.mesh.specs.Mesh.{meshHeader, meshDimension, meshTrees, dimensionOk, meshCore, headerSound, meshSound}
-use Rattle.mesh.specs.Means.{cornersFit, cornersByDimension, answeredThere, answeredByDimension, linkByDimension, faceByDimension, treeByDimension, leadsUp, leadsDown, linksUp, linksDown, aloneByDimension, leadsInside, listedLink, downSound, listedSound, faceFromAbove, unusedFrom, treeFromAbove, treesFromAbove, SeenAs}
+use Rattle.mesh.specs.Means.{cornersFit, cornersByDimension, answeredThere, answeredByDimension, linkByDimension, faceByDimension, treeByDimension, leadsUp, leadsDown, linksUp, linksDown, aloneByDimension, leadsInside, listedLink, downSound, listedSound, faceFromAbove, treeFromAbove, treesFromAbove, SeenAs}
 use Rattle.mesh.proofs.FromAbove.{trees-from-above}
 use Rattle.mesh.proofs.Packing.{faces-both}
 
@@ -68,15 +69,6 @@ count-next i f e p h = rw (count-more i f, h, e, p)
 -- one more summand
 pub sum-next : {n r : ℕ} (i : ℕ) (g : ℕ → ℕ) → r ≡ g i → n ≡ sumBelow i g → n + r ≡ sumBelow (i + 1) g
 sum-next i g e h = rw (sum-more i g, h, e)
-
--- faces before those without use
-pub unused-first : (c : ℕ) (r : List ℕ) → allBelow c (unusedFrom c r) ≡ true
-unfolding unusedFrom
-unused-first c r = all-intro c (unusedFrom c r) (λ f h. rw (lt-ltb f c h))
-
-pub unused-is : {b : Bool} (c : ℕ) (r : List ℕ) (f : ℕ) → c ≤ f → b ≡ unusedOk r f → unusedFrom c r f ≡ b
-unfolding unusedFrom
-unused-is c r f h e = rw (le-ltb f c h) (sym e)
 
 pub alone-read : {a z g : Bool} {number shape dimension : ℕ} (d k : ℕ) (r : List ℕ) → shape ≡ shapeOf r → a ≡ shapeOk shape → z ≡ zerosOk r → g ≡ regionOk r → number ≡ numberOf r → dimension ≡ dimensionOf shape
     → (a && z && g && eqb number k && eqb dimension d) ≡ aloneByDimension d k r

@@ -9,11 +9,12 @@ use Rattle.encoding.specs.Below.{allBelow, sumBelow}
 use Rattle.encoding.proofs.Below.{tests, either, and-fst, and-snd, and-intro, iff-eq, all-at, all-intro}
 use Rattle.records.specs.Shape.{shapeOk, dimensionOf, faceCount, corners}
 use Rattle.records.specs.Record.{numberOf, shapeOf, neighbourOf, faceOf, orientationOf, regionOk, zerosOk, unusedOk, toItself, boundaryOk, inForm}
+use Rattle.records.specs.Means.{unusedFrom}
 use Rattle.records.proofs.Shapes.{count-six}
 use Rattle.records.proofs.Forms.{face-six, form-shape, form-zeros, form-region, form-used, form-unused, form-intro}
 use Rattle.mesh.specs.Link.{orientationOk, sameCorners, answered, linkOk}
 use Rattle.mesh.specs.Mesh.{faceSound, treeSound}
-use Rattle.mesh.specs.Means.{linkBetween, linkByDimension, leadsUp, leadsDown, linksUp, linksDown, aloneByDimension, faceFromAbove, unusedFrom, treeFromAbove, treesFromAbove}
+use Rattle.mesh.specs.Means.{linkBetween, linkByDimension, leadsUp, leadsDown, linksUp, linksDown, aloneByDimension, faceFromAbove, treeFromAbove, treesFromAbove}
 use Rattle.mesh.proofs.OneEnd.{Obeys, Turns, as-many, ups-obey}
 use Rattle.mesh.proofs.Soundness.{link-orientation, link-corners, link-there, link-answered}
 use Rattle.mesh.proofs.ByDimension.{Fits, link-same}

@@ -6,7 +6,8 @@ use mathlib.Core.List.{List}
 use lib.Dec.{ltb, leb, eqb}
 use Rattle.encoding.specs.Below.{allBelow, countBelow, sumBelow}
 use Rattle.records.specs.Shape.{shapeOk, dimensionOf, faceCount, facesIn, corners}
-use Rattle.records.specs.Record.{numberOf, shapeOf, neighbourOf, codeOf, regionOk, zerosOk, unusedOk, boundaryOk, inForm}
+use Rattle.records.specs.Record.{numberOf, shapeOf, neighbourOf, codeOf, regionOk, zerosOk, boundaryOk, inForm}
+use Rattle.records.specs.Means.{unusedFrom}
 use Rattle.mesh.specs.Link.{orientationOk, sameCorners, answered}
 
 -- both faces have as many corners, and the orientation is below these
@@ -81,10 +82,6 @@ listedLink core k f = leb (neighbourOf (core k) f) k
 unfoldable pub packed : ℕ → (ℕ → Bool) → ℕ
 packed zero p = 0
 packed (suc f) p = cond (p f) (8 * packed f p + (f + 1)) (packed f p)
-
--- a face that a shape with c faces doesn't have
-unfoldable pub unusedFrom : ℕ → List ℕ → ℕ → Bool
-unusedFrom c r f = cond (ltb f c) true (unusedOk r f)
 
 unfoldable pub treeFromAbove : (ℕ → List ℕ) → ℕ → ℕ → ℕ → Bool
 treeFromAbove core d K k =

@@ -14,7 +14,7 @@ ghost use Rattle.encoding.specs.Below.{allBelow, countBelow};
 ghost use Rattle.encoding.specs.Pieces.{piece};
 ghost use Rattle.records.specs.Record.{coreSize, treeSize};
 ghost use Rattle.mesh.specs.Mesh.{meshHeader, meshCore, meshSound};
-ghost use Rattle.mesh.specs.Means.{packed, linkByDimension, leadsInside, listedLink, downSound, listedSound, leadsUp, leadsDown, linksUp, linksDown, aloneByDimension, faceFromAbove, unusedFrom, treeFromAbove, treesFromAbove, SeenAs};
+ghost use Rattle.mesh.specs.Means.{packed, linkByDimension, leadsInside, listedLink, downSound, listedSound, leadsUp, leadsDown, linksUp, linksDown, aloneByDimension, faceFromAbove, treeFromAbove, treesFromAbove, SeenAs};
 
 // What the faces of a tree show: whether each passes, and how many links lead up and down.
 pub struct Seen {
@@ -162,21 +162,6 @@ fn faces_sound(mesh: &[u8], dimension: u32, trees: u32, k: u32, faces: u32) -> S
     }
 }
 
-// The faces that the shape doesn't have.
-fn unused_sound(mesh: &[u8], at: usize, faces: u32) -> bool
-    requires { ⌜ (at + coreSize ≤ length (now mesh)) × (faces ≤ 6) ⌝ }
-    ensures { λ r. ⌜ r ≡ allBelow 6 (unusedFrom faces (piece (now (mesh .entry)) at coreSize)) ⌝ }
-{
-    let mut face = faces;
-    while face < 6 {
-        if !records::form::unused_ok(mesh, at, face) {
-            return false;
-        }
-        face += 1;
-    }
-    true
-}
-
 fn alone(mesh: &[u8], dimension: u32, k: u32, at: usize) -> bool
     requires { ⌜ at + coreSize ≤ length (now mesh) ⌝ }
     ensures { λ r. ⌜ r ≡ aloneByDimension dimension k (piece (now (mesh .entry)) at coreSize) ⌝ }
@@ -198,7 +183,7 @@ fn tree_sound(mesh: &[u8], dimension: u32, trees: u32, k: u32) -> Seen
         return refused();
     }
     let faces = records::shape::face_count(records::read::shape_of(mesh, at));
-    if !unused_sound(mesh, at, faces) {
+    if !records::form::unused_from(mesh, at, faces) {
         return refused();
     }
     faces_sound(mesh, dimension, trees, k, faces)

@@ -88,3 +88,13 @@ module _ (m : List ℕ) where
   layout-read l t u q p e o =
       let f : recordsLaid m (messageTrees m) (messageTree m) ≡ true = sym (trees-row (messageTrees m)) ∙ (rw t at (sym p) ∙ e) in
       rw (l, f, o, q, t, u) (ghosts-row (messageGhosts m))
+
+-- ---- the neighbours of all six faces
+
+pub six-read : {a b d e g h : ℕ} (k : ℕ) (r : List ℕ) → a ≡ neighbourOf r 0 → b ≡ neighbourOf r 1 → d ≡ neighbourOf r 2 → e ≡ neighbourOf r 3 → g ≡ neighbourOf r 4 → h ≡ neighbourOf r 5
+    → (ltb a k && ltb b k && ltb d k && ltb e k && ltb g k && ltb h k) ≡ allBelow 6 (λ f. ltb (neighbourOf r f) k)
+unfolding allBelow
+six-read k r p q s t u v = rw (p, q, s, t, u, v)
+
+pub six-faces : {b : Bool} (faces : ℕ) (f : ℕ → Bool) → faces ≡ 6 → b ≡ allBelow 6 f → b ≡ allBelow faces f
+six-faces faces f h e = rw h e

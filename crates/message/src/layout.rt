@@ -39,11 +39,27 @@ pub fn size_laid(message: &[u8]) -> bool
         & (message.len() == ghost_at(tree_count(message), ghost_count(message)))
 }
 
+// Whether the neighbours of all six faces of the record at byte `at` are below `below`. They are compared together, without a branch.
+fn six_below(bs: &[u8], at: usize, below: u32) -> bool
+    requires { ⌜ at + coreSize ≤ length (now bs) ⌝ }
+    ensures { λ r. ⌜ r ≡ allBelow 6 (λ f. ltb (neighbourOf (piece (now (bs .entry)) at coreSize) f) below) ⌝ }
+{
+    (records::read::neighbour_of(bs, at, 0) < below)
+        & (records::read::neighbour_of(bs, at, 1) < below)
+        & (records::read::neighbour_of(bs, at, 2) < below)
+        & (records::read::neighbour_of(bs, at, 3) < below)
+        & (records::read::neighbour_of(bs, at, 4) < below)
+        & (records::read::neighbour_of(bs, at, 5) < below)
+}
+
 // Whether the neighbours of the first faces of the record at byte `at` are below `below`.
 fn neighbours_below(bs: &[u8], at: usize, faces: u32, below: u32) -> bool
     requires { ⌜ (at + coreSize ≤ length (now bs)) × (faces ≤ 6) ⌝ }
     ensures { λ r. ⌜ r ≡ allBelow faces (λ f. ltb (neighbourOf (piece (now (bs .entry)) at coreSize) f) below) ⌝ }
 {
+    if faces == 6 {
+        return six_below(bs, at, below);
+    }
     let mut face = 0;
     while face < faces {
         if below <= records::read::neighbour_of(bs, at, face) {

@@ -3,22 +3,22 @@ use Prim.Native.Nat.{ℕ, zero, suc, _+_, _-_, _*_, _≤_, _<_}
 use native.Mathlib.Nat.{zero-add, suc-add, add-zero, mod-lt}
 use native.Mathlib.Omega.{arith}
 use mathlib.Core.Path.{_≡_, refl, sym, ap, ap₂, _∙_}
-use mathlib.Core.Bool.{Bool, true, false, _&&_}
+use mathlib.Core.Bool.{Bool, true, false, _&&_, _||_}
 use mathlib.Core.List.{List, [], _∷_}
 use lib.Dec.{eqb, ltb}
 use lib.ListN.{length, getD, take, drop, List·getD-eq-default}
 use lib.Seq.{take-nil, take-take, drop-drop}
 use borrow.Author.Tests.{eqb-true, eq-eqb, lt-ltb, le-ltb}
-use Rattle.encoding.specs.Below.{allBelow}
+use Rattle.encoding.specs.Below.{allBelow, anyBelow}
 use Rattle.encoding.specs.Pieces.{piece, Bytes}
 use Rattle.encoding.specs.Numbers.{leValue, leAt, u32At}
 use Rattle.encoding.specs.Words.{zeroAt}
-use Rattle.encoding.proofs.Below.{tests, either, and-fst, and-snd, and-intro, all-at, all-intro, all-same}
+use Rattle.encoding.proofs.Below.{tests, either, and-fst, and-snd, and-intro, all-at, all-intro, all-same, any-false}
 use Rattle.encoding.proofs.Pieces.{piece-at, piece-past}
 use Rattle.encoding.proofs.Numbers.{at-step, at-none, at-one, at-bound}
 use Rattle.records.specs.Shape.{shapeOk, dimensionOf, faceCount}
 use Rattle.records.specs.Record.{coreSize, unused, regionLimit, numberOf, shapeOf, neighbourOf, codeOf, facesOf, faceOf, orientationOf, regionOf, regionOk, zerosOk, unusedOk, toItself, boundaryOk, inForm}
-use Rattle.records.specs.Means.{faceForm}
+use Rattle.records.specs.Means.{faceForm, unusedFrom, leadsTo}
 use Rattle.records.proofs.Shapes.{count-six, count-faces, faces-positive, faces-six, faces-either}
 
 -- ---- records in a buffer
@@ -264,3 +264,30 @@ region-below r e = omega tests
 pub faces-other : (r : List ℕ) → (facesOf r ≡ 4 → ⊥) → facesOf r ≡ 6
 unfolding facesOf
 faces-other r h = faces-either (dimensionOf (shapeOf r)) (λ e. absurd (h e)) (λ e. e)
+
+-- ---- faces without use, and faces that lead elsewhere
+
+-- faces before those without use
+pub unused-first : (c : ℕ) (r : List ℕ) → allBelow c (unusedFrom c r) ≡ true
+unfolding unusedFrom
+unused-first c r = all-intro c (unusedFrom c r) (λ f h. rw (lt-ltb f c h))
+
+pub unused-is : {b : Bool} (c : ℕ) (r : List ℕ) (f : ℕ) → c ≤ f → b ≡ unusedOk r f → unusedFrom c r f ≡ b
+unfolding unusedFrom
+unused-is c r f h e = rw (le-ltb f c h) (sym e)
+
+-- the six neighbours compared with a number
+pub leads-read : {a b d e g h : ℕ} (k : ℕ) (r : List ℕ) → a ≡ neighbourOf r 0 → b ≡ neighbourOf r 1 → d ≡ neighbourOf r 2 → e ≡ neighbourOf r 3 → g ≡ neighbourOf r 4 → h ≡ neighbourOf r 5
+    → (eqb a k || eqb b k || eqb d k || eqb e k || eqb g k || eqb h k) ≡ anyBelow 6 (leadsTo k r)
+unfolding anyBelow leadsTo
+leads-read k r p q s t u v = rw (p, q, s, t, u, v)
+
+-- where no face leads to the record itself, those that it has are in form
+pub faces-elsewhere : {faces : ℕ} {b : Bool} (own : ℕ) (r : List ℕ) → faces ≡ faceCount (shapeOf r) → anyBelow 6 (leadsTo own r) ≡ false → b ≡ allBelow 6 (unusedFrom faces r) → b ≡ allBelow 6 (faceForm own r)
+unfolding faceForm unusedFrom boundaryOk toItself leadsTo
+faces-elsewhere own r c none e =
+    e
+    ∙ all-same 6 _ _
+    (λ f h.
+    let other : eqb (neighbourOf r f) own ≡ false = any-false 6 (λ f. eqb (neighbourOf r f) own) none f h in
+    rw (c, other))

@@ -1,14 +1,22 @@
--- Means, no part of what is promised: what one inner test of the form check gives, and the corners as the code works them out.
+-- Means, no part of what is promised: what the inner tests of the form check give, and the corners as the code works them out.
 use Prim.Native.Nat.{ℕ, _+_, _-_, _/_, _%_}
-use mathlib.Core.Bool.{Bool, cond}
+use mathlib.Core.Bool.{Bool, true, cond}
 use mathlib.Core.List.{List}
-use lib.Dec.{leb, ltb}
+use lib.Dec.{leb, ltb, eqb}
 use Rattle.records.specs.Shape.{faceCount}
-use Rattle.records.specs.Record.{shapeOf, boundaryOk, unusedOk}
+use Rattle.records.specs.Record.{shapeOf, neighbourOf, boundaryOk, unusedOk}
 
 -- one face of a record in form, of those that the shape has or not
 unfoldable pub faceForm : ℕ → List ℕ → ℕ → Bool
 faceForm own r f = cond (ltb f (faceCount (shapeOf r))) (boundaryOk own r f) (unusedOk r f)
+
+-- a face that a shape with c faces doesn't have
+unfoldable pub unusedFrom : ℕ → List ℕ → ℕ → Bool
+unusedFrom c r f = cond (ltb f c) true (unusedOk r f)
+
+-- the neighbour of face f is k
+unfoldable pub leadsTo : ℕ → List ℕ → ℕ → Bool
+leadsTo k r f = eqb (neighbourOf r f) k
 
 -- the corners of the polygon that a solid is drawn out from
 unfoldable pub baseCorners : ℕ → ℕ

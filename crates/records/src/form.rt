@@ -10,10 +10,10 @@ use crate::shape::shape_ok;
 ghost use mathlib.Core.Path.{_≡_};
 ghost use Prim.Native.Nat.{_+_, _≤_, _<_};
 ghost use lib.ListN.{length};
-ghost use Rattle.encoding.specs.Below.{allBelow};
+ghost use Rattle.encoding.specs.Below.{allBelow, anyBelow};
 ghost use Rattle.encoding.specs.Pieces.{piece};
 ghost use Rattle.records.specs.Record.{coreSize, zerosOk, regionOk, unusedOk, boundaryOk, inForm};
-ghost use Rattle.records.specs.Means.{faceForm};
+ghost use Rattle.records.specs.Means.{faceForm, unusedFrom, leadsTo};
 
 // The neighbour of a face without use.
 pub const UNUSED: u32 = 4294967295;
@@ -83,7 +83,35 @@ fn faces_ok(bs: &[u8], at: usize, own: u32) -> bool
     true
 }
 
-// Whether the record is in form. Its own number is the local index in a part's tree records and the global number everywhere else.
+// The faces that a shape with so many faces doesn't have.
+pub fn unused_from(bs: &[u8], at: usize, faces: u32) -> bool
+    requires { ⌜ (at + coreSize ≤ length (now bs)) × (faces ≤ 6) ⌝ }
+    ensures { λ r. ⌜ r ≡ allBelow 6 (unusedFrom faces (piece (now (bs .entry)) at coreSize)) ⌝ }
+{
+    let mut face = faces;
+    while face < 6 {
+        if !unused_ok(bs, at, face) {
+            return false;
+        }
+        face += 1;
+    }
+    true
+}
+
+// Whether k is the neighbour of some face. The six are compared together, without a branch.
+fn leads_to(bs: &[u8], at: usize, k: u32) -> bool
+    requires { ⌜ at + coreSize ≤ length (now bs) ⌝ }
+    ensures { λ r. ⌜ r ≡ anyBelow 6 (leadsTo k (piece (now (bs .entry)) at coreSize)) ⌝ }
+{
+    (neighbour_of(bs, at, 0) == k)
+        | (neighbour_of(bs, at, 1) == k)
+        | (neighbour_of(bs, at, 2) == k)
+        | (neighbour_of(bs, at, 3) == k)
+        | (neighbour_of(bs, at, 4) == k)
+        | (neighbour_of(bs, at, 5) == k)
+}
+
+// Whether the record is in form. Only a face that leads to the record itself can be a boundary. Its own number is the local index in a part's tree records and the global number everywhere else.
 pub fn in_form(bs: &[u8], at: usize, own: u32) -> bool
     requires { ⌜ at + coreSize ≤ length (now bs) ⌝ }
     ensures { λ r. ⌜ r ≡ inForm own (piece (now (bs .entry)) at coreSize) ⌝ }
@@ -91,5 +119,8 @@ pub fn in_form(bs: &[u8], at: usize, own: u32) -> bool
     if !(shape_ok(shape_of(bs, at)) & zeros_ok(bs, at) & region_ok(bs, at)) {
         return false;
     }
-    faces_ok(bs, at, own)
+    if leads_to(bs, at, own) {
+        return faces_ok(bs, at, own);
+    }
+    unused_from(bs, at, face_count(shape_of(bs, at)))
 }

@@ -27,8 +27,8 @@ shape-of-requires c κs = search needs
 face-count-requires : tie.Need-face-count-requires
 face-count-requires c κs = search needs
 
-unused-sound-requires : tie.Need-unused-sound-requires
-unused-sound-requires c κs = search needs
+unused-from-requires : tie.Need-unused-from-requires
+unused-from-requires c κs = search needs
 
 refused-requires-2 : tie.Need-refused-requires-2
 refused-requires-2 c κs = search needs
@@ -38,9 +38,9 @@ returns-2 c =
     let tree-at = c .before .before .before .before .before .before .before .tree-at in
     let shape-of = c .before .before .before .before .shape-of in
     let face-count = c .before .before .before .face-count in
-    let unused-sound = c .before .before .unused-sound in
+    let unused-from = c .before .before .unused-from in
     let if2 = c .before .if2 in
-    seen-refused (tree-unused _ _ _ _ (tree-at .ensures) (shape-of .ensures) (face-count .ensures .0) (sym (unused-sound .ensures) ∙ not-true _ (if2 .taken))) (c .refused2 .ensures)
+    seen-refused (tree-unused _ _ _ _ (tree-at .ensures) (shape-of .ensures) (face-count .ensures .0) (sym (unused-from .ensures) ∙ not-true _ (if2 .taken))) (c .refused2 .ensures)
 
 faces-sound-requires : tie.Need-faces-sound-requires
 faces-sound-requires c κs = search needs
@@ -52,9 +52,9 @@ returns-3 c =
     let face-count = c .before .before .before .face-count in
     let alone = c .before .before .before .before .before .before .alone in
     let if1 = c .before .before .before .before .before .if1 in
-    let unused-sound = c .before .before .unused-sound in
+    let unused-from = c .before .before .unused-from in
     let if2 = c .before .if2 in
-    tree-seen _ _ _ _ (tree-at .ensures) (shape-of .ensures) (face-count .ensures .0) (sym (alone .ensures) ∙ not-false _ (if1 .left)) (sym (unused-sound .ensures) ∙ not-false _ (if2 .left)) (c .faces-sound .ensures)
+    tree-seen _ _ _ _ (tree-at .ensures) (shape-of .ensures) (face-count .ensures .0) (sym (alone .ensures) ∙ not-false _ (if1 .left)) (sym (unused-from .ensures) ∙ not-false _ (if2 .left)) (c .faces-sound .ensures)
 
 pub tree-sound-spec : {M : Type 1} → statement M
 tree-sound-spec =
@@ -66,7 +66,7 @@ tree-sound-spec =
     returns
     shape-of-requires
     face-count-requires
-    unused-sound-requires
+    unused-from-requires
     refused-requires-2
     returns-2
     faces-sound-requires

@@ -1,0 +1,53 @@
+use Rattle.message.proofs.Checking.{six-read}
+use borrow.Author.Needs.{needs}
+use Rattle.message.proofs.layout.six_below.Statement.{statement}
+use Rattle.message.proofs.layout.six_below.Tie as tie
+use Rattle.message.proofs.layout.six_below.Reads as reads
+use Rattle.message.proofs.layout.six_below.Lts as lts
+use Rattle.records.proofs.read.neighbour_of.Reads as neighbour-of-reads
+
+-- src/layout.rt:47:6
+neighbour-of-requires : tie.Need-neighbour-of-requires
+neighbour-of-requires c κs = search needs
+
+-- src/layout.rt:48:12
+neighbour-of-requires-2 : tie.Need-neighbour-of-requires-2
+neighbour-of-requires-2 c κs = search needs
+
+-- src/layout.rt:49:12
+neighbour-of-requires-3 : tie.Need-neighbour-of-requires-3
+neighbour-of-requires-3 c κs = search needs
+
+-- src/layout.rt:50:12
+neighbour-of-requires-4 : tie.Need-neighbour-of-requires-4
+neighbour-of-requires-4 c κs = search needs
+
+-- src/layout.rt:51:12
+neighbour-of-requires-5 : tie.Need-neighbour-of-requires-5
+neighbour-of-requires-5 c κs = search needs
+
+-- src/layout.rt:52:12
+neighbour-of-requires-6 : tie.Need-neighbour-of-requires-6
+neighbour-of-requires-6 c κs = search needs
+
+-- src/layout.rt:43:1
+returns : tie.Need-returns
+returns c =
+    let neighbour-of = c .before .before .before .before .before .neighbour-of in
+    let neighbour-of2 = c .before .before .before .before .neighbour-of2 in
+    let neighbour-of3 = c .before .before .before .neighbour-of3 in
+    let neighbour-of4 = c .before .before .neighbour-of4 in
+    let neighbour-of5 = c .before .neighbour-of5 in
+    six-read _ _ (neighbour-of .ensures) (neighbour-of2 .ensures) (neighbour-of3 .ensures) (neighbour-of4 .ensures) (neighbour-of5 .ensures) (c .neighbour-of6 .ensures)
+
+pub six-below-spec : {M : Type 1} → statement M
+six-below-spec =
+    tie.close
+    (tie.spec
+    neighbour-of-requires
+    neighbour-of-requires-2
+    neighbour-of-requires-3
+    neighbour-of-requires-4
+    neighbour-of-requires-5
+    neighbour-of-requires-6
+    returns)

@@ -73,16 +73,16 @@ module _ (file table : List ℕ) (rank : ℕ) {h : Bool} (is : h ≡ (partHeader
         (sym (header-same file (columnsPart file) (partCount file) (partGhostCount file) turned table rank) ∙ and-fst (partHeaderSound file table rank) (eqb (length file) (partSize (partCount file) (partGhostCount file))) (sym is ∙ ok))
         (eq-eqb _ _ (turned .length-p ∙ ap₂ partSize (count-same file (columnsPart file) (partCount file) (partGhostCount file) turned) (ghost-count-same file (columnsPart file) (partCount file) (partGhostCount file) turned))))
 
-    pub columns-read : {first n g D K : ℕ} {r : Bool} → Bytes file → Bytes table → RankKnown table rank → first ≡ partFirst file → n ≡ partCount file → g ≡ partGhostCount file → D ≡ partDimension file → K ≡ partK file
+    pub columns-read : {first n g D K : ℕ} {r : Bool} → Bytes file → Bytes table → RankKnown table rank → first ≡ partFirst file → n ≡ partCount file → g ≡ partGhostCount file → D ≡ partDimension file → K ≡ partK file → first + n ≤ K
         → r ≡ columnsFound (linkByDimension D) first n g (treeColumn file n) (ghostColumn file n g) D K → r ≡ columnsSound file table rank
     unfolding columnsSound
-    columns-read {first} {n} {g} {D} {K} bytes table-bytes known e1 e2 e3 e4 e5 p =
+    columns-read {first} {n} {g} {D} {K} bytes table-bytes known e1 e2 e3 e4 e5 within p =
         let q : Turned file (columnsPart file) n g = rw (e2, e3) turned in
         let all : columnsFound (linkByDimension D) first n g (treeColumn file n) (ghostColumn file n g) D K ≡ partSound (columnsPart file) table rank =
         sound-read (columnsPart file) table rank table-bytes known head-part refl
         (part-bytes file (columnsPart file) n g q bytes)
         (e1 ∙ first-same file (columnsPart file) n g q) (e2 ∙ count-same file (columnsPart file) n g q) (e3 ∙ ghost-count-same file (columnsPart file) n g q) (e4 ∙ dimension-same file (columnsPart file) n g q) (e5 ∙ K-same file (columnsPart file) n g q)
-        (found-is (linkByDimension D) first n g (treeColumn file n) (ghostColumn file n g) D K
+        (found-is D first n g (treeColumn file n) (ghostColumn file n g) K within
         ∙ records-same (linkByDimension D) first n g (treeColumn file n) (storedTree (columnsPart file)) (ghostColumn file n g) (ghostCore (columnsPart file) n) (tree-core file (columnsPart file) n g q) (ghost-core file (columnsPart file) n g q) D K) in
         rw (eq-eqb (length file) (partSize (partCount file) (partGhostCount file)) lengthy) (p ∙ all)
 

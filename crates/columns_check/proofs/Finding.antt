@@ -1,25 +1,35 @@
 -- What the functions that check a column file find.
 use Prim.Native.Nat.{ℕ, _+_, _-_, _*_, _≤_, _<_}
 use native.Mathlib.Omega.{arith}
-use mathlib.Core.Path.{_≡_, sym, _∙_}
-use mathlib.Core.Bool.{Bool, true, false, not, _&&_}
+use mathlib.Core.Path.{_≡_, refl, sym, _∙_}
+use mathlib.Core.Bool.{Bool, true, false, not, _&&_, _||_}
 use mathlib.Core.List.{List}
-use lib.Dec.{ltb, eqb}
-use lib.ListN.{getD}
-use borrow.Author.Tests.{lt-ltb, le-ltb, eq-eqb, ne-eqb, eqb-true}
+use lib.Dec.{leb, ltb, eqb}
+use lib.ListN.{length, getD}
+use borrow.Author.Tests.{lt-ltb, le-ltb, eq-eqb, ne-eqb, eqb-true, ltb-true}
 use Rattle.encoding.specs.Below.{allBelow, anyBelow, leastBelow}
 use Rattle.encoding.specs.Numbers.{u32At}
-use Rattle.encoding.proofs.Below.{either, iff-eq, and-fst, and-snd, and-intro, all-at, all-intro, least-none, least-lt}
+use Rattle.encoding.proofs.Below.{tests, either, clash, iff-eq, and-fst, and-snd, and-intro, all-at, all-intro, least-lt}
 use Rattle.records.specs.Shape.{faceCount}
-use Rattle.records.specs.Record.{coreSize, numberOf, shapeOf, neighbourOf}
+use Rattle.records.specs.Record.{unused, coreSize, numberOf, shapeOf, neighbourOf, codeOf, unusedOk, boundaryOk}
 use Rattle.records.specs.Means.{faceForm}
 use Rattle.mesh.specs.Link.{orientationOk}
 use Rattle.mesh.specs.Means.{linkByDimension}
+use Rattle.part.specs.Layout.{partSize}
 use Rattle.part.specs.Means.{inRange, neighbourIn, ghostHas}
-use Rattle.part_check.specs.Means.{treeTo, treeFace, treeNumbered, ghostBehind, ghostNumbered, numbersSound, ghostTo, ghostFace, PartLaid}
-use Rattle.part_check.proofs.Judging.{ghosts-few}
+use Rattle.ghost_links.specs.Means.{ghostUp, ghostDown, ghostListed, ghostLow, ghostAnswered}
+use Rattle.ghost_links.proofs.Checking.{not-leb}
+use Rattle.part_check.specs.Means.{treeTo, treeFace, treeUp, treeDown, treeNumbered, ghostBehind, ghostNumbered, numbersSound, PartLaid}
 use Rattle.columns_check.specs.Columns.{spaced}
-use Rattle.columns_check.specs.Means.{treeColumn, ghostColumn, headOk, sideOk, treeHead, ghostHead, treeSide, ghostSide, facesSound, columnsFound, FileNumbered}
+use Rattle.columns_check.specs.Means.{treeColumn, ghostColumn, headOk, sideOk, sideHas, sideLow, treeHead, ghostHead, treeSide, treeSideUp, treeSideDown, ghostSideLow, ghostSideUp, ghostSideDown, ghostSideListed, linksSound, columnsFound, FileNumbered, TargetAs}
+
+or-fst : (a b : Bool) → (a || b) ≡ false → a ≡ false
+or-fst true b e = e
+or-fst false b e = refl
+
+or-snd : (a b : Bool) → (a || b) ≡ false → b ≡ false
+or-snd true b e = clash refl e
+or-snd false b e = e
 
 -- ---- trees
 
@@ -57,17 +67,64 @@ module _ (file : List ℕ) (D first n g K i f : ℕ) where
       side-none h = rw (← form, ok, ← s, ← c, le-ltb f faces h)
 
       module _ (used : f < faces) {j : ℕ} (m : j ≡ u32At core (8 + 4 * f)) where
-        pub side-tree : {t : Bool} → j < n → t ≡ linkByDimension D i core f (spaced file (32 + j) n coreSize) → t ≡ side
-        unfolding treeSide sideOk treeColumn shapeOf treeFace treeTo neighbourOf
-        side-tree h p = rw (← form, ok, ← s, ← c, lt-ltb f faces used, ← m, lt-ltb j n h) p
+        pub side-up : (ltb i j && ltb j n) ≡ true → true ≡ side
+        unfolding treeSide sideOk treeColumn shapeOf treeUp neighbourOf
+        side-up h = rw (← form, ok, ← s, ← c, lt-ltb f faces used, ← m, h)
 
-        pub side-ghost : {v : ℕ} {t : Bool} → n ≤ j → j - n < g → v ≡ u32At core 0 → t ≡ linkByDimension D v core f (spaced file (32 + 64 * n + (j - n)) g coreSize) → t ≡ side
-        unfolding treeSide sideOk treeColumn ghostColumn shapeOf treeFace treeTo neighbourOf numberOf
-        side-ghost h l e p = rw (← form, ok, ← s, ← c, lt-ltb f faces used, ← m, le-ltb j n h, lt-ltb (j - n) g l, ← e) p
+        module _ (down : (ltb i j && ltb j n) ≡ false) {held : Bool} {back to gap : ℕ} (there : TargetAs file n g i j held back to gap) where
+          pub side-past : held ≡ false → false ≡ side
+          unfolding treeSide sideOk treeColumn shapeOf treeUp treeFace treeTo neighbourOf
+          side-past h =
+              let none : (ltb j n || ltb (j - n) g) ≡ false = sym (there .is) ∙ h in
+              let out : ltb j n ≡ false = or-fst (ltb j n) (ltb (j - n) g) none in
+              let past : ltb (j - n) g ≡ false = or-snd (ltb j n) (ltb (j - n) g) none in
+              rw (← form, ok, ← s, ← c, lt-ltb f faces used, ← m, down, out, past)
 
-        pub side-past : n ≤ j → g ≤ j - n → false ≡ side
-        unfolding treeSide sideOk treeColumn shapeOf treeFace treeTo neighbourOf
-        side-past h l = rw (← form, ok, ← s, ← c, lt-ltb f faces used, ← m, le-ltb j n h, le-ltb (j - n) g l)
+          pub side-held : {t : Bool} → held ≡ true → t ≡ linkByDimension D back core f (spaced file to gap coreSize) → t ≡ side
+          unfolding treeSide sideOk treeColumn ghostColumn shapeOf treeUp treeFace treeTo neighbourOf numberOf
+          side-held h p =
+              let some : (ltb j n || ltb (j - n) g) ≡ true = sym (there .is) ∙ h in
+              let at-back = there .leads h in
+              let at-place = there .place h in
+              let at-gap = there .apart h in
+              either (ltb j n)
+              (λ e.
+              let b : back ≡ i = rw e at at-back in
+              let t : to ≡ 32 + j = rw e at at-place in
+              let w : gap ≡ n = rw e at at-gap in
+              rw (← form, ok, ← s, ← c, lt-ltb f faces used, ← m, down, e) (rw (b, t, w) at p))
+              (λ e.
+              let b : back ≡ u32At core 0 = rw e at at-back in
+              let t : to ≡ 32 + 64 * n + (j - n) = rw e at at-place in
+              let w : gap ≡ g = rw e at at-gap in
+              let inside : ltb (j - n) g ≡ true = rw e at some in
+              rw (← form, ok, ← s, ← c, lt-ltb f faces used, ← m, down, e, inside) (rw (b, t, w) at p))
+
+-- what stands at a local index
+module _ (file : List ℕ) (n g i j : ℕ) (long : length file ≡ partSize n g) where
+  pub target-tree : j < n → TargetAs file n g i j true i (32 + j) n
+  target-tree h = let e : ltb j n ≡ true = lt-ltb j n h in record { is = rw e; leads = λ t. rw e; place = λ t. rw e; apart = λ t. rw e; fits = λ t. omega arith }
+
+  module _ (out : n ≤ j) where
+    pub target-ghost : {v : ℕ} → j - n < g → v ≡ u32At (spaced file (32 + i) n coreSize) 0 → TargetAs file n g i j true v (32 + 64 * n + (j - n)) g
+    target-ghost h r =
+        let e : ltb j n ≡ false = le-ltb j n out in
+        record { is = rw (e, lt-ltb (j - n) g h); leads = λ t. rw e r; place = λ t. rw e; apart = λ t. rw e; fits = λ t. omega arith }
+
+    pub target-none : g ≤ j - n → TargetAs file n g i j false 0 0 0
+    target-none h =
+        let e : ltb j n ≡ false = le-ltb j n out in
+        record { is = rw (e, le-ltb (j - n) g h); leads = λ t. clash t refl; place = λ t. clash t refl; apart = λ t. clash t refl; fits = λ t. clash t refl }
+
+-- a tree's link, and where it leads
+module _ (file : List ℕ) (n i f : ℕ) {shape faces j : ℕ} (s : shape ≡ getD (spaced file (32 + i) n coreSize) 4 0) (c : faces ≡ faceCount shape) (m : j ≡ u32At (spaced file (32 + i) n coreSize) (8 + 4 * f)) where
+  pub up-read : (ltb f faces && (ltb i j && ltb j n)) ≡ treeSideUp n (treeColumn file n) f i
+  unfolding treeSideUp sideHas treeUp treeColumn shapeOf neighbourOf
+  up-read = rw (← m, ← s, ← c)
+
+  pub down-read : (ltb f faces && (not (ltb i j && ltb j n) && not (eqb j i))) ≡ treeSideDown n (treeColumn file n) f i
+  unfolding treeSideDown sideHas treeDown treeUp treeColumn shapeOf neighbourOf
+  down-read = rw (← m, ← s, ← c)
 
 -- ---- ghosts
 
@@ -90,64 +147,81 @@ pub heads-both : (file : List ℕ) (D first n g K j : ℕ) {a b : Bool} {shape f
 unfolding ghostHead ghostColumn shapeOf
 heads-both file D first n g K j p s c q = rw (p, q, c, s)
 
-module _ (file : List ℕ) (first n g K : ℕ) (known : FileNumbered file first n g K) where
-  -- the local index of a ghost has 32 bits
-  pub index-word : (j : ℕ) → j < g → n + j < 4294967296
-  index-word j h = omega (arith, ghosts-few first n g K (treeColumn file n) (ghostColumn file n g) (known .numbers), known .laid .within, known .laid .most)
-
 -- the link of a ghost
-module _ (file : List ℕ) (D first n g K j f : ℕ) {k : ℕ} (read : k ≡ u32At (spaced file (32 + 64 * n + j) g coreSize) (8 + 4 * f)) {b : Bool} (test : b ≡ inRange first (first + n) k) where
-  abbrev ghostFaced : Bool
-  ghostFaced = ghostFace (linkByDimension D) first n g (treeColumn file n) (ghostColumn file n g) K j f
+module _ (file : List ℕ) (n g j f : ℕ) where
+  abbrev row : List ℕ
+  row = spaced file (32 + 64 * n + j) g coreSize
 
-  pub link-local : (t : ℕ) {own : ℕ} {r : Bool} → b ≡ true → t + first ≡ k → own ≡ n + j → r ≡ linkByDimension D own (spaced file (32 + 64 * n + j) g coreSize) f (spaced file (32 + t) n coreSize) → r ≡ ghostFaced
-  unfolding ghostFace ghostTo ghostColumn treeColumn neighbourOf
-  link-local t h l e p =
-      let s : k - first ≡ t = omega arith in
-      rw (← read, ← test, h, s, ← e) p
+  module _ {shape faces : ℕ} (s : shape ≡ getD row 4 0) (c : faces ≡ faceCount shape) where
+    module _ {k : ℕ} (m : k ≡ u32At row (8 + 4 * f)) where
+      pub low-none : {code : ℕ} (K : ℕ) → faces ≤ f → code ≡ getD row (32 + f) 0 → (eqb k unused && eqb code 0) ≡ ghostSideLow K (ghostColumn file n g) f j
+      unfolding ghostSideLow sideLow ghostColumn shapeOf unusedOk neighbourOf codeOf
+      low-none K h e = rw (← m, ← e, ← s, ← c, le-ltb f faces h)
 
-  module _ (out : b ≡ false) {p : ℕ} (position : p ≡ leastBelow g (ghostHas (ghostColumn file n g) k)) where
-    pub link-held : {v : ℕ} {r : Bool} → p < g → v ≡ u32At (spaced file (32 + 64 * n + j) g coreSize) 0
-        → r ≡ linkByDimension D v (spaced file (32 + 64 * n + j) g coreSize) f (spaced file (32 + 64 * n + p) g coreSize) → r ≡ ghostFaced
-    unfolding ghostFace ghostTo ghostColumn neighbourOf numberOf
-    link-held h e q =
-        let some : anyBelow g (ghostHas (ghostColumn file n g) k) ≡ true =
-        either (anyBelow g (ghostHas (ghostColumn file n g) k)) (λ t. t) (λ t. absurd (omega (arith, least-none g (ghostHas (ghostColumn file n g) k) t))) in
-        rw (← read, ← test, out, some, ← position, ← e) q
+      pub low-some : {o : Bool} (K : ℕ) → f < faces → o ≡ orientationOk row f → (ltb k K && o) ≡ ghostSideLow K (ghostColumn file n g) f j
+      unfolding ghostSideLow sideLow ghostLow ghostColumn shapeOf neighbourOf
+      low-some K h e = rw (← m, ← e, ← s, ← c, lt-ltb f faces h)
 
-    pub link-free : {q : Bool} → g ≤ p → q ≡ orientationOk (spaced file (32 + 64 * n + j) g coreSize) f → (ltb k K && q) ≡ ghostFaced
-    unfolding ghostFace ghostTo ghostColumn neighbourOf
-    link-free h e =
-        let none : anyBelow g (ghostHas (ghostColumn file n g) k) ≡ false =
-        either (anyBelow g (ghostHas (ghostColumn file n g) k)) (λ t. absurd (omega (arith, least-lt g (ghostHas (ghostColumn file n g) k) t))) (λ t. t) in
-        rw (← read, ← test, out, none, e)
+      pub low-under : (K : ℕ) {room : ℕ} → f < faces → ghostSideLow K (ghostColumn file n g) f j ≡ true → K ≤ room → k < room
+      unfolding ghostSideLow sideLow ghostLow ghostColumn shapeOf neighbourOf
+      low-under K h e l =
+          let both : (ltb k K && orientationOk row f) ≡ true = rw (← m, ← s, ← c, lt-ltb f faces h) at e in
+          omega (arith, ltb-true k K (and-fst (ltb k K) _ both))
 
-module _ (file : List ℕ) (D first n g K j f : ℕ) {v : ℕ} {a : Bool} (number : v ≡ u32At (spaced file (32 + 64 * n + j) g coreSize) 0) (form : a ≡ faceForm v (spaced file (32 + 64 * n + j) g coreSize) f) where
-  abbrev ghostSided : Bool
-  ghostSided = ghostSide (linkByDimension D) first n g (treeColumn file n) (ghostColumn file n g) D K f j
+      module _ {own : ℕ} {h : Bool} (used : f < faces) (number : own ≡ u32At row 0) (held : h ≡ anyBelow g (ghostHas (ghostColumn file n g) k)) where
+        pub listed-read : (h && leb k own) ≡ ghostSideListed g (ghostColumn file n g) f j
+        unfolding ghostSideListed sideHas ghostListed ghostColumn shapeOf neighbourOf numberOf
+        listed-read = rw (← m, ← number, ← s, ← c, lt-ltb f faces used, held)
 
-  pub ghost-unformed : a ≡ false → false ≡ ghostSided
-  unfolding ghostSide sideOk ghostColumn numberOf
-  ghost-unformed h = rw (← number, ← form, h)
+        pub ghost-up-read : {b : Bool} (first : ℕ) → b ≡ inRange first (first + n) k → (b || (h && not (leb k own))) ≡ ghostSideUp first n g (ghostColumn file n g) f j
+        unfolding ghostSideUp sideHas ghostUp ghostColumn shapeOf neighbourOf numberOf
+        ghost-up-read first e = rw (← m, ← number, ← s, ← c, lt-ltb f faces used, held, e, not-leb k own)
 
-  module _ (ok : a ≡ true) {shape faces : ℕ} (s : shape ≡ getD (spaced file (32 + 64 * n + j) g coreSize) 4 0) (c : faces ≡ faceCount shape) where
-    pub ghost-none : faces ≤ f → true ≡ ghostSided
-    unfolding ghostSide sideOk ghostColumn numberOf shapeOf
-    ghost-none h = rw (← number, ← form, ok, ← s, ← c, le-ltb f faces h)
+        pub ghost-down-read : (h && ltb k own) ≡ ghostSideDown g (ghostColumn file n g) f j
+        unfolding ghostSideDown sideHas ghostDown ghostColumn shapeOf neighbourOf numberOf
+        ghost-down-read = rw (← m, ← number, ← s, ← c, lt-ltb f faces used, held)
 
-    pub ghost-linked : {r : Bool} → f < faces → r ≡ ghostFace (linkByDimension D) first n g (treeColumn file n) (ghostColumn file n g) K j f → r ≡ ghostSided
-    unfolding ghostSide sideOk ghostColumn numberOf shapeOf
-    ghost-linked h p = rw (← number, ← form, ok, ← s, ← c, lt-ltb f faces h) p
+    -- a face that the shape doesn't have leads nowhere
+    pub none-leads : faces ≤ f → (first : ℕ) → (false ≡ ghostSideListed g (ghostColumn file n g) f j) × (false ≡ ghostSideUp first n g (ghostColumn file n g) f j) × (false ≡ ghostSideDown g (ghostColumn file n g) f j)
+    unfolding ghostSideListed ghostSideUp ghostSideDown sideHas ghostColumn shapeOf
+    none-leads h first = rw (← s, ← c, le-ltb f faces h) (refl, refl, refl)
+
+  -- the rules of a link that is listed
+  module _ (listed : ghostSideListed g (ghostColumn file n g) f j ≡ true) where
+    has-face : f < faceCount (shapeOf (ghostColumn file n g j))
+    unfolding ghostSideListed sideHas
+    has-face = ltb-true f _ (and-fst (ltb f (faceCount (shapeOf (ghostColumn file n g j)))) _ listed)
+
+    listed-held : {k : ℕ} → k ≡ u32At row (8 + 4 * f) → anyBelow g (ghostHas (ghostColumn file n g) k) ≡ true
+    unfolding ghostSideListed sideHas ghostListed ghostColumn neighbourOf
+    listed-held m =
+        let both = and-snd (ltb f (faceCount (shapeOf row))) _ listed in
+        rw m (and-fst (anyBelow g (ghostHas (ghostColumn file n g) (u32At row (8 + 4 * f)))) _ both)
+
+    pub listed-there : {k p : ℕ} → k ≡ u32At row (8 + 4 * f) → p ≡ leastBelow g (ghostHas (ghostColumn file n g) k) → p < g
+    listed-there {k} m position = rw position (least-lt g (ghostHas (ghostColumn file n g) k) (listed-held m))
+
+    edge-is : (v : ℕ) {a : Bool} → a ≡ faceForm v row f → a ≡ boundaryOk v (ghostColumn file n g j) f
+    unfolding faceForm ghostColumn
+    edge-is v form = let h : f < faceCount (shapeOf row) = has-face in form ∙ rw (lt-ltb f (faceCount (shapeOf row)) h)
+
+    module _ (D : ℕ) {v : ℕ} {a : Bool} (number : v ≡ u32At row 0) (form : a ≡ faceForm v row f) where
+      own-is : v ≡ numberOf (ghostColumn file n g j)
+      unfolding numberOf ghostColumn
+      own-is = number
+
+      pub answered-not : a ≡ false → false ≡ ghostAnswered (linkByDimension D) g (ghostColumn file n g) j f
+      unfolding ghostAnswered
+      answered-not h = rw (← own-is, ← edge-is v form, h)
+
+      pub answered-read : {k p : ℕ} {r : Bool} → a ≡ true → k ≡ u32At row (8 + 4 * f) → p ≡ leastBelow g (ghostHas (ghostColumn file n g) k)
+          → r ≡ linkByDimension D v row f (spaced file (32 + 64 * n + p) g coreSize) → r ≡ ghostAnswered (linkByDimension D) g (ghostColumn file n g) j f
+      unfolding ghostAnswered ghostColumn neighbourOf
+      answered-read h m position e = rw (← own-is, ← edge-is v form, h, ← m, ← position) e
 
 -- ---- the whole
 
 module _ (file : List ℕ) (D first n g K : ℕ) where
-  pub faces-both : {a b : Bool} (f : ℕ) → a ≡ allBelow n (treeSide (linkByDimension D) first n g (treeColumn file n) (ghostColumn file n g) D K f)
-      → b ≡ allBelow g (ghostSide (linkByDimension D) first n g (treeColumn file n) (ghostColumn file n g) D K f)
-      → facesSound (linkByDimension D) first n g (treeColumn file n) (ghostColumn file n g) D K f ≡ (a && b)
-  unfolding facesSound
-  faces-both f p q = rw (p, q)
-
   module _ {a b : Bool} (p : a ≡ allBelow g (ghostNumbered first n (ghostColumn file n g) K)) (q : b ≡ allBelow n (treeHead (linkByDimension D) first n g (treeColumn file n) (ghostColumn file n g) D K)) where
     pub found-none : (a && b) ≡ false → false ≡ columnsFound (linkByDimension D) first n g (treeColumn file n) (ghostColumn file n g) D K
     unfolding columnsFound
@@ -155,7 +229,7 @@ module _ (file : List ℕ) (D first n g K : ℕ) where
 
     module _ (ok : (a && b) ≡ true) where
       pub found-all : {d e : Bool} → d ≡ allBelow g (ghostHead (linkByDimension D) first n g (treeColumn file n) (ghostColumn file n g) D K)
-          → e ≡ allBelow 6 (facesSound (linkByDimension D) first n g (treeColumn file n) (ghostColumn file n g) D K)
+          → e ≡ linksSound (linkByDimension D) first n g (treeColumn file n) (ghostColumn file n g) D K
           → (d && e) ≡ columnsFound (linkByDimension D) first n g (treeColumn file n) (ghostColumn file n g) D K
       unfolding columnsFound
       found-all s t = rw (← p, ← q, ok, s, t)

@@ -5,13 +5,14 @@ use mathlib.Core.Path.{_≡_, sym, ap, _∙_}
 use mathlib.Core.List.{List}
 use lib.Dec.{eqb}
 use lib.ListN.{length, getD}
-use Rattle.encoding.specs.Below.{leastBelow}
+use Rattle.encoding.specs.Below.{anyBelow, leastBelow}
 use Rattle.encoding.specs.Numbers.{u32At}
-use Rattle.encoding.proofs.Below.{least-same}
+use Rattle.encoding.proofs.Below.{any-same, least-same}
 use Rattle.encoding.proofs.Numbers.{four-bytes}
+use Rattle.bits.specs.Bits.{inSet}
 use Rattle.records.specs.Record.{coreSize, numberOf}
 use Rattle.part.specs.Means.{numberAt, ghostHas}
-use Rattle.positions.specs.Means.{hasNumber, positionOf, memberPosition, Markable, Numbered, Indexed}
+use Rattle.positions.specs.Means.{hasNumber, someHas, positionOf, memberPosition, Markable, Numbered, Indexed}
 use Rattle.positions.proofs.Positions.{index-position}
 use Rattle.part_check.proofs.Judging.{ghosts-ascend, ghost-below}
 use Rattle.columns_check.specs.Columns.{spaced, rows}
@@ -64,6 +65,11 @@ module _ (file : List ℕ) (n g : ℕ) where
   rows-markable first K known room =
       let rows : Numbered (ghostRows file n g) 0 g K = rows-numbered first K known in
       record { fits = rows .ascending .fits; low = λ i h. omega (arith, rows .low i h) }
+
+  -- members are the numbers of ghosts
+  pub ghost-marked : {ws behind : List ℕ} → Indexed (ghostRows file n g) 0 g ws behind → (k : ℕ) → inSet ws k ≡ anyBelow g (ghostHas (ghostColumn file n g) k)
+  unfolding someHas hasNumber ghostHas
+  ghost-marked x k = x .members k ∙ any-same g (hasNumber (ghostRows file n g) 0 k) (ghostHas (ghostColumn file n g) k) (λ i h. ap (λ (y : ℕ). eqb y k) (row-number i h))
 
   -- the ghost that is looked up
   pub ghost-held : {ws behind : List ℕ} → Indexed (ghostRows file n g) 0 g ws behind → (k : ℕ) {p : ℕ} → p ≡ memberPosition ws g k → p ≡ leastBelow g (ghostHas (ghostColumn file n g) k)

@@ -6,4 +6,5 @@ pub mod Finding
 pub mod Judging
 pub mod Turned
 pub mod Held
+pub mod Summing
 pub mod Accepting

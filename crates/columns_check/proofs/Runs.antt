@@ -1,24 +1,24 @@
 -- Trees behind each other that are alike: what is found of the first holds of all.
 use Prim.Native.Nat.{ℕ, _+_, _*_, _%_, _^_, _≤_, _<_}
 use native.Mathlib.Omega.{arith}
-use native.Mathlib.Nat.{mod-eq-of-lt}
+use native.Mathlib.Nat.{mod-eq-of-lt, le-refl}
 use mathlib.Core.Path.{_≡_, sym, ap, subst, _∙_}
-use mathlib.Core.Bool.{Bool, true, cond, _&&_}
+use mathlib.Core.Bool.{Bool, true, false, cond, _&&_}
 use mathlib.Core.List.{List}
 use lib.Dec.{ltb, eqb}
 use lib.ListN.{length, getD}
-use borrow.Author.Tests.{ltb-true, lt-ltb, eq-eqb, eqb-true}
-use Rattle.encoding.specs.Below.{allBelow}
+use borrow.Author.Tests.{ltb-true, lt-ltb, le-ltb, eq-eqb, eqb-true}
+use Rattle.encoding.specs.Below.{allBelow, countBelow}
 use Rattle.encoding.specs.Numbers.{u32At}
-use Rattle.encoding.proofs.Below.{either, tests, iff-eq, and-fst, and-snd, and-intro, all-add, all-intro}
+use Rattle.encoding.proofs.Below.{either, tests, iff-eq, and-fst, and-snd, and-intro, all-add, all-intro, count-add, count-initial, count-none}
 use Rattle.encoding.proofs.Numbers.{four-bytes}
 use Rattle.records.specs.Shape.{faceCount, facesIn}
 use Rattle.records.specs.Record.{coreSize, numberOf, shapeOf, neighbourOf, codeOf, facesOf, faceOf, orientationOf, regionOf, regionOk, zerosOk, toItself, boundaryOk}
 use Rattle.records.specs.Means.{faceForm}
 use Rattle.mesh.specs.Means.{cornersByDimension, answeredThere, answeredByDimension, linkByDimension}
-use Rattle.part_check.specs.Means.{treeTo, treeFace, treeNumbered}
+use Rattle.part_check.specs.Means.{treeTo, treeFace, treeUp, treeDown, treeNumbered}
 use Rattle.columns_check.specs.Columns.{spaced}
-use Rattle.columns_check.specs.Means.{treeColumn, ghostColumn, headOk, sideOk, treeHead, treeSide, sameByte, countsOn, sideLike, headLike, sideRun, headRun, Run}
+use Rattle.columns_check.specs.Means.{treeColumn, ghostColumn, headOk, sideOk, sideHas, treeHead, treeSide, treeSideUp, treeSideDown, SidesAlike, sameByte, countsOn, sideLike, headLike, sideRun, headRun, Run}
 use Rattle.columns_check.proofs.Spaced.{spaced-length}
 use Rattle.columns_check.proofs.Reading.{two}
 
@@ -59,6 +59,15 @@ module _ {test : ℕ → Bool} {low : ℕ} where
 pub all-run : (i r : ℕ) (f : ℕ → Bool) → allBelow i f ≡ true → f i ≡ true → ((k : ℕ) → k ≤ r → f (i + k) ≡ f i) → allBelow (i + (r + 1)) f ≡ true
 all-run i r f h e on =
     all-add i (r + 1) f ∙ and-intro (allBelow i f) (allBelow (r + 1) (λ k. f (i + k))) h (all-intro (r + 1) (λ k. f (i + k)) (λ k l. on k (omega arith) ∙ e))
+
+-- as many count as there are, or none
+pub count-run : {ups t : ℕ} {b : Bool} (i r : ℕ) (f : ℕ → Bool) → ups ≡ countBelow i f → b ≡ f i → t ≡ cond b (r + 1) 0 → ((k : ℕ) → k ≤ r → f (i + k) ≡ f i) → ups + t ≡ countBelow (i + (r + 1)) f
+count-run i r f so-far e q on =
+    let all : countBelow (r + 1) (λ k. f (i + k)) ≡ cond (f i) (r + 1) 0 =
+    either (f i)
+    (λ p. rw p (count-initial (r + 1) (λ k. f (i + k)) (r + 1) (le-refl (r + 1)) (λ k l. on k (omega arith) ∙ p) (λ k l h. absurd (omega arith))))
+    (λ p. rw p (count-none (r + 1) (λ k. f (i + k)) (λ k l. on k (omega arith) ∙ p))) in
+    rw (so-far, q, e, ← all) (sym (count-add i (r + 1) f))
 
 -- ---- two records
 
@@ -145,14 +154,39 @@ module _ (r s : List ℕ) (k : ℕ) (long : length r ≡ 40) (other : length s �
 eqb-add : (a b k : ℕ) → eqb (a + k) (b + k) ≡ eqb a b
 eqb-add a b k = iff-eq (eqb (a + k) (b + k)) (eqb a b) (λ p. eq-eqb a b (omega (arith, eqb-true (a + k) (b + k) p))) (λ p. eq-eqb (a + k) (b + k) (omega (arith, eqb-true a b p)))
 
+ltb-add : (a b k : ℕ) → ltb (a + k) (b + k) ≡ ltb a b
+ltb-add a b k = iff-eq (ltb (a + k) (b + k)) (ltb a b) (λ p. lt-ltb a b (omega (arith, ltb-true (a + k) (b + k) p))) (λ p. lt-ltb (a + k) (b + k) (omega (arith, ltb-true a b p)))
+
 module _ (D first n g K f i k : ℕ) (tree ghostly : ℕ → List ℕ) where
-  side-same : SideLike f (tree i) (tree (i + k)) k → SideLike (codeOf (tree i) f % facesIn D) (tree (neighbourOf (tree i) f)) (tree (neighbourOf (tree i) f + k)) k
-      → f < faceCount (shapeOf (tree i)) → neighbourOf (tree i) f + k < n
-      → treeSide (linkByDimension D) first n g tree ghostly D K f (i + k) ≡ treeSide (linkByDimension D) first n g tree ghostly D K f i
-  unfolding treeSide sideOk faceForm boundaryOk toItself faceOf orientationOf facesOf treeFace treeTo linkByDimension cornersByDimension answeredByDimension answeredThere
-  side-same own others used held =
-      let before : neighbourOf (tree i) f < n = omega arith in
-      rw (own .neighbour, own .code, own .shape, lt-ltb f (faceCount (shapeOf (tree i))) used, lt-ltb (neighbourOf (tree i) f + k) n held, lt-ltb (neighbourOf (tree i) f) n before, others .neighbour, others .code, others .shape, eqb-add (neighbourOf (tree i) f) i k, eqb-add (neighbourOf (tree (neighbourOf (tree i) f)) (codeOf (tree i) f % facesIn D)) i k)
+  module _ (own : SideLike f (tree i) (tree (i + k)) k) (held : neighbourOf (tree i) f + k < n) where
+    up-same : treeUp n tree (i + k) f ≡ treeUp n tree i f
+    unfolding treeUp
+    up-same =
+        let before : neighbourOf (tree i) f < n = omega arith in
+        rw (own .neighbour, ltb-add i (neighbourOf (tree i) f) k, lt-ltb (neighbourOf (tree i) f + k) n held, lt-ltb (neighbourOf (tree i) f) n before)
+
+    side-up-same : treeSideUp n tree f (i + k) ≡ treeSideUp n tree f i
+    unfolding treeSideUp sideHas
+    side-up-same = rw (up-same, own .shape)
+
+    side-down-same : treeSideDown n tree f (i + k) ≡ treeSideDown n tree f i
+    unfolding treeSideDown sideHas treeDown
+    side-down-same = rw (up-same, own .shape, own .neighbour, eqb-add (neighbourOf (tree i) f) i k)
+
+    module _ (used : f < faceCount (shapeOf (tree i))) where
+      -- a link that isn't followed
+      side-same-up : treeUp n tree i f ≡ true → treeSide (linkByDimension D) first n g tree ghostly D K f (i + k) ≡ treeSide (linkByDimension D) first n g tree ghostly D K f i
+      unfolding treeSide sideOk faceForm boundaryOk toItself faceOf orientationOf facesOf
+      side-same-up up =
+          rw (up-same, up, own .neighbour, own .code, own .shape, lt-ltb f (faceCount (shapeOf (tree i))) used, eqb-add (neighbourOf (tree i) f) i k)
+
+      -- one that is, where the neighbours are alike too
+      side-same : treeUp n tree i f ≡ false → SideLike (codeOf (tree i) f % facesIn D) (tree (neighbourOf (tree i) f)) (tree (neighbourOf (tree i) f + k)) k
+          → treeSide (linkByDimension D) first n g tree ghostly D K f (i + k) ≡ treeSide (linkByDimension D) first n g tree ghostly D K f i
+      unfolding treeSide sideOk faceForm boundaryOk toItself faceOf orientationOf facesOf treeFace treeTo linkByDimension cornersByDimension answeredByDimension answeredThere
+      side-same down others =
+          let before : neighbourOf (tree i) f < n = omega arith in
+          rw (up-same, down, own .neighbour, own .code, own .shape, lt-ltb f (faceCount (shapeOf (tree i))) used, lt-ltb (neighbourOf (tree i) f + k) n held, lt-ltb (neighbourOf (tree i) f) n before, others .neighbour, others .code, others .shape, eqb-add (neighbourOf (tree i) f) i k, eqb-add (neighbourOf (tree (neighbourOf (tree i) f)) (codeOf (tree i) f % facesIn D)) i k)
 
   head-same : HeadLike (tree i) (tree (i + k)) k → treeHead (linkByDimension D) first n g tree ghostly D K (i + k) ≡ treeHead (linkByDimension D) first n g tree ghostly D K i
   unfolding treeHead treeNumbered headOk
@@ -212,8 +246,14 @@ module _ (file : List ℕ) (n : ℕ) where
 
   module _ (D first g K i : ℕ) where
     -- the tree itself
-    pub sides-none : (f k : ℕ) → k ≤ 0 → treeSide (linkByDimension D) first n g (treeColumn file n) (ghostColumn file n g) D K f (i + k) ≡ treeSide (linkByDimension D) first n g (treeColumn file n) (ghostColumn file n g) D K f i
-    sides-none f k h = let e : i + k ≡ i = omega arith in ap (λ (x : ℕ). treeSide (linkByDimension D) first n g (treeColumn file n) (ghostColumn file n g) D K f x) e
+    pub sides-none : (f : ℕ) → i < n → SidesAlike (linkByDimension D) first n g (treeColumn file n) (ghostColumn file n g) D K f i 0
+    sides-none f h =
+        record {
+          within = omega arith;
+          sound = λ k l. let e : i + k ≡ i = omega arith in ap (λ (x : ℕ). treeSide (linkByDimension D) first n g (treeColumn file n) (ghostColumn file n g) D K f x) e;
+          up = λ k l. let e : i + k ≡ i = omega arith in ap (λ (x : ℕ). treeSideUp n (treeColumn file n) f x) e;
+          down = λ k l. let e : i + k ≡ i = omega arith in ap (λ (x : ℕ). treeSideDown n (treeColumn file n) f x) e;
+        }
 
     pub heads-none : (k : ℕ) → k ≤ 0 → treeHead (linkByDimension D) first n g (treeColumn file n) (ghostColumn file n g) D K (i + k) ≡ treeHead (linkByDimension D) first n g (treeColumn file n) (ghostColumn file n g) D K i
     heads-none k h = let e : i + k ≡ i = omega arith in ap (λ (x : ℕ). treeHead (linkByDimension D) first n g (treeColumn file n) (ghostColumn file n g) D K x) e
@@ -225,27 +265,50 @@ module _ (file : List ℕ) (n : ℕ) where
         (λ t. head-same D first n g K 0 i k (treeColumn file n) (ghostColumn file n g) (head-trees i k (head-run file n (32 + i) k run (ltb-true 0 k t) h)))
         (λ t. heads-none k (omega tests))
 
-    module _ (f : ℕ) (six : f < 6) {own j shape faces code there others r : ℕ}
+    module _ (f : ℕ) (six : f < 6) {own j shape faces r : ℕ}
         (mine : Run (sideRun file (32 + i) n f) (getD (spaced file (32 + i) n coreSize) (8 + 4 * f) 0) own 64)
         (to : j ≡ u32At (spaced file (32 + i) n coreSize) (8 + 4 * f))
         (shaped : shape ≡ getD (spaced file (32 + i) n coreSize) 4 0) (counted : faces ≡ faceCount shape) (used : f < faces)
-        (coded : code ≡ getD (spaced file (32 + i) n coreSize) (32 + f) 0) (across : there ≡ code % facesIn D) (small : there < 6)
-        (theirs : Run (sideRun file (32 + j) n there) (getD (spaced file (32 + j) n coreSize) (8 + 4 * there) 0) others 64)
-        (held : j + 64 < n) (a : r ≤ own) (b : r ≤ others) where
-      pub sides-run : (k : ℕ) → k ≤ r → treeSide (linkByDimension D) first n g (treeColumn file n) (ghostColumn file n g) D K f (i + k) ≡ treeSide (linkByDimension D) first n g (treeColumn file n) (ghostColumn file n g) D K f i
-      sides-run k h =
-          either (ltb 0 k)
-          (λ t.
-          let p : 0 < k = ltb-true 0 k t in
-          let here : j ≡ neighbourOf (treeColumn file n i) f = neighbour-tree i f to in
-          let face : there ≡ codeOf (treeColumn file n i) f % facesIn D = across ∙ ap (λ (x : ℕ). x % facesIn D) (code-tree i f coded) in
-          let count : faces ≡ faceCount (shapeOf (treeColumn file n i)) = counted ∙ ap faceCount (shape-tree i shaped) in
-          let like : SideLike there (treeColumn file n j) (treeColumn file n (j + k)) k = side-trees j k there (side-run file n (32 + j) k there small theirs p (omega arith)) in
-          let last : j + k < n = omega (arith, theirs .few) in
-          side-same D first n g K f i k (treeColumn file n) (ghostColumn file n g)
-          (side-trees i k f (side-run file n (32 + i) k f six mine p (omega arith)))
-          (subst (λ (x : ℕ). SideLike (codeOf (treeColumn file n i) f % facesIn D) (treeColumn file n x) (treeColumn file n (x + k)) k) here
-          (subst (λ (x : ℕ). SideLike x (treeColumn file n j) (treeColumn file n (j + k)) k) face like))
-          (subst (λ (x : ℕ). f < x) count used)
-          (subst (λ (x : ℕ). x + k < n) here last))
-          (λ t. sides-none f k (omega tests))
+        (here : i + 64 < n) (held : j + 64 < n) (a : r ≤ own) where
+      like : (k : ℕ) → 0 < k → k ≤ r → SideLike f (treeColumn file n i) (treeColumn file n (i + k)) k
+      like k p h = side-trees i k f (side-run file n (32 + i) k f six mine p (omega arith))
+
+      across : (k : ℕ) → k ≤ r → neighbourOf (treeColumn file n i) f + k < n
+      across k h = subst (λ (x : ℕ). x + k < n) (neighbour-tree i f to) (omega (arith, mine .few))
+
+      has : f < faceCount (shapeOf (treeColumn file n i))
+      has = subst (λ (x : ℕ). f < x) (counted ∙ ap faceCount (shape-tree i shaped)) used
+
+      upward : treeUp n (treeColumn file n) i f ≡ (ltb i j && ltb j n)
+      unfolding treeUp
+      upward = rw (sym (neighbour-tree i f to))
+
+      -- where the trees' sides are
+      alike : ((k : ℕ) → 0 < k → k ≤ r → treeSide (linkByDimension D) first n g (treeColumn file n) (ghostColumn file n g) D K f (i + k) ≡ treeSide (linkByDimension D) first n g (treeColumn file n) (ghostColumn file n g) D K f i)
+          → SidesAlike (linkByDimension D) first n g (treeColumn file n) (ghostColumn file n g) D K f i r
+      alike sound =
+          let self = sides-none f (omega arith) in
+          record {
+            within = omega (arith, mine .few);
+            sound = λ k h. either (ltb 0 k) (λ t. sound k (ltb-true 0 k t) h) (λ t. self .sound k (omega tests));
+            up = λ k h. either (ltb 0 k) (λ t. side-up-same D first n g K f i k (treeColumn file n) (ghostColumn file n g) (like k (ltb-true 0 k t) h) (across k h)) (λ t. self .up k (omega tests));
+            down = λ k h. either (ltb 0 k) (λ t. side-down-same D first n g K f i k (treeColumn file n) (ghostColumn file n g) (like k (ltb-true 0 k t) h) (across k h)) (λ t. self .down k (omega tests));
+          }
+
+      pub sides-up : i < j → SidesAlike (linkByDimension D) first n g (treeColumn file n) (ghostColumn file n g) D K f i r
+      sides-up less =
+          let up : treeUp n (treeColumn file n) i f ≡ true = upward ∙ and-intro (ltb i j) (ltb j n) (lt-ltb i j less) (lt-ltb j n (omega arith)) in
+          alike (λ k p h. side-same-up D first n g K f i k (treeColumn file n) (ghostColumn file n g) (like k p h) (across k h) has up)
+
+      module _ {code there others : ℕ} (coded : code ≡ getD (spaced file (32 + i) n coreSize) (32 + f) 0) (face : there ≡ code % facesIn D) (small : there < 6)
+          (theirs : Run (sideRun file (32 + j) n there) (getD (spaced file (32 + j) n coreSize) (8 + 4 * there) 0) others 64) (b : r ≤ others) where
+        pub sides-run : j ≤ i → SidesAlike (linkByDimension D) first n g (treeColumn file n) (ghostColumn file n g) D K f i r
+        sides-run low =
+            let down : treeUp n (treeColumn file n) i f ≡ false = upward ∙ ap (λ (x : Bool). x && ltb j n) (le-ltb i j low) in
+            alike
+            (λ k p h.
+            let turned : there ≡ codeOf (treeColumn file n i) f % facesIn D = face ∙ ap (λ (x : ℕ). x % facesIn D) (code-tree i f coded) in
+            let other : SideLike there (treeColumn file n j) (treeColumn file n (j + k)) k = side-trees j k there (side-run file n (32 + j) k there small theirs p (omega arith)) in
+            side-same D first n g K f i k (treeColumn file n) (ghostColumn file n g) (like k p h) (across k h) has down
+            (subst (λ (x : ℕ). SideLike (codeOf (treeColumn file n i) f % facesIn D) (treeColumn file n x) (treeColumn file n (x + k)) k) (neighbour-tree i f to)
+            (subst (λ (x : ℕ). SideLike x (treeColumn file n j) (treeColumn file n (j + k)) k) turned other)))

@@ -13,7 +13,7 @@ ghost use Rattle.records.specs.Record.{coreSize};
 ghost use Rattle.mesh.specs.Means.{linkByDimension};
 ghost use Rattle.part_check.specs.Means.{PartLaid};
 ghost use Rattle.columns_check.specs.Columns.{spaced};
-ghost use Rattle.columns_check.specs.Means.{treeColumn, ghostColumn, treeHead, treeSide, sameByte, countsOn, sideRun, headRun, Run};
+ghost use Rattle.columns_check.specs.Means.{treeColumn, ghostColumn, treeHead, sameByte, countsOn, sideRun, headRun, Run, SidesAlike};
 
 fn same_byte(bs: &[u8], at: usize, step: u32, j: u32, k: usize) -> bool
     requires { ⌜ (at + k + step * 39 < length (now bs)) × (j < 40) ⌝ }
@@ -112,7 +112,7 @@ fn heads_like(bs: &[u8], at: usize, step: u32) -> u8
     some
 }
 
-// How many trees behind tree i are sound in a face where it is.
+// How many trees behind tree i are like it in a face, and so are their neighbours, if its link is followed.
 pub fn sides_on(
     file: &[u8],
     first: u32,
@@ -124,7 +124,7 @@ pub fn sides_on(
     face: u32,
 ) -> u32
     requires { ⌜ PartLaid (now file) first count ghosts trees × (i < count) × (face < 6) ⌝ }
-    ensures { λ r. ⌜ (i + r < count) × ((k : ℕ) → k ≤ r → treeSide (linkByDimension dimension) first count ghosts (treeColumn (now (file .entry)) count) (ghostColumn (now (file .entry)) count ghosts) dimension trees face (i + k) ≡ treeSide (linkByDimension dimension) first count ghosts (treeColumn (now (file .entry)) count) (ghostColumn (now (file .entry)) count ghosts) dimension trees face i) ⌝ }
+    ensures { λ r. ⌜ SidesAlike (linkByDimension dimension) first count ghosts (treeColumn (now (file .entry)) count) (ghostColumn (now (file .entry)) count ghosts) dimension trees face i r ⌝ }
 {
     if count - i <= 64 {
         return 0;
@@ -140,6 +140,9 @@ pub fn sides_on(
     }
     if face_count(byte(file, at, count, 4)) <= face {
         return 0;
+    }
+    if i < j {
+        return own as u32;
     }
     let across = parted(dimension, byte(file, at, count, 32 + face));
     let there = across.face;

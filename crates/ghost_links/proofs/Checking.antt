@@ -22,7 +22,7 @@ use Rattle.positions.proofs.Positions.{index-position}
 use Rattle.ghost_links.specs.Means.{coreFrom, formAlone, ghostUp, ghostDown, ghostListed, ghostUps, ghostDowns, ghostLow, ghostAnswered, ghostFaceDown, ghostFromOneEnd, Formed, SummedAs}
 
 -- no more, or less
-not-leb : (a b : ℕ) → not (leb a b) ≡ ltb b a
+pub not-leb : (a b : ℕ) → not (leb a b) ≡ ltb b a
 not-leb a b = either (leb a b) (λ q. rw q (sym (le-ltb b a (omega tests)))) (λ q. rw q (sym (lt-ltb b a (omega tests))))
 
 -- ---- the index

@@ -16,8 +16,8 @@ returns c = found-none _ _ _ _ _ _ (c .before .before .ghost-numbers .ensures) (
 ghost-heads-requires : tie.Need-ghost-heads-requires
 ghost-heads-requires c κs = search needs
 
-all-faces-sound-requires : tie.Need-all-faces-sound-requires
-all-faces-sound-requires c κs =
+all-links-sound-requires : tie.Need-all-links-sound-requires
+all-links-sound-requires c κs =
     let ghost-numbers = c .before .before .before .ghost-numbers in
     let tree-heads = c .before .before .tree-heads in
     let if1 = c .before .if1 in
@@ -30,7 +30,7 @@ returns-2 c =
     let tree-heads = c .before .before .before .tree-heads in
     let if1 = c .before .before .if1 in
     let ghost-heads = c .before .ghost-heads in
-    found-all _ _ _ _ _ _ (ghost-numbers .ensures) (tree-heads .ensures) (not-false _ (if1 .left)) (ghost-heads .ensures) (c .all-faces-sound .ensures)
+    found-all _ _ _ _ _ _ (ghost-numbers .ensures) (tree-heads .ensures) (not-false _ (if1 .left)) (ghost-heads .ensures) (c .all-links-sound .ensures)
 
 pub records-sound-spec : {M : Type 1} → statement M
 records-sound-spec =
@@ -40,5 +40,5 @@ records-sound-spec =
     tree-heads-requires
     returns
     ghost-heads-requires
-    all-faces-sound-requires
+    all-links-sound-requires
     returns-2)

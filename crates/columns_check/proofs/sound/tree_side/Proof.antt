@@ -1,5 +1,5 @@
 use borrow.Author.Tests.{not-true, not-false}
-use Rattle.columns_check.proofs.Finding.{side-unformed, side-none, side-tree, side-ghost, side-past}
+use Rattle.columns_check.proofs.Finding.{side-unformed, side-none, side-up, side-past, side-held}
 use borrow.Author.Needs.{needs}
 use Rattle.columns_check.proofs.sound.tree_side.Statement.{statement}
 use Rattle.columns_check.proofs.sound.tree_side.Tie as tie
@@ -36,43 +36,18 @@ add-word c = search needs
 word-requires : tie.Need-word-requires
 word-requires c κs = search needs
 
-cast-link-ok : tie.Need-cast-link-ok
-cast-link-ok c = search needs
-
-add-link-ok : tie.Need-add-link-ok
-add-link-ok c = search needs
-
-link-ok-requires : tie.Need-link-ok-requires
-link-ok-requires c κs = search needs
-
 returns-3 : tie.Need-returns-3
 returns-3 c =
-    let face-ok = c .before .before .before .before .before .before .before .face-ok in
-    let if1 = c .before .before .before .before .before .before .if1 in
-    let byte = c .before .before .before .before .before .byte in
-    let face-count = c .before .before .before .before .face-count in
-    let if2 = c .before .before .before .if2 in
-    let word = c .before .before .word in
-    let if3 = c .before .if3 in
-    side-tree _ _ _ _ _ _ _ _ (face-ok .ensures) (not-false _ (if1 .left)) (byte .ensures .0) (face-count .ensures .0) (if2 .left) (word .ensures) (if3 .taken) (c .link-ok .ensures)
+    let face-ok = c .before .before .before .before .before .before .face-ok in
+    let if1 = c .before .before .before .before .before .if1 in
+    let byte = c .before .before .before .before .byte in
+    let face-count = c .before .before .before .face-count in
+    let if2 = c .before .before .if2 in
+    let word = c .before .word in
+    side-up _ _ _ _ _ _ _ _ (face-ok .ensures) (not-false _ (if1 .left)) (byte .ensures .0) (face-count .ensures .0) (if2 .left) (word .ensures) (c .if3 .taken)
 
-word-requires-2 : tie.Need-word-requires-2
-word-requires-2 c κs = search needs
-
-mul-to : tie.Need-mul-to
-mul-to c = search needs
-
-add-to : tie.Need-add-to
-add-to c = search needs
-
-cast-to : tie.Need-cast-to
-cast-to c = search needs
-
-add-to-2 : tie.Need-add-to-2
-add-to-2 c = search needs
-
-link-ok-requires-2 : tie.Need-link-ok-requires-2
-link-ok-requires-2 c κs = search needs
+target-of-requires : tie.Need-target-of-requires
+target-of-requires c κs = search needs
 
 returns-4 : tie.Need-returns-4
 returns-4 c =
@@ -83,20 +58,24 @@ returns-4 c =
     let if2 = c .before .before .before .before .before .if2 in
     let word = c .before .before .before .before .word in
     let if3 = c .before .before .before .if3 in
-    let if4 = c .before .before .if4 in
-    let word2 = c .before .word2 in
-    side-ghost _ _ _ _ _ _ _ _ (face-ok .ensures) (not-false _ (if1 .left)) (byte .ensures .0) (face-count .ensures .0) (if2 .left) (word .ensures) (if3 .left) (if4 .taken) (word2 .ensures) (c .link-ok2 .ensures)
+    let target-of = c .before .before .target-of in
+    side-past _ _ _ _ _ _ _ _ (face-ok .ensures) (not-false _ (if1 .left)) (byte .ensures .0) (face-count .ensures .0) (if2 .left) (word .ensures) (if3 .left) (target-of .ensures) (not-true _ (c .if4 .taken))
+
+link-ok-requires : tie.Need-link-ok-requires
+link-ok-requires c κs = (search needs, search needs, c .before .before .target-of .ensures .fits (not-false _ (c .if4 .left)))
 
 returns-5 : tie.Need-returns-5
 returns-5 c =
-    let face-ok = c .before .before .before .before .before .before .before .face-ok in
-    let if1 = c .before .before .before .before .before .before .if1 in
-    let byte = c .before .before .before .before .before .byte in
-    let face-count = c .before .before .before .before .face-count in
-    let if2 = c .before .before .before .if2 in
-    let word = c .before .before .word in
-    let if3 = c .before .if3 in
-    side-past _ _ _ _ _ _ _ _ (face-ok .ensures) (not-false _ (if1 .left)) (byte .ensures .0) (face-count .ensures .0) (if2 .left) (word .ensures) (if3 .left) (c .if4 .left)
+    let face-ok = c .before .before .before .before .before .before .before .before .before .before .face-ok in
+    let if1 = c .before .before .before .before .before .before .before .before .before .if1 in
+    let byte = c .before .before .before .before .before .before .before .before .byte in
+    let face-count = c .before .before .before .before .before .before .before .face-count in
+    let if2 = c .before .before .before .before .before .before .if2 in
+    let word = c .before .before .before .before .before .word in
+    let if3 = c .before .before .before .before .if3 in
+    let target-of = c .before .before .before .target-of in
+    let if4 = c .before .if4 in
+    side-held _ _ _ _ _ _ _ _ (face-ok .ensures) (not-false _ (if1 .left)) (byte .ensures .0) (face-count .ensures .0) (if2 .left) (word .ensures) (if3 .left) (target-of .ensures) (not-false _ (if4 .left)) (c .link-ok .ensures)
 
 pub tree-side-spec : {M : Type 1} → statement M
 tree-side-spec =
@@ -111,15 +90,8 @@ tree-side-spec =
     mul-word
     add-word
     word-requires
-    cast-link-ok
-    add-link-ok
-    link-ok-requires
     returns-3
-    word-requires-2
-    mul-to
-    add-to
-    cast-to
-    add-to-2
-    link-ok-requires-2
+    target-of-requires
     returns-4
+    link-ok-requires
     returns-5)

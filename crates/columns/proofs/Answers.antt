@@ -17,7 +17,7 @@ use Rattle.part.specs.Layout.{partSize}
 use Rattle.part.specs.View.{recordsHold}
 use Rattle.part.specs.Part.{partCount, partGhostCount, viewOf, partHeaderSound, partSound}
 use Rattle.part.proofs.Checks.{rank-fails, rank-passes}
-use Rattle.columns_check.specs.Columns.{partColumns, columnsPart, columnsSound}
+use Rattle.columns_read.specs.Columns.{partColumns, columnsPart, columnsSound}
 use Rattle.columns_check.proofs.Turned.{part-turned, file-turned}
 use Rattle.columns.specs.Means.{Turnable}
 

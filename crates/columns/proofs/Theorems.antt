@@ -9,7 +9,7 @@ use borrow.Author.Tests.{eq-eqb}
 use Rattle.encoding.proofs.Below.{and-fst, and-snd, and-intro}
 use Rattle.part.specs.Layout.{partSize}
 use Rattle.part.specs.Part.{partCount, partGhostCount, partSound}
-use Rattle.columns_check.specs.Columns.{partColumns, columnsPart, columnsSound}
+use Rattle.columns_read.specs.Columns.{partColumns, columnsPart, columnsSound}
 use Rattle.columns_check.proofs.Turned.{Turned, file-one, part-one, part-turned, file-turned}
 use Rattle.columns_check.proofs.Accepting.{count-same, ghost-count-same}
 use Rattle.columns.specs.Theorems.{BackFrom, PartsComeBack, ForthFrom, FilesComeBack, EqualBoth, EqualFiles, AcceptedOf, AcceptedExactly}

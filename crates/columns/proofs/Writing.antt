@@ -12,7 +12,7 @@ use Rattle.encoding.proofs.Pieces.{length-splice}
 use Rattle.records.proofs.Rows.{splice-get}
 use Rattle.part.specs.Layout.{partSize}
 use Rattle.part.specs.Part.{partCount, partGhostCount}
-use Rattle.columns_check.specs.Columns.{partColumns, columnsPart}
+use Rattle.columns_read.specs.Columns.{partColumns, columnsPart}
 use Rattle.columns_check.proofs.Turned.{Turned, place, zones, part-turned, file-turned}
 use Rattle.columns.specs.Means.{Line, Lines, lineOf, Sides, Fits, Moved, Turnable}
 use Rattle.columns.specs.Means.Sides.{records, columns}

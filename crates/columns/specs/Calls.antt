@@ -8,7 +8,7 @@ use Rattle.encoding.specs.Refusal.{check, firstFailed}
 use Rattle.encoding.specs.declared.answer.Length.{Length}
 use Rattle.part.specs.Checks.{rankChecks}
 use Rattle.part.specs.Part.{partSound}
-use Rattle.columns_check.specs.Columns.{partColumns, columnsPart, columnsSound}
+use Rattle.columns_read.specs.Columns.{partColumns, columnsPart, columnsSound}
 
 -- a part to its column file, which is as long
 unfoldable pub toColumnsRefusal : List ℕ → List ℕ → ℕ → List ℕ → ℕ

@@ -5,7 +5,7 @@ use mathlib.Core.Bool.{true}
 use mathlib.Core.List.{List}
 use lib.ListN.{length}
 use Rattle.part.specs.Part.{partSound}
-use Rattle.columns_check.specs.Columns.{partColumns, columnsPart, columnsSound}
+use Rattle.columns_read.specs.Columns.{partColumns, columnsPart, columnsSound}
 
 -- for every sound part the inverse gives back its bytes, and its file is accepted and as long
 pub record BackFrom (part table : List ℕ) (rank : ℕ) : Type 0 where

@@ -6,7 +6,7 @@ ghost use Prim.Native.Nat.{_+_, _≤_, _<_};
 ghost use lib.ListN.{length};
 ghost use Rattle.encoding.specs.Pieces.{splice};
 ghost use Rattle.part.specs.Part.{partCount, partGhostCount};
-ghost use Rattle.columns_check.specs.Columns.{partColumns, columnsPart};
+ghost use Rattle.columns_read.specs.Columns.{partColumns, columnsPart};
 ghost use Rattle.columns.specs.Means.{Line, Lines, lineOf, bandOf, Shuffled, Sides, Moved, Turnable};
 
 // Moves `count` bytes: the one at `from` and each `step` behind it, to `to` and each `gap` behind it.

@@ -16,8 +16,9 @@ use Rattle.part.specs.Means.{RankKnown, ghostCore}
 use Rattle.part.specs.Part.{partDimension, partK, partFirst, partCount, partGhostCount, storedTree, partHeaderSound, partSound}
 use Rattle.part_check.specs.Means.{recordsSound}
 use Rattle.part_check.proofs.Checking.{sound-read}
-use Rattle.columns_check.specs.Columns.{partColumns, columnsPart, columnsSound}
-use Rattle.columns_check.specs.Means.{treeColumn, ghostColumn, columnsFound}
+use Rattle.columns_read.specs.Columns.{partColumns, columnsPart, columnsSound}
+use Rattle.columns_read.specs.Means.{treeColumn, ghostColumn}
+use Rattle.columns_check.specs.Means.{columnsFound}
 use Rattle.columns_check.proofs.Judging.{found-is, records-same}
 use Rattle.columns_check.proofs.Turned.{Turned, header-number, file-turned, part-bytes, tree-core, ghost-core}
 

@@ -20,8 +20,9 @@ use Rattle.part.specs.Means.{inRange, neighbourIn, ghostHas}
 use Rattle.ghost_links.specs.Means.{ghostUp, ghostDown, ghostListed, ghostLow, ghostAnswered}
 use Rattle.ghost_links.proofs.Checking.{not-leb}
 use Rattle.part_check.specs.Means.{treeTo, treeFace, treeUp, treeDown, treeNumbered, ghostBehind, ghostNumbered, numbersSound, PartLaid}
-use Rattle.columns_check.specs.Columns.{spaced}
-use Rattle.columns_check.specs.Means.{treeColumn, ghostColumn, headOk, sideOk, sideHas, sideLow, treeHead, ghostHead, treeSide, treeSideUp, treeSideDown, ghostSideLow, ghostSideUp, ghostSideDown, ghostSideListed, linksSound, columnsFound, FileNumbered, TargetAs}
+use Rattle.columns_read.specs.Columns.{spaced}
+use Rattle.columns_read.specs.Means.{treeColumn, ghostColumn, headOk, sideOk, sideHas, treeHead, treeSide, treeSideUp, treeSideDown}
+use Rattle.columns_check.specs.Means.{sideLow, ghostHead, ghostSideLow, ghostSideUp, ghostSideDown, ghostSideListed, linksSound, columnsFound, FileNumbered, TargetAs}
 
 or-fst : (a b : Bool) → (a || b) ≡ false → a ≡ false
 or-fst true b e = e

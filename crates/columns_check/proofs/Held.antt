@@ -15,10 +15,11 @@ use Rattle.part.specs.Means.{numberAt, ghostHas}
 use Rattle.positions.specs.Means.{hasNumber, someHas, positionOf, memberPosition, Markable, Numbered, Indexed}
 use Rattle.positions.proofs.Positions.{index-position}
 use Rattle.part_check.proofs.Judging.{ghosts-ascend, ghost-below}
-use Rattle.columns_check.specs.Columns.{spaced, rows}
-use Rattle.columns_check.specs.Means.{treeColumn, ghostColumn, ghostRows, FileNumbered}
-use Rattle.columns_check.proofs.Spaced.{spaced-length, spaced-at}
-use Rattle.columns_check.proofs.Reading.{word-read}
+use Rattle.columns_read.specs.Columns.{spaced, rows}
+use Rattle.columns_read.specs.Means.{treeColumn, ghostColumn}
+use Rattle.columns_read.proofs.Spaced.{spaced-length, spaced-at}
+use Rattle.columns_read.proofs.Reading.{word-read}
+use Rattle.columns_check.specs.Means.{ghostRows, FileNumbered}
 use Rattle.columns_check.proofs.Turned.{columns-length, columns-at, rows-are}
 
 module _ (file : List ℕ) (n g : ℕ) where

@@ -19,7 +19,8 @@ use Rattle.ghost_links.specs.Means.{formAlone, ghostUp, ghostDown, ghostUps, gh
 use Rattle.ghost_links.proofs.FromOneEnd.{boundary-other}
 use Rattle.part_check.specs.Means.{treeNumbered, ghostBehind, ghostNumbered, numbersSound, treeTo, treeFace, treeFits, treeStored, ghostTo, ghostFace, ghostStored, recordsSound, treeUp, treeDown, treeUps, treeDowns, evenLinks, treeFaceDown, treeFromOneEnd, recordsFromOneEnd}
 use Rattle.part_check.proofs.FromOneEnd.{trees-seen, records-from-one-end}
-use Rattle.columns_check.specs.Means.{headOk, sideOk, sideHas, sideLow, treeHead, ghostHead, treeSide, treeSideUp, treeSideDown, ghostSide, ghostSideLow, ghostSideUp, ghostSideDown, ghostSideListed, ghostSideLinked, facesSound, facesUp, facesDown, linksSound, columnsFound}
+use Rattle.columns_read.specs.Means.{headOk, sideOk, sideHas, treeHead, treeSide, treeSideUp, treeSideDown}
+use Rattle.columns_check.specs.Means.{sideLow, ghostHead, ghostSide, ghostSideLow, ghostSideUp, ghostSideDown, ghostSideListed, ghostSideLinked, facesSound, facesUp, facesDown, linksSound, columnsFound}
 
 -- ---- one record
 

@@ -9,7 +9,8 @@ use Rattle.encoding.specs.Below.{allBelow, countBelow, sumBelow}
 use Rattle.encoding.proofs.Below.{either, clash, and-fst, and-snd, and-intro, all-at, all-add, all-intro, all-fails, all-to, count-add}
 use Rattle.mesh.specs.Means.{linkByDimension}
 use Rattle.ghost_links.specs.Means.{ghostAnswered, SummedAs}
-use Rattle.columns_check.specs.Means.{treeColumn, ghostColumn, from, treeSide, treeSideUp, treeSideDown, ghostSide, ghostSideLow, ghostSideUp, ghostSideDown, ghostSideListed, ghostSideLinked, facesSound, facesUp, facesDown, linksSound}
+use Rattle.columns_read.specs.Means.{treeColumn, ghostColumn, treeSide, treeSideUp, treeSideDown}
+use Rattle.columns_check.specs.Means.{from, ghostSide, ghostSideLow, ghostSideUp, ghostSideDown, ghostSideListed, ghostSideLinked, facesSound, facesUp, facesDown, linksSound}
 
 -- a loop that has come to its end
 pub counted-all : {ups downs : ℕ} (n i : ℕ) (f p q : ℕ → Bool) → i ≤ n → n ≤ i → allBelow i f ≡ true → (ups ≡ countBelow i p) × (ups ≤ 6 * i) → (downs ≡ countBelow i q) × (downs ≤ 6 * i)

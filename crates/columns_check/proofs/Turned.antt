@@ -17,9 +17,9 @@ use Rattle.records.proofs.Forms.{at-agree}
 use Rattle.part.specs.Layout.{partHeader, treePlace, ghostPlace, partSize}
 use Rattle.part.specs.Means.{ghostCore}
 use Rattle.part.specs.Part.{partDimension, partK, partFirst, partCount, partGhostCount, storedTree}
-use Rattle.columns_check.specs.Columns.{spaced, columns, rows, partColumns, columnsPart}
-use Rattle.columns_check.specs.Means.{treeColumn, ghostColumn}
-use Rattle.columns_check.proofs.Spaced.{spaced-length, spaced-at}
+use Rattle.columns_read.specs.Columns.{spaced, columns, rows, partColumns, columnsPart}
+use Rattle.columns_read.specs.Means.{treeColumn, ghostColumn}
+use Rattle.columns_read.proofs.Spaced.{spaced-length, spaced-at}
 
 -- ---- columns
 

@@ -1,4 +1,2 @@
 // Whether a column file is that of a sound part. No calls for users.
-pub mod alike;
-pub mod read;
 pub mod sound;

@@ -1,12 +1,12 @@
 // Whether a column file is that of a sound part. Face by face, and for each face record by record: so few columns are read at a time that their bytes stay in cache. A link is looked at from one end, as in the check of a part: one that leads up, to a higher tree, from a ghost to a tree or to a higher ghost, is only counted.
-use crate::alike::heads_on;
-use crate::alike::sides_on;
-use crate::read::byte;
-use crate::read::face_ok;
-use crate::read::head_ok;
-use crate::read::link_ok;
-use crate::read::orientation_ok;
-use crate::read::word;
+use columns_read::alike::heads_on;
+use columns_read::alike::sides_on;
+use columns_read::read::byte;
+use columns_read::read::face_ok;
+use columns_read::read::head_ok;
+use columns_read::read::link_ok;
+use columns_read::read::orientation_ok;
+use columns_read::read::word;
 use mesh::sound::Links;
 use mesh::sound::Seen;
 use mesh::sound::one;
@@ -35,8 +35,9 @@ ghost use Rattle.part.specs.Means.{neighbourIn, RankKnown};
 ghost use Rattle.positions.specs.Means.{someHas, Added, Blank, Indexed};
 ghost use Rattle.ghost_links.specs.Means.{ghostAnswered, SummedAs};
 ghost use Rattle.part_check.specs.Means.{treeNumbered, ghostNumbered, PartLaid};
-ghost use Rattle.columns_check.specs.Columns.{spaced, columnsSound};
-ghost use Rattle.columns_check.specs.Means.{treeColumn, ghostColumn, from, treeHead, ghostHead, treeSide, treeSideUp, treeSideDown, ghostSide, ghostSideLow, ghostSideUp, ghostSideDown, ghostSideListed, ghostSideLinked, linksSound, columnsFound, FileNumbered, FileIndexed, ghostRows, TargetAs};
+ghost use Rattle.columns_read.specs.Columns.{spaced, columnsSound};
+ghost use Rattle.columns_read.specs.Means.{treeColumn, ghostColumn, treeHead, treeSide, treeSideUp, treeSideDown};
+ghost use Rattle.columns_check.specs.Means.{from, ghostHead, ghostSide, ghostSideLow, ghostSideUp, ghostSideDown, ghostSideListed, ghostSideLinked, linksSound, columnsFound, FileNumbered, FileIndexed, ghostRows, TargetAs};
 
 // ---- trees
 

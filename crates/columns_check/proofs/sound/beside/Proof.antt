@@ -2,8 +2,8 @@ use Prim.Native.Nat.{_≤_, _-_}
 use mathlib.Core.Path.{_≡_, refl}
 use native.Mathlib.Omega.{arith}
 use Rattle.encoding.specs.Below.{anyBelow}
-use Rattle.columns_check.proofs.Reading.{beside-more, beside-to}
-use Rattle.columns_check.specs.Columns.{spaced}
+use Rattle.columns_read.proofs.Reading.{beside-more, beside-to}
+use Rattle.columns_read.specs.Columns.{spaced}
 use Rattle.records.specs.Record.{coreSize}
 use Rattle.part.specs.Means.{neighbourIn}
 use borrow.Author.Needs.{needs}

@@ -6,7 +6,8 @@ use borrow.Author.Tests.{not-true, not-false}
 use Rattle.encoding.specs.Below.{allBelow}
 use Rattle.encoding.proofs.Below.{all-more, all-fails, all-to}
 use Rattle.columns_check.proofs.Finding.{heads-both}
-use Rattle.columns_check.specs.Means.{treeColumn, ghostColumn, ghostHead}
+use Rattle.columns_read.specs.Means.{treeColumn, ghostColumn}
+use Rattle.columns_check.specs.Means.{ghostHead}
 use Rattle.mesh.specs.Means.{linkByDimension}
 use borrow.Author.Needs.{needs}
 use Rattle.columns_check.proofs.sound.ghost_heads.Statement.{statement}

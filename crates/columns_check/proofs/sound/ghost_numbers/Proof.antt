@@ -5,7 +5,7 @@ use native.Mathlib.Omega.{arith}
 use borrow.Author.Tests.{not-true, not-false}
 use Rattle.encoding.specs.Below.{allBelow}
 use Rattle.encoding.proofs.Below.{all-more, all-fails, all-to}
-use Rattle.columns_check.specs.Means.{ghostColumn}
+use Rattle.columns_read.specs.Means.{ghostColumn}
 use Rattle.part_check.specs.Means.{ghostNumbered}
 use borrow.Author.Needs.{needs}
 use Rattle.columns_check.proofs.sound.ghost_numbers.Statement.{statement}

@@ -1,5 +1,6 @@
 use Rattle.columns_check.proofs.Summing.{counted-all, count-block, ghosts-more, low-fails, linked-fails}
-use Rattle.columns_check.specs.Means.{treeColumn, ghostColumn, ghostSide, ghostSideUp, ghostSideDown}
+use Rattle.columns_read.specs.Means.{treeColumn, ghostColumn}
+use Rattle.columns_check.specs.Means.{ghostSide, ghostSideUp, ghostSideDown}
 use Rattle.ghost_links.proofs.Checking.{summed-refused}
 use Rattle.mesh.specs.Means.{linkByDimension}
 use Rattle.encoding.specs.Below.{allBelow, countBelow}

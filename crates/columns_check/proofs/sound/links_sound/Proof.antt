@@ -1,5 +1,6 @@
 use Rattle.columns_check.proofs.Summing.{faces-both, up-both, down-both, links-fail, links-all}
-use Rattle.columns_check.specs.Means.{treeColumn, ghostColumn, facesSound, facesUp, facesDown}
+use Rattle.columns_read.specs.Means.{treeColumn, ghostColumn}
+use Rattle.columns_check.specs.Means.{facesSound, facesUp, facesDown}
 use Rattle.mesh.proofs.Checking.{sum-next}
 use Rattle.mesh.specs.Means.{linkByDimension}
 use Rattle.encoding.proofs.Below.{all-more}

@@ -1,5 +1,6 @@
 use Rattle.columns_check.proofs.Summing.{from-is, not-listed, listed-is}
-use Rattle.columns_check.specs.Means.{treeColumn, ghostColumn, from, ghostSideListed, ghostSideLinked}
+use Rattle.columns_read.specs.Means.{treeColumn, ghostColumn}
+use Rattle.columns_check.specs.Means.{from, ghostSideListed, ghostSideLinked}
 use Rattle.mesh.proofs.Packing.{Left, left-all, left-none, left-next, next-digit, next-passes}
 use Rattle.mesh.specs.Means.{linkByDimension}
 use Rattle.encoding.proofs.Below.{all-fails}

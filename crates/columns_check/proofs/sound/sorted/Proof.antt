@@ -1,5 +1,6 @@
 use Rattle.columns_check.proofs.Summing.{from-is}
-use Rattle.columns_check.specs.Means.{ghostColumn, from, ghostSideLow, ghostSideUp, ghostSideDown, ghostSideListed}
+use Rattle.columns_read.specs.Means.{ghostColumn}
+use Rattle.columns_check.specs.Means.{from, ghostSideLow, ghostSideUp, ghostSideDown, ghostSideListed}
 use Rattle.mesh.proofs.Packing.{packed-more, packed-at, list-small}
 use Rattle.mesh.proofs.Checking.{seen-refused, seen-all, count-next}
 use Rattle.mesh.specs.Means.{packed}

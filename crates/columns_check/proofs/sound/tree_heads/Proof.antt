@@ -6,8 +6,8 @@ use borrow.Author.Tests.{not-true, not-false}
 use Rattle.encoding.specs.Below.{allBelow}
 use Rattle.encoding.proofs.Below.{all-fails, all-to}
 use Rattle.columns_check.proofs.Finding.{head-both}
-use Rattle.columns_check.proofs.Runs.{all-run}
-use Rattle.columns_check.specs.Means.{treeColumn, ghostColumn, treeHead}
+use Rattle.columns_read.proofs.Runs.{all-run}
+use Rattle.columns_read.specs.Means.{treeColumn, ghostColumn, treeHead}
 use Rattle.mesh.specs.Means.{linkByDimension}
 use borrow.Author.Needs.{needs}
 use Rattle.columns_check.proofs.sound.tree_heads.Statement.{statement}

@@ -1,6 +1,6 @@
 use Rattle.columns_check.proofs.Summing.{counted-all}
-use Rattle.columns_check.proofs.Runs.{all-run, count-run}
-use Rattle.columns_check.specs.Means.{treeColumn, ghostColumn, treeSide, treeSideUp, treeSideDown}
+use Rattle.columns_read.proofs.Runs.{all-run, count-run}
+use Rattle.columns_read.specs.Means.{treeColumn, ghostColumn, treeSide, treeSideUp, treeSideDown}
 use Rattle.ghost_links.proofs.Checking.{summed-refused}
 use Rattle.mesh.specs.Means.{linkByDimension}
 use Rattle.encoding.proofs.Below.{all-fails}

@@ -1,0 +1,3 @@
+-- Document 02, C-23: parts stored by columns.
+pub mod Columns
+pub mod Means

@@ -5,7 +5,7 @@ use crate::library::Length;
 use crate::checking::{close_checked, deliver_checked, open_checked, words};
 use crate::message::{build_message, library_build, moved};
 use crate::part::{cut_part, put, quarters, range, Set, GHOST, HEADER, TREE};
-use crate::{bricks, floor, floor_row, now, repeats, tangle, Read};
+use crate::{bricks, floor, floor_row, now, repeats, shorter, tangle, Read};
 use std::cell::RefCell;
 use std::hint::black_box;
 
@@ -132,7 +132,7 @@ pub fn times<T, const N: usize>(
             let mut given = prepare();
             let began = now();
             version(&mut given);
-            *best = best.min(now() - began);
+            *best = shorter(*best, now() - began);
         }
     }
     best
@@ -162,11 +162,11 @@ pub fn rank_rows(what: &str, tables: [&[u8]; 2], rank: u32, parts: [&[u8]; 2], e
     assert_eq!(open(tables, rank, &mut a), size);
     assert_eq!(open_checked(tables, rank, 3, &mut b), Ok(size));
     assert!(fresh == a && fresh == b, "the same area");
-    // one buffer for all: of two as large, one may lie in larger pages
+    // One buffer for all: of two as large, one may lie in larger pages. It is cleared before each call, so that all begin alike.
     let area = RefCell::new(a);
     let all = times(
-        wanted,
-        || (),
+        4 * wanted,
+        || area.borrow_mut().fill(0),
         [
             &mut |()| _ = black_box(library_open(black_box(tables), rank, &mut area.borrow_mut())),
             &mut |()| _ = black_box(open(black_box(tables), rank, &mut area.borrow_mut())),
@@ -278,7 +278,7 @@ fn area_rows(name: &str, power: u32, mesh: &[u8]) {
     };
     let (parts, expected) = ([cut(&old, 1), cut(&old, 2)], cut(&new, 2));
     let what = format!("{} of 2^{power} {name}", number(&expected, 20));
-    let wanted = ((1 << 24) >> power).max(8);
+    let wanted = ((1 << 24) >> power).max(32);
     rank_rows(&what, [&old, &new], 2, [&parts[0], &parts[1]], &expected, wanted);
 }
 

@@ -67,6 +67,15 @@ pub fn repeats(wanted: usize) -> usize {
     }
 }
 
+/// The shorter of two times; the clock of a virtual machine may stand still, which is no time.
+fn shorter(best: f64, time: f64) -> f64 {
+    if time > 0.0 {
+        best.min(time)
+    } else {
+        best
+    }
+}
+
 /// The shortest time of one call in nanoseconds, of each version, taken in turn.
 fn times<const N: usize>(wanted: usize, calls: usize, mut versions: [&mut dyn FnMut(); N]) -> [f64; N] {
     let mut best = [f64::INFINITY; N];
@@ -76,7 +85,7 @@ fn times<const N: usize>(wanted: usize, calls: usize, mut versions: [&mut dyn Fn
             for _ in 0..calls {
                 version();
             }
-            *best = best.min((now() - began) / calls as f64);
+            *best = shorter(*best, (now() - began) / calls as f64);
         }
     }
     best

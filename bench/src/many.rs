@@ -4,7 +4,7 @@ use crate::area::{deliver, library_deliver, library_open};
 use crate::fast::number;
 use crate::message::{build_message, library_build};
 use crate::part::cut_part;
-use crate::{brick, bytes_of, now};
+use crate::{brick, bytes_of, now, shorter};
 use std::hint::black_box;
 
 #[repr(C)]
@@ -70,7 +70,7 @@ fn shortest<T>(repeats: usize, make: impl Fn() -> T, mut turn: impl FnMut(&mut T
         let mut it = make();
         let began = now();
         turn(black_box(&mut it));
-        best = best.min(now() - began);
+        best = shorter(best, now() - began);
     }
     best
 }

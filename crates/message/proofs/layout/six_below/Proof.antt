@@ -2,35 +2,25 @@ use Rattle.message.proofs.Checking.{six-read}
 use borrow.Author.Needs.{needs}
 use Rattle.message.proofs.layout.six_below.Statement.{statement}
 use Rattle.message.proofs.layout.six_below.Tie as tie
-use Rattle.message.proofs.layout.six_below.Reads as reads
-use Rattle.message.proofs.layout.six_below.Lts as lts
-use Rattle.records.proofs.read.neighbour_of.Reads as neighbour-of-reads
 
--- src/layout.rt:47:6
 neighbour-of-requires : tie.Need-neighbour-of-requires
 neighbour-of-requires c κs = search needs
 
--- src/layout.rt:48:12
 neighbour-of-requires-2 : tie.Need-neighbour-of-requires-2
 neighbour-of-requires-2 c κs = search needs
 
--- src/layout.rt:49:12
 neighbour-of-requires-3 : tie.Need-neighbour-of-requires-3
 neighbour-of-requires-3 c κs = search needs
 
--- src/layout.rt:50:12
 neighbour-of-requires-4 : tie.Need-neighbour-of-requires-4
 neighbour-of-requires-4 c κs = search needs
 
--- src/layout.rt:51:12
 neighbour-of-requires-5 : tie.Need-neighbour-of-requires-5
 neighbour-of-requires-5 c κs = search needs
 
--- src/layout.rt:52:12
 neighbour-of-requires-6 : tie.Need-neighbour-of-requires-6
 neighbour-of-requires-6 c κs = search needs
 
--- src/layout.rt:43:1
 returns : tie.Need-returns
 returns c =
     let neighbour-of = c .before .before .before .before .before .neighbour-of in

@@ -2,35 +2,25 @@ use Rattle.records.proofs.Forms.{leads-read}
 use borrow.Author.Needs.{needs}
 use Rattle.records.proofs.form.leads_to.Statement.{statement}
 use Rattle.records.proofs.form.leads_to.Tie as tie
-use Rattle.records.proofs.form.leads_to.Reads as reads
-use Rattle.records.proofs.form.leads_to.Lts as lts
-use Rattle.records.proofs.read.neighbour_of.Reads as neighbour-of-reads
 
--- src/form.rt:106:6
 neighbour-of-requires : tie.Need-neighbour-of-requires
 neighbour-of-requires c κs = search needs
 
--- src/form.rt:107:12
 neighbour-of-requires-2 : tie.Need-neighbour-of-requires-2
 neighbour-of-requires-2 c κs = search needs
 
--- src/form.rt:108:12
 neighbour-of-requires-3 : tie.Need-neighbour-of-requires-3
 neighbour-of-requires-3 c κs = search needs
 
--- src/form.rt:109:12
 neighbour-of-requires-4 : tie.Need-neighbour-of-requires-4
 neighbour-of-requires-4 c κs = search needs
 
--- src/form.rt:110:12
 neighbour-of-requires-5 : tie.Need-neighbour-of-requires-5
 neighbour-of-requires-5 c κs = search needs
 
--- src/form.rt:111:12
 neighbour-of-requires-6 : tie.Need-neighbour-of-requires-6
 neighbour-of-requires-6 c κs = search needs
 
--- src/form.rt:102:1
 returns : tie.Need-returns
 returns c =
     let neighbour-of = c .before .before .before .before .before .neighbour-of in

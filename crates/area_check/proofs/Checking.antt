@@ -8,12 +8,12 @@ use mathlib.Core.Bool.{Bool, true, false, not, _&&_, and-assoc}
 use mathlib.Core.List.{List}
 use lib.Dec.{leb, ltb, eqb}
 use lib.ListN.{length, take, drop}
-use borrow.Author.Tests.{leb-true, ltb-true, lt-ltb, le-ltb, ne-eqb}
+use borrow.Author.Tests.{leb-true, ltb-true, lt-leb, lt-ltb, le-ltb, eq-eqb, ne-eqb}
 use Rattle.encoding.specs.Below.{allBelow, sumBelow}
 use Rattle.encoding.specs.Numbers.{u64At}
 use Rattle.encoding.specs.Pieces.{piece}
 use Rattle.encoding.specs.Words.{allZero}
-use Rattle.encoding.proofs.Below.{either, tests, and-snd, all-at, all-intro, all-more, all-same, all-fails, all-to, sum-more, sum-same, sum-none}
+use Rattle.encoding.proofs.Below.{either, tests, and-fst, and-snd, all-at, all-intro, all-more, all-same, all-fails, all-to, sum-more, sum-same, sum-none}
 use Rattle.offsets.specs.Limits.{maxTrees}
 use Rattle.offsets.specs.Table.{ranks, firstTree, endTree}
 use Rattle.offsets.proofs.Tables.{trees-high}
@@ -24,6 +24,8 @@ use Rattle.pattern.proofs.Senders.{sent-count}
 use Rattle.pattern.proofs.Sets.{gets-sends, gets-from}
 use Rattle.records.specs.Record.{coreSize, treeSize, numberOf, inForm}
 use Rattle.records.specs.Shape.{facesIn}
+use Rattle.records.specs.Means.{plainForm}
+use Rattle.records.proofs.Forms.{plain-number, plain-form}
 use Rattle.message.specs.Layout.{afterLast}
 use Rattle.area.specs.Layout.{heardWords, ghostBound, wordsPlace, slotsPlace, ghostSlotsPlace}
 use Rattle.area.specs.Area.{areaDimension, areaK, areaP, areaRank, areaCount, areaGhosts, areaOld, areaNew, areaFirst, areaHeaderSound, heard, bitSound, treeSlotSound, filledSlots, filledBound, ghostHeldSound, areaBound, ghostSlotSound, areaSound}
@@ -88,6 +90,13 @@ module _ (a : List ℕ) {P words : ℕ} (is-P : P ≡ areaP a) (is-words : words
 pub slot-read : (a : List ℕ) (at k : ℕ) {f : Bool} {number : ℕ} → f ≡ inForm k (piece a at coreSize) → number ≡ numberOf (piece a at coreSize) → (f && eqb number k) ≡ slotHeld a at k
 unfolding slotHeld
 slot-read a at k e d = rw (e, d)
+
+-- most records are plain
+pub slot-plain : (a : List ℕ) (at k : ℕ) {p : Bool} → p ≡ plainForm k (piece a at coreSize) → p ≡ true → true ≡ slotHeld a at k
+unfolding slotHeld
+slot-plain a at k is t =
+    let plain : plainForm k (piece a at coreSize) ≡ true = sym is ∙ t in
+    rw (plain-form k (piece a at coreSize) plain, eq-eqb (numberOf (piece a at coreSize)) k (plain-number k (piece a at coreSize) plain))
 
 module _ {a old new : List ℕ} (t : Tabled a old new) {s rank first count : ℕ} (l : s < areaP a) (is-rank : rank ≡ areaRank a)
     (is-first : first ≡ sentFirst old new s rank) (is-count : count ≡ sentCount old new s rank) where
@@ -295,23 +304,51 @@ pub area-header-fails : (a : List ℕ) → areaHeaderSound a ≡ false → false
 unfolding areaSound
 area-header-fails a e = rw e
 
-module _ (a : List ℕ) (ok : areaHeaderSound a ≡ true) {b s : Bool} (is-b : b ≡ allBelow (64 * heardWords (areaP a)) (bitSound a)) (is-s : s ≡ (allBelow (areaCount a) (treeSlotSound a) && leb (areaGhosts a) (filledBound a))) where
-  area-is : areaSound a ≡ (b && s && allBelow (areaBound a) (ghostSlotSound a))
+and-none : (b : Bool) → (b && false) ≡ false
+and-none true = refl
+and-none false = refl
+
+and-all : (b : Bool) → (b && true) ≡ b
+and-all true = refl
+and-all false = refl
+
+module _ (a : List ℕ) (ok : areaHeaderSound a ≡ true) where
+  abbrev bits : Bool
+  bits = allBelow (64 * heardWords (areaP a)) (bitSound a)
+
+  abbrev slots : Bool
+  slots = allBelow (areaCount a) (treeSlotSound a)
+
+  abbrev fewer : Bool
+  fewer = leb (areaGhosts a) (filledBound a)
+
+  abbrev ghostSlots : Bool
+  ghostSlots = allBelow (areaBound a) (ghostSlotSound a)
+
+  area-is : areaSound a ≡ (bits && slots && fewer && ghostSlots)
   unfolding areaSound
-  area-is =
-      rw (ok, is-b, is-s)
-      (ap (λ (x : Bool). x && allBelow (areaBound a) (ghostSlotSound a))
-      (and-assoc (allBelow (64 * heardWords (areaP a)) (bitSound a)) (allBelow (areaCount a) (treeSlotSound a)) (leb (areaGhosts a) (filledBound a))))
+  area-is = rw ok
 
-  pub area-fails : (b && s) ≡ false → false ≡ areaSound a
-  area-fails f = sym (area-is ∙ rw f)
+  -- more ghosts than slots, or not
+  module _ {n d c bound : ℕ} (is-n : n ≡ areaGhosts a) (is-d : d ≡ areaDimension a) (is-c : c ≡ areaCount a) (is-bound : bound ≡ ghostBound (facesIn d) c) where
+    slots-bound : bound ≡ areaBound a
+    unfolding areaBound
+    slots-bound = is-bound ∙ rw (is-d, is-c)
 
-  module _ (t : (b && s) ≡ true) where
-    -- the ghosts have slots
-    pub area-fits : areaGhosts a ≤ areaBound a
-    area-fits =
-        let l : leb (areaGhosts a) (filledBound a) ≡ true = and-snd (allBelow (areaCount a) (treeSlotSound a)) (leb (areaGhosts a) (filledBound a)) (sym is-s ∙ and-snd b s t) in
-        omega (arith, leb-true (areaGhosts a) (filledBound a) l, filled-fits a)
+    pub area-crowded : bound < n → false ≡ areaSound a
+    area-crowded h =
+        let f : fewer ≡ false = lt-leb (areaGhosts a) (filledBound a) (omega (arith, filled-fits a, slots-bound)) in
+        sym (area-is ∙ rw (f, and-none (bits && slots)))
 
-    pub area-read : {g : Bool} → g ≡ allBelow (areaBound a) (ghostSlotSound a) → g ≡ areaSound a
-    area-read e = e ∙ sym (area-is ∙ rw t)
+    pub area-fits : n ≤ bound → areaGhosts a ≤ areaBound a
+    area-fits h = omega (arith, slots-bound)
+
+  module _ {b g : Bool} (is-b : b ≡ bits) (is-g : g ≡ ghostSlots) where
+    pub area-fails : (b && g) ≡ false → false ≡ areaSound a
+    area-fails f = either b (λ t. let none : ghostSlots ≡ false = sym is-g ∙ (rw t at f) in sym (area-is ∙ rw (none, and-none (bits && slots && fewer)))) (λ n. sym (area-is ∙ rw (← is-b, n)))
+
+    pub area-read : {s : Bool} → (b && g) ≡ true → s ≡ (slots && fewer) → s ≡ areaSound a
+    area-read t e =
+        let first : bits ≡ true = sym is-b ∙ and-fst b g t in
+        let last : ghostSlots ≡ true = sym is-g ∙ and-snd b g t in
+        e ∙ sym (area-is ∙ rw (first, last, and-all (slots && fewer)))

@@ -86,6 +86,9 @@ fn slot_held(area: &[u8], at: usize, number: GlobalIndex) -> bool
     ensures { λ r. ⌜ r ≡ slotHeld (now (area .entry)) at (number .0) ⌝ }
 {
     let k = number.0;
+    if records::form::plain(area, at, k) {
+        return true;
+    }
     records::form::in_form(area, at, k) & (records::read::number_of(area, at) == k)
 }
 
@@ -226,6 +229,7 @@ fn ghosts_sound(area: &[u8], old: &[u8], new: &[u8]) -> bool
 
 // ---- the area
 
+// The tree slots come last: a close reads them again, and finds what was read last in the cache.
 pub fn area_sound(area: &[u8]) -> bool
     ensures { λ r. ⌜ r ≡ areaSound (now (area .entry)) ⌝ }
 {
@@ -237,8 +241,11 @@ pub fn area_sound(area: &[u8]) -> bool
     let end = words_place(ranks);
     let old = &area[32..middle];
     let new = &area[middle..end];
-    if !(bits_sound(area, old, new) & ranges_sound(area, old, new)) {
+    if ghost_bound(dimension(area), count(area)) < ghosts(area) as u64 {
         return false;
     }
-    ghosts_sound(area, old, new)
+    if !(bits_sound(area, old, new) & ghosts_sound(area, old, new)) {
+        return false;
+    }
+    ranges_sound(area, old, new)
 }

@@ -3,12 +3,12 @@ use Prim.Native.Nat.{ℕ, zero, suc, _+_, _-_, _*_, _≤_, _<_}
 use native.Mathlib.Nat.{zero-add, suc-add, add-zero, mod-lt}
 use native.Mathlib.Omega.{arith}
 use mathlib.Core.Path.{_≡_, refl, sym, ap, ap₂, _∙_}
-use mathlib.Core.Bool.{Bool, true, false, _&&_, _||_}
+use mathlib.Core.Bool.{Bool, true, false, not, _&&_, _||_}
 use mathlib.Core.List.{List, [], _∷_}
 use lib.Dec.{eqb, ltb}
 use lib.ListN.{length, getD, take, drop, List·getD-eq-default}
 use lib.Seq.{take-nil, take-take, drop-drop}
-use borrow.Author.Tests.{eqb-true, eq-eqb, lt-ltb, le-ltb}
+use borrow.Author.Tests.{not-true, eqb-true, eq-eqb, lt-ltb, le-ltb}
 use Rattle.encoding.specs.Below.{allBelow, anyBelow}
 use Rattle.encoding.specs.Pieces.{piece, Bytes}
 use Rattle.encoding.specs.Numbers.{leValue, leAt, u32At}
@@ -18,7 +18,7 @@ use Rattle.encoding.proofs.Pieces.{piece-at, piece-past}
 use Rattle.encoding.proofs.Numbers.{at-step, at-none, at-one, at-bound}
 use Rattle.records.specs.Shape.{shapeOk, dimensionOf, faceCount}
 use Rattle.records.specs.Record.{coreSize, unused, regionLimit, numberOf, shapeOf, neighbourOf, codeOf, facesOf, faceOf, orientationOf, regionOf, regionOk, zerosOk, unusedOk, toItself, boundaryOk, inForm}
-use Rattle.records.specs.Means.{faceForm, unusedFrom, leadsTo}
+use Rattle.records.specs.Means.{faceForm, unusedFrom, leadsTo, plainForm}
 use Rattle.records.proofs.Shapes.{count-six, count-faces, faces-positive, faces-six, faces-either}
 
 -- ---- records in a buffer
@@ -291,3 +291,47 @@ faces-elsewhere own r c none e =
     (λ f h.
     let other : eqb (neighbourOf r f) own ≡ false = any-false 6 (λ f. eqb (neighbourOf r f) own) none f h in
     rw (c, other))
+
+-- ---- plain records
+
+module _ (own : ℕ) (r : List ℕ) where
+  pub plain-read : {number shape : ℕ} {z g l : Bool} → number ≡ numberOf r → shape ≡ shapeOf r → z ≡ zerosOk r → g ≡ regionOk r → l ≡ anyBelow 6 (leadsTo own r)
+      → (eqb number own && eqb shape 2 && z && g && not l) ≡ plainForm own r
+  unfolding plainForm
+  plain-read n s z g l = rw (n, s, z, g, l)
+
+  module _ (e : plainForm own r ≡ true) where
+    abbrev numbered : Bool
+    numbered = eqb (numberOf r) own
+
+    abbrev shaped : Bool
+    shaped = eqb (shapeOf r) 2
+
+    plain-three : (numbered && shaped && zerosOk r && regionOk r) ≡ true
+    unfolding plainForm
+    plain-three = and-fst (numbered && shaped && zerosOk r && regionOk r) (not (anyBelow 6 (leadsTo own r))) e
+
+    plain-two : (numbered && shaped && zerosOk r) ≡ true
+    plain-two = and-fst (numbered && shaped && zerosOk r) (regionOk r) plain-three
+
+    plain-one : (numbered && shaped) ≡ true
+    plain-one = and-fst (numbered && shaped) (zerosOk r) plain-two
+
+    elsewhere : anyBelow 6 (leadsTo own r) ≡ false
+    unfolding plainForm
+    elsewhere = not-true (anyBelow 6 (leadsTo own r)) (and-snd (numbered && shaped && zerosOk r && regionOk r) (not (anyBelow 6 (leadsTo own r))) e)
+
+    pub plain-number : numberOf r ≡ own
+    plain-number = eqb-true (numberOf r) own (and-fst numbered shaped plain-one)
+
+    pub plain-shape : shapeOf r ≡ 2
+    plain-shape = eqb-true (shapeOf r) 2 (and-snd numbered shaped plain-one)
+
+    pub plain-form : inForm own r ≡ true
+    unfolding shapeOk faceCount boundaryOk toItself leadsTo
+    plain-form =
+        form-intro own r (rw plain-shape) (and-snd (numbered && shaped) (zerosOk r) plain-two) (and-snd (numbered && shaped && zerosOk r) (regionOk r) plain-three)
+        (λ f h.
+        let other : eqb (neighbourOf r f) own ≡ false = any-false 6 (λ f. eqb (neighbourOf r f) own) elsewhere f (omega (arith, count-six (shapeOf r))) in
+        rw other)
+        (λ f h k. let six : faceCount (shapeOf r) ≡ 6 = rw plain-shape in absurd (omega (arith, six)))

@@ -1,10 +1,11 @@
 -- Means, no part of what is promised: what the inner tests of the form check give, and the corners as the code works them out.
 use Prim.Native.Nat.{ℕ, _+_, _-_, _/_, _%_}
-use mathlib.Core.Bool.{Bool, true, cond}
+use mathlib.Core.Bool.{Bool, true, cond, not, _&&_}
 use mathlib.Core.List.{List}
 use lib.Dec.{leb, ltb, eqb}
+use Rattle.encoding.specs.Below.{anyBelow}
 use Rattle.records.specs.Shape.{faceCount}
-use Rattle.records.specs.Record.{shapeOf, neighbourOf, boundaryOk, unusedOk}
+use Rattle.records.specs.Record.{numberOf, shapeOf, neighbourOf, zerosOk, regionOk, boundaryOk, unusedOk}
 
 -- one face of a record in form, of those that the shape has or not
 unfoldable pub faceForm : ℕ → List ℕ → ℕ → Bool
@@ -17,6 +18,10 @@ unusedFrom c r f = cond (ltb f c) true (unusedOk r f)
 -- the neighbour of face f is k
 unfoldable pub leadsTo : ℕ → List ℕ → ℕ → Bool
 leadsTo k r f = eqb (neighbourOf r f) k
+
+-- a hexahedron with number own, of which no face leads to itself: such a record is in form
+unfoldable pub plainForm : ℕ → List ℕ → Bool
+plainForm own r = eqb (numberOf r) own && eqb (shapeOf r) 2 && zerosOk r && regionOk r && not (anyBelow 6 (leadsTo own r))
 
 -- the corners of the polygon that a solid is drawn out from
 unfoldable pub baseCorners : ℕ → ℕ

@@ -2,6 +2,7 @@
 use crate::read::code_of;
 use crate::read::face_of;
 use crate::read::neighbour_of;
+use crate::read::number_of;
 use crate::read::orientation_of;
 use crate::read::region_of;
 use crate::read::shape_of;
@@ -13,7 +14,7 @@ ghost use lib.ListN.{length};
 ghost use Rattle.encoding.specs.Below.{allBelow, anyBelow};
 ghost use Rattle.encoding.specs.Pieces.{piece};
 ghost use Rattle.records.specs.Record.{coreSize, zerosOk, regionOk, unusedOk, boundaryOk, inForm};
-ghost use Rattle.records.specs.Means.{faceForm, unusedFrom, leadsTo};
+ghost use Rattle.records.specs.Means.{faceForm, unusedFrom, leadsTo, plainForm};
 
 // The neighbour of a face without use.
 pub const UNUSED: u32 = 4294967295;
@@ -109,6 +110,18 @@ fn leads_to(bs: &[u8], at: usize, k: u32) -> bool
         | (neighbour_of(bs, at, 3) == k)
         | (neighbour_of(bs, at, 4) == k)
         | (neighbour_of(bs, at, 5) == k)
+}
+
+// A hexahedron with this number, none of whose faces leads to itself: most records are such. It is in form.
+pub fn plain(bs: &[u8], at: usize, own: u32) -> bool
+    requires { ⌜ at + coreSize ≤ length (now bs) ⌝ }
+    ensures { λ r. ⌜ r ≡ plainForm own (piece (now (bs .entry)) at coreSize) ⌝ }
+{
+    (number_of(bs, at) == own)
+        & (shape_of(bs, at) == 2)
+        & zeros_ok(bs, at)
+        & region_ok(bs, at)
+        & !leads_to(bs, at, own)
 }
 
 // Whether the record is in form. Only a face that leads to the record itself can be a boundary. Its own number is the local index in a part's tree records and the global number everywhere else.

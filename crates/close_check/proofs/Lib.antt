@@ -3,6 +3,7 @@ pub mod Places
 pub mod Links
 pub mod FromOneEnd
 pub mod Loops
+pub mod Plain
 pub mod ByDimension
 pub mod AreaSlots
 pub mod Joining

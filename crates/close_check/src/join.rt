@@ -13,13 +13,96 @@ ghost use Prim.Native.Nat.{_+_, _*_, _≤_, _<_};
 ghost use lib.ListN.{length};
 ghost use Rattle.encoding.specs.Below.{allBelow, countBelow, sumBelow};
 ghost use Rattle.encoding.specs.Pieces.{piece};
-ghost use Rattle.records.specs.Record.{coreSize, treeSize, neighbourOf};
+ghost use Rattle.offsets.specs.Limits.{maxTrees};
+ghost use Rattle.records.specs.Record.{coreSize, treeSize, shapeOf, neighbourOf};
 ghost use Rattle.part.specs.Means.{inRange};
 ghost use Rattle.positions.specs.Means.{Indexed};
 ghost use Rattle.mesh.specs.Means.{linkByDimension, SeenAs};
 ghost use Rattle.area.specs.Area.{areaK, areaNew, areaFirst};
 ghost use Rattle.ghost_links.specs.Means.{SummedAs};
-ghost use Rattle.close_check.specs.Means.{Slots, SlotsNumbered, linkOfTree, recordsJoin, treeLeadsUp, treeLeadsDown, treeFace, treeFromOneEnd, treeUps, treeDowns, joinSound, Complete, GhostsIndexed};
+ghost use Rattle.close_check.specs.Means.{Slots, SlotsNumbered, linkOfTree, recordsJoin, treeLeadsUp, treeLeadsDown, treeFace, treeFromOneEnd, treeUps, treeDowns, PlainAs, RunAs, joinSound, Complete, GhostsIndexed};
+
+// ---- hexahedra whose neighbours are hexahedra of the range, with links of orientation 0: most trees of a brick. A tree that these tests don't pass is looked at by those behind them.
+
+// The code of such a link is the neighbour's face.
+fn plain_link(area: &[u8], back: u32, from: usize, face: u32, to: usize) -> bool
+    requires { ⌜ (from + coreSize ≤ length (now area)) × (face < 6) × (to + coreSize ≤ length (now area)) × (shapeOf (piece (now area) from coreSize) ≡ 2) ⌝ }
+    ensures { λ r. ⌜ (r ≡ true → linkByDimension 3 back (piece (now (area .entry)) from coreSize) face (piece (now (area .entry)) to coreSize) ≡ true) ⌝ }
+{
+    let there = records::read::code_of(area, from, face);
+    if 6 <= there {
+        return false;
+    }
+    (records::read::shape_of(area, to) == 2)
+        & (records::read::neighbour_of(area, to, there) == back)
+        & (records::read::code_of(area, to, there) == face)
+}
+
+fn plain_links(area: &[u8], at: usize, first: u32, count: u32, tree: LocalIndex) -> Seen
+    requires { ⌜ (at + treeSize * count ≤ length (now area)) × (first + count ≤ maxTrees) × (tree .0 < count) × (shapeOf (piece (now area) (at + treeSize * (tree .0)) coreSize) ≡ 2) ⌝ }
+    ensures { λ r. ⌜ PlainAs (now (area .entry)) at first count (tree .0) (r .ok) (r .ups) (r .downs) ⌝ }
+{
+    let i = tree.0;
+    let from = at + 64 * (i as usize);
+    let mut next = 0;
+    let mut ups = 0;
+    let mut downs = 0;
+    while next < 6 {
+        let face = next;
+        next += 1;
+        let k = records::read::neighbour_of(area, from, face);
+        let place = place_near(0, first, k);
+        if i < place {
+            if count <= place {
+                return refused();
+            }
+            ups += 1;
+        } else {
+            if !plain_link(area, first + i, from, face, at + 64 * (place as usize)) {
+                return refused();
+            }
+            downs += one(place < i);
+        }
+    }
+    Seen {
+        ok: true,
+        ups,
+        downs,
+    }
+}
+
+// A run of trees: those before `next` pass, and have so many links up and down.
+pub struct Run {
+    pub next: u32,
+    pub ups: u64,
+    pub downs: u64,
+}
+
+// Goes on with a run as far as the trees are plain. By itself, so that few values are at hand in this loop, and all in registers.
+fn plain_run(area: &[u8], at: usize, first: u32, count: u32, dimension: u32, begun: Run) -> Run
+    requires { ⌜ (at + treeSize * count ≤ length (now area)) × (first + count ≤ maxTrees) × (begun .next ≤ count) × (begun .ups ≤ 6 * (begun .next)) × (begun .downs ≤ 6 * (begun .next)) ⌝ }
+    ensures { λ r. ⌜ RunAs (now (area .entry)) at first count dimension (begun .next) (begun .ups) (begun .downs) (r .next) (r .ups) (r .downs) ⌝ }
+{
+    let mut next = begun.next;
+    let mut ups = begun.ups;
+    let mut downs = begun.downs;
+    if dimension != 3 {
+        return Run { next, ups, downs };
+    }
+    while next < count {
+        if records::read::shape_of(area, at + 64 * (next as usize)) != 2 {
+            return Run { next, ups, downs };
+        }
+        let seen = plain_links(area, at, first, count, LocalIndex(next));
+        if !seen.ok {
+            return Run { next, ups, downs };
+        }
+        ups += seen.ups;
+        downs += seen.downs;
+        next += 1;
+    }
+    Run { next, ups, downs }
+}
 
 // ---- trees
 
@@ -194,6 +277,26 @@ fn trees_join(
     let mut ups = 0;
     let mut downs = 0;
     while i < count {
+        let run = plain_run(
+            area,
+            at,
+            first,
+            count,
+            dimension,
+            Run {
+                next: i,
+                ups,
+                downs,
+            },
+        );
+        let tree = run.next;
+        if tree == count {
+            return Seen {
+                ok: true,
+                ups: run.ups,
+                downs: run.downs,
+            };
+        }
         let seen = tree_joins(
             area,
             at,
@@ -203,14 +306,14 @@ fn trees_join(
             dimension,
             marks,
             behind,
-            LocalIndex(i),
+            LocalIndex(tree),
         );
         if !seen.ok {
             return refused();
         }
-        ups += seen.ups;
-        downs += seen.downs;
-        i += 1;
+        ups = run.ups + seen.ups;
+        downs = run.downs + seen.downs;
+        i = tree + 1;
     }
     Seen {
         ok: true,

@@ -1,53 +1,30 @@
 -- Plain trees: hexahedra whose links lead to hexahedra of the range, with orientation 0.
 use Prim.Native.Nat.{ℕ, _+_, _*_, _≤_, _<_}
-use native.Mathlib.Nat.{mod-eq-of-lt, div-eq-of-lt}
 use native.Mathlib.Omega.{arith}
-use mathlib.Core.Path.{_≡_, refl, sym, ap, _∙_}
-use mathlib.Core.Bool.{Bool, true, false, _&&_}
+use mathlib.Core.Path.{_≡_, refl, sym, _∙_}
+use mathlib.Core.Bool.{Bool, true, false}
 use mathlib.Core.List.{List}
-use lib.Dec.{eqb}
-use borrow.Author.Tests.{eqb-true, eq-eqb}
 use Rattle.encoding.specs.Below.{allBelow, countBelow, sumBelow}
 use Rattle.encoding.specs.Pieces.{piece}
-use Rattle.encoding.proofs.Below.{clash, and-fst, and-snd, and-intro, all-more}
-use Rattle.records.specs.Shape.{dimensionOf, faceCount, facesIn}
-use Rattle.records.specs.Record.{coreSize, treeSize, shapeOf, neighbourOf, codeOf}
-use Rattle.mesh.specs.Means.{answeredThere, linkByDimension, SeenAs}
-use Rattle.mesh.proofs.ByDimension.{both-hexahedra}
-use Rattle.mesh.proofs.Checking.{is-answered, sum-next}
+use Rattle.encoding.proofs.Below.{clash, all-more}
+use Rattle.records.specs.Shape.{dimensionOf, faceCount}
+use Rattle.records.specs.Record.{coreSize, treeSize, shapeOf}
+use Rattle.mesh.specs.Means.{linkByDimension, SeenAs}
+use Rattle.mesh.proofs.Checking.{sum-next}
 use Rattle.ghost_links.specs.Means.{SummedAs}
 use Rattle.ghost_links.proofs.Checking.{summed-all}
-use Rattle.close_check.specs.Means.{treeFrom, treeFace, treeFromOneEnd, treeLeadsUp, treeLeadsDown, treeUps, treeDowns, PlainAs, Reached, RunAs}
-
--- ---- a link
-
--- the code of a link with orientation 0 is the neighbour's face, and the neighbour's code there is this face
-pub plain-down : {there a b c : ℕ} (back f : ℕ) (r s : List ℕ) → there ≡ codeOf r f → there < 6 → f < 6 → shapeOf r ≡ 2
-    → a ≡ shapeOf s → b ≡ neighbourOf s there → c ≡ codeOf s there → (eqb a 2 && eqb b back && eqb c f) ≡ true → linkByDimension 3 back r f s ≡ true
-unfolding facesIn answeredThere
-plain-down {there} {a} {b} {c} back f r s code small six shape is-a is-b is-c e =
-    let two : (eqb a 2 && eqb b back) ≡ true = and-fst (eqb a 2 && eqb b back) (eqb c f) e in
-    let other : shapeOf s ≡ 2 = sym is-a ∙ eqb-true a 2 (and-fst (eqb a 2) (eqb b back) two) in
-    let leads : neighbourOf s there ≡ back = sym is-b ∙ eqb-true b back (and-snd (eqb a 2) (eqb b back) two) in
-    let is-face : codeOf s there ≡ f = sym is-c ∙ eqb-true c f (and-snd (eqb a 2 && eqb b back) (eqb c f) e) in
-    let same : codeOf s there + there ≡ there + f = omega (arith, is-face) in
-    let answered : answeredThere back there f s there ≡ true =
-    and-intro (eqb (neighbourOf s there) back) (eqb (codeOf s there + there) (there + f)) (eq-eqb (neighbourOf s there) back leads) (eq-eqb (codeOf s there + there) (there + f) same) in
-    let both : (eqb (shapeOf r) (shapeOf s) && eqb (shapeOf r) 2) ≡ true =
-    and-intro (eqb (shapeOf r) (shapeOf s)) (eqb (shapeOf r) 2) (eq-eqb (shapeOf r) (shapeOf s) (shape ∙ sym other)) (eq-eqb (shapeOf r) 2 shape) in
-    sym (is-answered 3 back r s f there there 0 code (sym (mod-eq-of-lt small)) (sym (div-eq-of-lt small)) answered)
-    ∙ sym (both-hexahedra 0 (shapeOf r) f (shapeOf s) there both (six, small))
+use Rattle.close_check.specs.Means.{treeFrom, treeFace, treeFromOneEnd, treeLeadsUp, treeLeadsDown, treeUps, treeDowns, PlainSlot, Reached, RunAs}
 
 -- ---- a tree
 
 -- nothing is said of a tree that isn't plain
-pub plain-none : {ok : Bool} {ups downs : ℕ} {a : List ℕ} {at first n i : ℕ} → (ok ≡ false) × ((ups ≡ 0) × (downs ≡ 0)) → PlainAs a at first n i ok ups downs
+pub plain-none : {ok : Bool} {ups downs : ℕ} {a : List ℕ} {at first n i : ℕ} → (ok ≡ false) × ((ups ≡ 0) × (downs ≡ 0)) → PlainSlot a at first n i ok ups downs
 plain-none r = record { passes = λ t. clash t (r .0); upward = λ t. clash t (r .0); downward = λ t. clash t (r .0); few = (omega (arith, r .1 .0), omega (arith, r .1 .1)) }
 
 -- the loop over its faces has come to its end
 pub plain-all : {ups downs : ℕ} (a : List ℕ) (at first n i face : ℕ) → face ≤ 6 → 6 ≤ face → ((g : ℕ) → allBelow face (treeFace (linkByDimension 3) a at first n g i) ≡ true)
     → (ups ≡ countBelow face (treeLeadsUp a at first n i)) × (ups ≤ face) → (downs ≡ countBelow face (treeLeadsDown a at first n i)) × (downs ≤ face)
-    → PlainAs a at first n i true ups downs
+    → PlainSlot a at first n i true ups downs
 plain-all a at first n i face h k passed u v =
     let e : face ≡ 6 = omega arith in
     record { passes = λ t g. rw (← e) (passed g); upward = λ t. rw (← e) (u .0); downward = λ t. rw (← e) (v .0); few = (omega (arith, u .1), omega (arith, v .1)) }
@@ -57,7 +34,7 @@ module _ (a : List ℕ) (at first n i : ℕ) (shape : shapeOf (piece a (at + tre
   unfolding treeFrom
   hexahedron = shape
 
-  module _ {ok : Bool} {ups downs : ℕ} (s : PlainAs a at first n i ok ups downs) (t : ok ≡ true) where
+  module _ {ok : Bool} {ups downs : ℕ} (s : PlainSlot a at first n i ok ups downs) (t : ok ≡ true) where
     plain-passes : (g : ℕ) → treeFromOneEnd (linkByDimension 3) a at first n g 3 i ≡ true
     unfolding treeFromOneEnd dimensionOf faceCount
     plain-passes g = rw hexahedron (s .passes t g)
@@ -85,7 +62,7 @@ run-stays a at first n D start up down h u d = record { on = omega arith; within
 
 -- a run that goes on by a plain tree
 pub run-on : {shape D up down upward downward ups downs : ℕ} {ok : Bool} (a : List ℕ) (at first n start i : ℕ) → D ≡ 3
-    → shape ≡ shapeOf (piece a (at + treeSize * i) coreSize) → shape ≡ 2 → PlainAs a at first n i ok ups downs → ok ≡ true → i < n
+    → shape ≡ shapeOf (piece a (at + treeSize * i) coreSize) → shape ≡ 2 → PlainSlot a at first n i ok ups downs → ok ≡ true → i < n
     → RunAs a at first n D start up down i upward downward → RunAs a at first n D start up down (i + 1) (upward + ups) (downward + downs)
 run-on {upward = upward} {downward = downward} {ups = ups} {downs = downs} a at first n start i three is two s t h run =
     record {

@@ -123,7 +123,7 @@ module _ (link : ℕ → List ℕ → ℕ → List ℕ → Bool) where
 -- ---- plain trees: hexahedra whose links lead to hexahedra of the range, with orientation 0. Their tests answer in one direction: where they pass, the tree does; else nothing is said
 
 -- the plain test of the six faces of tree i
-pub record PlainAs (a : List ℕ) (at first n i : ℕ) (ok : Bool) (ups downs : ℕ) : Type 0 where
+pub record PlainSlot (a : List ℕ) (at first n i : ℕ) (ok : Bool) (ups downs : ℕ) : Type 0 where
   pub passes : ok ≡ true → (g : ℕ) → allBelow 6 (treeFace (linkByDimension 3) a at first n g i) ≡ true
   pub upward : ok ≡ true → ups ≡ countBelow 6 (treeLeadsUp a at first n i)
   pub downward : ok ≡ true → downs ≡ countBelow 6 (treeLeadsDown a at first n i)

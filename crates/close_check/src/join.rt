@@ -1,6 +1,7 @@
 // Whether the records in an area's slots make a sound part. Trees and ghosts have global numbers here, and links are followed by these. Each link is looked at from one end: between a tree and a ghost from the tree, else from the record with the higher number. Where as many links lead up as down, each link up is then the answer to one down (proofs/FromOneEnd.antt).
 use ghost_links::check::ghosts_linked;
 use mesh::link::link_ok;
+use mesh::plain::plain_link;
 use mesh::sound::Seen;
 use mesh::sound::one;
 use mesh::sound::refused;
@@ -20,27 +21,13 @@ ghost use Rattle.positions.specs.Means.{Indexed};
 ghost use Rattle.mesh.specs.Means.{linkByDimension, SeenAs};
 ghost use Rattle.area.specs.Area.{areaK, areaNew, areaFirst};
 ghost use Rattle.ghost_links.specs.Means.{SummedAs};
-ghost use Rattle.close_check.specs.Means.{Slots, SlotsNumbered, linkOfTree, recordsJoin, treeLeadsUp, treeLeadsDown, treeFace, treeFromOneEnd, treeUps, treeDowns, PlainAs, RunAs, joinSound, Complete, GhostsIndexed};
+ghost use Rattle.close_check.specs.Means.{Slots, SlotsNumbered, linkOfTree, recordsJoin, treeLeadsUp, treeLeadsDown, treeFace, treeFromOneEnd, treeUps, treeDowns, PlainSlot, RunAs, joinSound, Complete, GhostsIndexed};
 
 // ---- hexahedra whose neighbours are hexahedra of the range, with links of orientation 0: most trees of a brick. A tree that these tests don't pass is looked at by those behind them.
 
-// The code of such a link is the neighbour's face.
-fn plain_link(area: &[u8], back: u32, from: usize, face: u32, to: usize) -> bool
-    requires { ⌜ (from + coreSize ≤ length (now area)) × (face < 6) × (to + coreSize ≤ length (now area)) × (shapeOf (piece (now area) from coreSize) ≡ 2) ⌝ }
-    ensures { λ r. ⌜ (r ≡ true → linkByDimension 3 back (piece (now (area .entry)) from coreSize) face (piece (now (area .entry)) to coreSize) ≡ true) ⌝ }
-{
-    let there = records::read::code_of(area, from, face);
-    if 6 <= there {
-        return false;
-    }
-    (records::read::shape_of(area, to) == 2)
-        & (records::read::neighbour_of(area, to, there) == back)
-        & (records::read::code_of(area, to, there) == face)
-}
-
 fn plain_links(area: &[u8], at: usize, first: u32, count: u32, tree: LocalIndex) -> Seen
     requires { ⌜ (at + treeSize * count ≤ length (now area)) × (first + count ≤ maxTrees) × (tree .0 < count) × (shapeOf (piece (now area) (at + treeSize * (tree .0)) coreSize) ≡ 2) ⌝ }
-    ensures { λ r. ⌜ PlainAs (now (area .entry)) at first count (tree .0) (r .ok) (r .ups) (r .downs) ⌝ }
+    ensures { λ r. ⌜ PlainSlot (now (area .entry)) at first count (tree .0) (r .ok) (r .ups) (r .downs) ⌝ }
 {
     let i = tree.0;
     let from = at + 64 * (i as usize);

@@ -9,7 +9,7 @@ use lib.Dec.{leb, ltb, eqb}
 use borrow.Author.Tests.{ltb-true, lt-ltb, le-ltb}
 use Rattle.encoding.specs.Below.{allBelow, anyBelow, countBelow, leastBelow, sumBelow}
 use Rattle.encoding.specs.Pieces.{piece}
-use Rattle.encoding.proofs.Below.{tests, either, clash, all-fails, all-to, and-fst, any-same, least-lt, least-same, count-more}
+use Rattle.encoding.proofs.Below.{tests, either, clash, all-fails, all-to, and-fst, any-same, least-lt, least-same}
 use Rattle.bits.specs.Bits.{inSet}
 use Rattle.records.specs.Shape.{faceCount}
 use Rattle.records.specs.Record.{coreSize, numberOf, shapeOf, neighbourOf, boundaryOk, inForm}
@@ -155,10 +155,6 @@ module _ (bs : List ℕ) (at D first n g K j : ℕ) where
         let x : formAlone D (coreFrom bs at j) ≡ true = alone-here e ∙ h in
         let y : (allBelow faces (ghostLow (coreFrom bs at) K j) && anyBelow faces (neighbourIn first (first + n) (coreFrom bs at j))) ≡ true = sym (s .tested) ∙ passes in
         rw (faces-here, x, y, l) (record { tested = refl; upward = λ q. s .upward passes; downward = λ q. s .downward passes; few = s .few })
-
--- a number that doesn't count
-pub count-stays : {n : ℕ} (i : ℕ) (f : ℕ → Bool) → f i ≡ false → n ≡ countBelow i f → n ≡ countBelow (i + 1) f
-count-stays i f e h = rw (count-more i f, e) (omega (arith, h))
 
 -- ---- over all records
 

@@ -9,10 +9,10 @@ use lib.ListN.{length}
 use borrow.Author.Tests.{leb-true, lt-ltb, le-ltb, ne-eqb}
 use Rattle.encoding.specs.Below.{allBelow, countBelow, sumBelow}
 use Rattle.encoding.specs.Pieces.{piece}
-use Rattle.encoding.proofs.Below.{clash, all-intro, all-fails, all-to, count-more, sum-more}
+use Rattle.encoding.proofs.Below.{clash, all-fails, all-to, count-more, sum-more}
 use Rattle.offsets.specs.Limits.{treeCountOk}
 use Rattle.records.specs.Shape.{shapeOk, dimensionOf, faceCount, facesIn}
-use Rattle.records.specs.Record.{coreSize, treeSize, numberOf, shapeOf, neighbourOf, codeOf, zerosOk, regionOk, unusedOk, boundaryOk, inForm}
+use Rattle.records.specs.Record.{coreSize, treeSize, numberOf, shapeOf, neighbourOf, codeOf, zerosOk, regionOk, boundaryOk, inForm}
 use Rattle.records.specs.Means.{unusedFrom}
 use Rattle.mesh.specs.Mesh.{meshHeader, meshDimension, meshTrees, dimensionOk, meshCore, headerSound, meshSound}
 use Rattle.mesh.specs.Means.{cornersFit, cornersByDimension, answeredThere, answeredByDimension, linkByDimension, faceByDimension, treeByDimension, leadsUp, leadsDown, linksUp, linksDown, aloneByDimension, leadsInside, listedLink, downSound, listedSound, faceFromAbove, treeFromAbove, treesFromAbove, SeenAs}
@@ -65,6 +65,10 @@ module _ (core : ℕ → List ℕ) (d k K n : ℕ) (tree : k < K) where
 -- one more number that may count
 pub count-next : {n r : ℕ} {b : Bool} (i : ℕ) (f : ℕ → Bool) → r ≡ cond b 1 0 → b ≡ f i → n ≡ countBelow i f → n + r ≡ countBelow (i + 1) f
 count-next i f e p h = rw (count-more i f, h, e, p)
+
+-- a number that doesn't count
+pub count-stays : {n : ℕ} (i : ℕ) (f : ℕ → Bool) → f i ≡ false → n ≡ countBelow i f → n ≡ countBelow (i + 1) f
+count-stays i f e h = rw (count-more i f, e) (omega (arith, h))
 
 -- one more summand
 pub sum-next : {n r : ℕ} (i : ℕ) (g : ℕ → ℕ) → r ≡ g i → n ≡ sumBelow i g → n + r ≡ sumBelow (i + 1) g

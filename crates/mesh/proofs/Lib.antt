@@ -6,4 +6,5 @@ pub mod ByDimension
 pub mod FromAbove
 pub mod Packing
 pub mod Checking
+pub mod PlainTrees
 pub mod Examples

@@ -97,3 +97,18 @@ pub record SeenAs (test : Bool) (up down : ℕ) (ok : Bool) (ups downs : ℕ) : 
   pub upward : ok ≡ true → ups ≡ up
   pub downward : ok ≡ true → downs ≡ down
   pub few : (ups ≤ 6) × (downs ≤ 6)
+
+-- ---- plain trees: hexahedra whose neighbours are hexahedra, by links of orientation 0. Their tests answer in one direction: where they pass, the tree's links do; else nothing is said
+
+-- a link up leads to a tree below n, any other has orientation 0 and obeys the rules
+unfoldable pub plainFace : (ℕ → List ℕ) → ℕ → ℕ → ℕ → Bool
+plainFace core n i f =
+    cond (leadsUp core i f) (ltb (neighbourOf (core i) f) n) (ltb (codeOf (core i) f) 6 && linkByDimension 3 i (core i) f (core (neighbourOf (core i) f)))
+
+-- the test of tree i of n
+pub record PlainAs (core : ℕ → List ℕ) (n i : ℕ) (ok : Bool) (ups downs : ℕ) : Type 0 where
+  pub hexahedron : ok ≡ true → shapeOf (core i) ≡ 2
+  pub passes : ok ≡ true → allBelow 6 (plainFace core n i) ≡ true
+  pub upward : ok ≡ true → ups ≡ countBelow 6 (leadsUp core i)
+  pub downward : ok ≡ true → downs ≡ countBelow 6 (leadsDown core i)
+  pub few : (ups ≤ 6) × (downs ≤ 6)

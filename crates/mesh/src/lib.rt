@@ -4,6 +4,7 @@ ghost use Rattle.mesh.specs.Mesh.{meshRefusal};
 
 pub mod layout;
 pub mod link;
+pub mod plain;
 pub mod sound;
 
 // Check a whole mesh (7): 0 or the refusal.

@@ -6,6 +6,7 @@ use crate::layout::trees;
 use crate::link::answered_there;
 use crate::link::corners_fit;
 use crate::link::parted;
+use crate::plain::plain_links;
 ghost use mathlib.Core.Path.{_≡_};
 ghost use mathlib.Core.Bool.{true, false, cond};
 ghost use Prim.Native.Nat.{_+_, _*_, _≤_, _<_};
@@ -144,10 +145,25 @@ fn listed_sound(mesh: &[u8], dimension: u32, trees: u32, k: u32, faces: u32, lis
     true
 }
 
+// Whether the tree is plain; if not, nothing is said. Most trees of a brick are.
+fn plain_faces(mesh: &[u8], dimension: u32, trees: u32, k: u32, faces: u32) -> Seen
+    requires { ⌜ (length (now mesh) ≡ meshHeader + treeSize * trees) × (k < trees) ⌝ }
+    ensures { λ r. ⌜ (r .ok ≡ true → SeenAs (allBelow faces (faceFromAbove (meshCore (now (mesh .entry))) dimension trees k)) (countBelow faces (leadsUp (meshCore (now (mesh .entry))) k)) (countBelow faces (leadsDown (meshCore (now (mesh .entry))) k)) (r .ok) (r .ups) (r .downs)) ⌝ }
+{
+    if !((faces == 6) & (dimension == 3)) {
+        return refused();
+    }
+    plain_links(mesh, 8, trees, k)
+}
+
 fn faces_sound(mesh: &[u8], dimension: u32, trees: u32, k: u32, faces: u32) -> Seen
     requires { ⌜ (length (now mesh) ≡ meshHeader + treeSize * trees) × (k < trees) × (faces ≤ 6) ⌝ }
     ensures { λ r. ⌜ SeenAs (allBelow faces (faceFromAbove (meshCore (now (mesh .entry))) dimension trees k)) (countBelow faces (leadsUp (meshCore (now (mesh .entry))) k)) (countBelow faces (leadsDown (meshCore (now (mesh .entry))) k)) (r .ok) (r .ups) (r .downs) ⌝ }
 {
+    let plain = plain_faces(mesh, dimension, trees, k, faces);
+    if plain.ok {
+        return plain;
+    }
     let links = sorted(mesh, trees, k, faces);
     if !links.ok {
         return refused();

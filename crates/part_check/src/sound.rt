@@ -4,6 +4,7 @@ use ghost_links::check::ghosts_linked;
 use mesh::link::answered_there;
 use mesh::link::corners_fit;
 use mesh::link::parted;
+use mesh::plain::plain_links;
 use mesh::sound::Seen;
 use mesh::sound::one;
 use mesh::sound::refused;
@@ -22,7 +23,7 @@ use records::index::LocalIndex;
 use records::index::to_local;
 ghost use mathlib.Core.Path.{_≡_};
 ghost use mathlib.Core.Bool.{true, cond, _&&_};
-ghost use Prim.Native.Nat.{_+_, _*_, _≤_, _<_};
+ghost use Prim.Native.Nat.{ℕ, _+_, _*_, _≤_, _<_};
 ghost use lib.Dec.{ltb, eqb};
 ghost use lib.ListN.{length};
 ghost use Rattle.encoding.specs.Below.{allBelow, countBelow, leastBelow, sumBelow};
@@ -210,6 +211,17 @@ fn tree_faces(
     }
 }
 
+// Whether the links of a tree are plain, all to trees of the part; if not, nothing is said. Most trees of a brick are.
+fn plain_tree(part: &[u8], count: u32, dimension: u32, tree: LocalIndex, faces: u32) -> Seen
+    requires { ⌜ (treePlace count ≤ length (now part)) × (tree .0 < count) ⌝ }
+    ensures { λ r. ⌜ (r .ok ≡ true → (g : ℕ) → SeenAs (allBelow faces (treeFaceDown (linkByDimension dimension) count g (storedTree (now (part .entry))) (ghostCore (now (part .entry)) count) (tree .0))) (countBelow faces (treeUp count (storedTree (now (part .entry))) (tree .0))) (countBelow faces (treeDown count (storedTree (now (part .entry))) (tree .0))) (r .ok) (r .ups) (r .downs)) ⌝ }
+{
+    if !((faces == 6) & (dimension == 3)) {
+        return refused();
+    }
+    plain_links(part, 32, count, tree.0)
+}
+
 fn tree_sound(
     part: &[u8],
     first: u32,
@@ -226,6 +238,10 @@ fn tree_sound(
         return refused();
     }
     let faces = records::shape::face_count(records::read::shape_of(part, at));
+    let plain = plain_tree(part, count, dimension, tree, faces);
+    if plain.ok {
+        return plain;
+    }
     tree_faces(part, first, count, ghosts, dimension, tree, faces)
 }
 

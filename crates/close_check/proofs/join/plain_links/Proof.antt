@@ -1,15 +1,14 @@
-use Rattle.ghost_links.proofs.Checking.{count-stays}
 use Rattle.close_check.proofs.Plain.{plain-none, plain-all}
 use Rattle.close_check.proofs.Links.{up-up, up-down, up-face, down-is, down-up, down-face}
 use Rattle.close_check.specs.Means.{treeFace, treeLeadsUp, treeLeadsDown}
-use Rattle.mesh.proofs.Checking.{count-next}
+use Rattle.mesh.proofs.Checking.{count-next, count-stays}
 use Rattle.mesh.specs.Means.{linkByDimension}
 use Rattle.encoding.proofs.Below.{all-more}
 use Rattle.encoding.specs.Below.{allBelow, countBelow}
 use borrow.Author.Tests.{not-false}
 use native.Mathlib.Omega.{arith}
 use mathlib.Core.Bool.{true}
-use mathlib.Core.Path.{_≡_, refl, sym, _∙_}
+use mathlib.Core.Path.{_≡_, refl, sym}
 use Prim.Native.Nat.{ℕ, _≤_, _-_}
 use borrow.Author.Needs.{needs}
 use Rattle.close_check.proofs.join.plain_links.Statement.{statement}
@@ -124,7 +123,7 @@ loop-again-2 c =
     let inv = loop .inv in
     let read = neighbour-of .ensures in
     let placed = place-near .ensures in
-    let passes = sym (plain-link .ensures (not-false _ (if3 .left))) in (
+    let passes = sym (plain-link .ensures (not-false _ (if3 .left)) .1) in (
       omega arith,
       (
         (λ g. all-more _ _ (inv .1 .0 g) (down-face _ _ _ _ _ _ read (omega (arith, pre .1)) (omega arith) placed (omega (arith, pre .2)) (if1 .left) _ _ passes)),

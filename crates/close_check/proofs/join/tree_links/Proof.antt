@@ -6,10 +6,9 @@ use borrow.Author.Tests.{not-true, not-false}
 use Rattle.encoding.specs.Below.{allBelow, countBelow}
 use Rattle.encoding.proofs.Below.{all-more, all-fails}
 use Rattle.mesh.specs.Means.{linkByDimension}
-use Rattle.mesh.proofs.Checking.{seen-refused, seen-all, count-next}
+use Rattle.mesh.proofs.Checking.{seen-refused, seen-all, count-next, count-stays}
 use Rattle.close_check.specs.Means.{treeFace, treeLeadsUp, treeLeadsDown}
 use Rattle.close_check.proofs.Links.{place-out, out-up, out-down, out-face, up-up, up-down, up-face, down-is, down-up, down-face}
-use Rattle.ghost_links.proofs.Checking.{count-stays}
 use borrow.Author.Needs.{needs}
 use Rattle.close_check.proofs.join.tree_links.Statement.{statement}
 use Rattle.close_check.proofs.join.tree_links.Tie as tie

@@ -1,9 +1,8 @@
-use Rattle.ghost_links.proofs.Checking.{count-stays}
 use Rattle.part_check.proofs.Checking.{neighbour-low, up-counts, up-no-down, up-passes, down-no-up, down-counts, down-is, down-outside}
 use Rattle.part_check.specs.Means.{treeUp, treeDown, treeFaceDown}
 use Rattle.part.specs.Means.{ghostCore}
 use Rattle.part.specs.Part.{storedTree}
-use Rattle.mesh.proofs.Checking.{seen-refused, seen-all, count-next}
+use Rattle.mesh.proofs.Checking.{seen-refused, seen-all, count-next, count-stays}
 use Rattle.mesh.specs.Means.{linkByDimension}
 use Rattle.encoding.proofs.Below.{all-more, all-fails}
 use Rattle.encoding.specs.Below.{allBelow, countBelow}

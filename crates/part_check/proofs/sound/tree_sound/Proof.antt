@@ -1,6 +1,6 @@
-use Rattle.part_check.proofs.Checking.{tree-off, tree-known, tree-seen}
-use Rattle.mesh.proofs.Checking.{seen-refused}
 use borrow.Author.Tests.{not-true, not-false}
+use Rattle.mesh.proofs.Checking.{seen-refused}
+use Rattle.part_check.proofs.Checking.{tree-off, tree-known, tree-seen}
 use borrow.Author.Needs.{needs}
 use Rattle.part_check.proofs.sound.tree_sound.Statement.{statement}
 use Rattle.part_check.proofs.sound.tree_sound.Tie as tie
@@ -31,21 +31,36 @@ shape-of-requires c κs = search needs
 face-count-requires : tie.Need-face-count-requires
 face-count-requires c κs = search needs
 
-tree-faces-requires : tie.Need-tree-faces-requires
-tree-faces-requires c κs =
-    let pre = c .before .before .before .before .before .before .before .pre in
-    let tree-numbered = c .before .before .before .before .tree-numbered in
-    let if1 = c .before .before .if1 in
-    (pre .0, tree-known _ _ _ _ _ (tree-numbered .ensures) (not-false _ (if1 .left)) (pre .1), c .face-count .ensures .1)
+plain-tree-requires : tie.Need-plain-tree-requires
+plain-tree-requires c κs = search needs
 
 returns-2 : tie.Need-returns-2
 returns-2 c =
-    let tree-at = c .before .before .before .before .before .before .tree-at in
-    let tree-numbered = c .before .before .before .before .before .tree-numbered in
-    let alone = c .before .before .before .before .alone in
-    let if1 = c .before .before .before .if1 in
-    let shape-of = c .before .before .shape-of in
-    let face-count = c .before .face-count in
+    let tree-at = c .before .before .before .before .before .before .before .tree-at in
+    let tree-numbered = c .before .before .before .before .before .before .tree-numbered in
+    let alone = c .before .before .before .before .before .alone in
+    let if1 = c .before .before .before .before .if1 in
+    let shape-of = c .before .before .before .shape-of in
+    let face-count = c .before .before .face-count in
+    let plain-tree = c .before .plain-tree in
+    tree-seen _ _ _ _ _ _ (tree-at .ensures) (tree-numbered .ensures) (alone .ensures) (not-false _ (if1 .left)) (shape-of .ensures) (face-count .ensures .0) (plain-tree .ensures (c .if2 .taken) _)
+
+tree-faces-requires : tie.Need-tree-faces-requires
+tree-faces-requires c κs =
+    let pre = c .before .before .before .before .before .before .before .before .before .pre in
+    let tree-numbered = c .before .before .before .before .before .before .tree-numbered in
+    let if1 = c .before .before .before .before .if1 in
+    let face-count = c .before .before .face-count in
+    (pre .0, tree-known _ _ _ _ _ (tree-numbered .ensures) (not-false _ (if1 .left)) (pre .1), face-count .ensures .1)
+
+returns-3 : tie.Need-returns-3
+returns-3 c =
+    let tree-at = c .before .before .before .before .before .before .before .before .tree-at in
+    let tree-numbered = c .before .before .before .before .before .before .before .tree-numbered in
+    let alone = c .before .before .before .before .before .before .alone in
+    let if1 = c .before .before .before .before .before .if1 in
+    let shape-of = c .before .before .before .before .shape-of in
+    let face-count = c .before .before .before .face-count in
     tree-seen _ _ _ _ _ _ (tree-at .ensures) (tree-numbered .ensures) (alone .ensures) (not-false _ (if1 .left)) (shape-of .ensures) (face-count .ensures .0) (c .tree-faces .ensures)
 
 pub tree-sound-spec : {M : Type 1} → statement M
@@ -59,5 +74,7 @@ tree-sound-spec =
     returns
     shape-of-requires
     face-count-requires
+    plain-tree-requires
+    returns-2
     tree-faces-requires
-    returns-2)
+    returns-3)

@@ -1,9 +1,9 @@
-use Rattle.close_check.proofs.Plain.{plain-down}
+use Rattle.mesh.proofs.PlainTrees.{plain-down}
 use Rattle.encoding.proofs.Below.{clash}
 use mathlib.Core.Path.{refl}
 use borrow.Author.Needs.{needs}
-use Rattle.close_check.proofs.join.plain_link.Statement.{statement}
-use Rattle.close_check.proofs.join.plain_link.Tie as tie
+use Rattle.mesh.proofs.plain.plain_link.Statement.{statement}
+use Rattle.mesh.proofs.plain.plain_link.Tie as tie
 
 code-of-requires : tie.Need-code-of-requires
 code-of-requires c κs = search needs

@@ -4,7 +4,7 @@ use native.Mathlib.Nat.{add-zero, add-suc}
 use native.Mathlib.Omega.{arith}
 use mathlib.Core.Path.{_≡_, refl, sym, ap, ap₂, _∙_}
 use mathlib.Core.Logic.{_⊎_, inl, inr, ⊎-elim}
-use mathlib.Core.Bool.{Bool, true, false, not, _&&_}
+use mathlib.Core.Bool.{Bool, true, false, not, _&&_, and-true, and-false}
 use mathlib.Core.List.{List}
 use lib.Dec.{leb, ltb, eqb}
 use lib.ListN.{length, take, drop}
@@ -304,14 +304,6 @@ pub area-header-fails : (a : List ℕ) → areaHeaderSound a ≡ false → false
 unfolding areaSound
 area-header-fails a e = rw e
 
-and-none : (b : Bool) → (b && false) ≡ false
-and-none true = refl
-and-none false = refl
-
-and-all : (b : Bool) → (b && true) ≡ b
-and-all true = refl
-and-all false = refl
-
 module _ (a : List ℕ) (ok : areaHeaderSound a ≡ true) where
   abbrev bits : Bool
   bits = allBelow (64 * heardWords (areaP a)) (bitSound a)
@@ -338,17 +330,17 @@ module _ (a : List ℕ) (ok : areaHeaderSound a ≡ true) where
     pub area-crowded : bound < n → false ≡ areaSound a
     area-crowded h =
         let f : fewer ≡ false = lt-leb (areaGhosts a) (filledBound a) (omega (arith, filled-fits a, slots-bound)) in
-        sym (area-is ∙ rw (f, and-none (bits && slots)))
+        sym (area-is ∙ rw (f, and-false (bits && slots)))
 
     pub area-fits : n ≤ bound → areaGhosts a ≤ areaBound a
     area-fits h = omega (arith, slots-bound)
 
   module _ {b g : Bool} (is-b : b ≡ bits) (is-g : g ≡ ghostSlots) where
     pub area-fails : (b && g) ≡ false → false ≡ areaSound a
-    area-fails f = either b (λ t. let none : ghostSlots ≡ false = sym is-g ∙ (rw t at f) in sym (area-is ∙ rw (none, and-none (bits && slots && fewer)))) (λ n. sym (area-is ∙ rw (← is-b, n)))
+    area-fails f = either b (λ t. let none : ghostSlots ≡ false = sym is-g ∙ (rw t at f) in sym (area-is ∙ rw (none, and-false (bits && slots && fewer)))) (λ n. sym (area-is ∙ rw (← is-b, n)))
 
     pub area-read : {s : Bool} → (b && g) ≡ true → s ≡ (slots && fewer) → s ≡ areaSound a
     area-read t e =
         let first : bits ≡ true = sym is-b ∙ and-fst b g t in
         let last : ghostSlots ≡ true = sym is-g ∙ and-snd b g t in
-        e ∙ sym (area-is ∙ rw (first, last, and-all (slots && fewer)))
+        e ∙ sym (area-is ∙ rw (first, last, and-true (slots && fewer)))

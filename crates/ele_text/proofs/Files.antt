@@ -1,7 +1,7 @@
 -- What is read line by line is what `Text` says.
 use Prim.Native.Nat.{ℕ, zero, suc, _+_, _-_, _*_, _≤_, _<_}
 use mathlib.Core.Path.{_≡_, refl, sym, ap, subst, _∙_}
-use mathlib.Core.Bool.{Bool, true, false, cond, _&&_, _||_}
+use mathlib.Core.Bool.{Bool, true, false, cond, _&&_, _||_, and-true, and-false}
 use mathlib.Core.List.{List, [], _∷_, _++_, append-assoc, append-nil}
 use native.Mathlib.Nat.{add-zero}
 use native.Mathlib.Numerals.{add-one}
@@ -15,10 +15,6 @@ use Rattle.ele_text.specs.declared.file.File.{File}
 use Rattle.ele_text.specs.Text.{pieces, isEmpty, firstPiece, butLast, lastPiece, filled, lines, ended, fields, rows as rowsIn, isNumber, fieldNumber, rowNumber, allNumbers, rowOk, maxTriangles, headOk, numbered, rowsOk, textOk, behindFirst, verticesOf, vertices as verticesIn, triangles}
 use Rattle.ele_text.specs.Means.{noRow, emptyRow, addField, withField, withFields, rowOf, Read, noRead, nothingRead, isHead, isTriangle, addRow, withRow, readEnd, withLines, noFile, readOf, Within, TextRead}
 use Rattle.ele_text.proofs.Splits.{pieces-some}
-
-and-false : (b : Bool) → (b && false) ≡ false
-and-false true = refl
-and-false false = refl
 
 or-right : (a b : Bool) → b ≡ true → (a || b) ≡ true
 or-right true b e = refl
@@ -331,10 +327,6 @@ rows-good m h ts p a =
     (either (isEmpty p)
     (λ q. rw q record { ok = a .ok; count = λ o. a .count; vertices = λ o. a .vertices })
     (λ q. rw q (no-result (h ∷ ts))))
-
-and-true : (b : Bool) → (b && true) ≡ b
-and-true true = refl
-and-true false = refl
 
 read-rows : (rs : List (List (List ℕ))) (p : List ℕ) → Result (readEnd (addRows nothingRead rs) p) (isEmpty p && rowsOk rs) rs
 unfolding addRows rowsOk rowNumber inOrder start

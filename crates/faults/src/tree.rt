@@ -9,6 +9,7 @@ use crate::record::link_kind;
 use crate::record::record_kind;
 use mesh::layout::tree_at;
 use mesh::link::link_ok;
+use mesh::plain::plain_from_here;
 ghost use mathlib.Core.Path.{_≡_};
 ghost use Prim.Native.Nat.{_+_, _*_, _≤_, _<_};
 ghost use lib.ListN.{length};
@@ -95,6 +96,19 @@ fn faces_right(mesh: &[u8], dimension: u32, trees: u32, k: u32, faces: u32) -> b
     true
 }
 
+// The same, of a plain tree by fewer tests.
+fn links_right(mesh: &[u8], dimension: u32, trees: u32, k: u32, faces: u32) -> bool
+    requires { ⌜ (length (now mesh) ≡ meshHeader + treeSize * trees) × (k < trees) × (faces ≤ 6) ⌝ }
+    ensures { λ r. ⌜ r ≡ allBelow faces (faceByDimension (meshCore (now (mesh .entry))) dimension trees k) ⌝ }
+{
+    if (faces == 6) & (dimension == 3) {
+        if plain_from_here(mesh, 8, trees, k) {
+            return true;
+        }
+    }
+    faces_right(mesh, dimension, trees, k, faces)
+}
+
 fn tree_right(mesh: &[u8], dimension: u32, trees: u32, k: u32) -> bool
     requires { ⌜ (length (now mesh) ≡ meshHeader + treeSize * trees) × (k < trees) ⌝ }
     ensures { λ r. ⌜ r ≡ treeByDimension (meshCore (now (mesh .entry))) dimension trees k ⌝ }
@@ -104,7 +118,7 @@ fn tree_right(mesh: &[u8], dimension: u32, trees: u32, k: u32) -> bool
     records::form::in_form(mesh, at, k)
         & (records::read::number_of(mesh, at) == k)
         & (records::shape::dimension_of(shape) == dimension)
-        & faces_right(mesh, dimension, trees, k, records::shape::face_count(shape))
+        & links_right(mesh, dimension, trees, k, records::shape::face_count(shape))
 }
 
 // The first tree that is wrong. The check of a tree is faster than the search of its record, which is made only where the check fails.

@@ -12,7 +12,7 @@ use Rattle.encoding.specs.Pieces.{piece}
 use Rattle.encoding.proofs.Below.{tests, either, clash, and-fst, and-snd, and-intro, all-at, all-intro}
 use Rattle.records.specs.Shape.{dimensionOf, facesIn}
 use Rattle.records.specs.Record.{coreSize, treeSize, shapeOf, neighbourOf, codeOf, facesOf, orientationOf, toItself, boundaryOk}
-use Rattle.mesh.specs.Means.{answeredThere, linkByDimension, leadsUp, leadsDown, faceFromAbove, plainFace, PlainAs, SeenAs}
+use Rattle.mesh.specs.Means.{answeredThere, linkByDimension, faceByDimension, leadsUp, leadsDown, faceFromAbove, plainFace, PlainAs, SeenAs}
 use Rattle.mesh.proofs.ByDimension.{both-hexahedra}
 use Rattle.mesh.proofs.Checking.{is-answered}
 
@@ -144,3 +144,18 @@ module _ {core : ℕ → List ℕ} {n i : ℕ} {ok : Bool} {ups downs : ℕ} (p 
       let three : d ≡ 3 = eqb-true d 3 (and-snd (eqb faces 6) (eqb d 3) e) in
       let all : allBelow 6 (faceFromAbove core 3 n i) ≡ true = all-intro 6 (faceFromAbove core 3 n i) plain-above in
       rw (six, three) (record { tested = t ∙ sym all; upward = p .upward; downward = p .downward; few = p .few })
+
+-- ---- each link from this end
+
+module _ (bs : List ℕ) (at i f n : ℕ) {k : ℕ} (read : k ≡ neighbourOf (piece bs (at + treeSize * i) coreSize) f) where
+  pub plain-here : k < n → (codeOf (piece bs (at + treeSize * i) coreSize) f < 6) × (linkByDimension 3 i (piece bs (at + treeSize * i) coreSize) f (piece bs (at + treeSize * k) coreSize) ≡ true)
+      → faceByDimension (λ k. piece bs (at + treeSize * k) coreSize) 3 n i f ≡ true
+  unfolding faceByDimension
+  plain-here h p = rw (← read, lt-ltb k n h, p .1)
+
+-- all six
+pub from-here : (faces d : ℕ) (core : ℕ → List ℕ) (n i : ℕ) → (eqb faces 6 && eqb d 3) ≡ true → allBelow 6 (faceByDimension core 3 n i) ≡ true → true ≡ allBelow faces (faceByDimension core d n i)
+from-here faces d core n i e all =
+    let six : faces ≡ 6 = eqb-true faces 6 (and-fst (eqb faces 6) (eqb d 3) e) in
+    let three : d ≡ 3 = eqb-true d 3 (and-snd (eqb faces 6) (eqb d 3) e) in
+    rw (six, three) (sym all)

@@ -6,9 +6,10 @@ ghost use mathlib.Core.Path.{_≡_};
 ghost use mathlib.Core.Bool.{true};
 ghost use Prim.Native.Nat.{_+_, _*_, _≤_, _<_};
 ghost use lib.ListN.{length};
+ghost use Rattle.encoding.specs.Below.{allBelow};
 ghost use Rattle.encoding.specs.Pieces.{piece};
 ghost use Rattle.records.specs.Record.{coreSize, treeSize, shapeOf, codeOf};
-ghost use Rattle.mesh.specs.Means.{linkByDimension, PlainAs};
+ghost use Rattle.mesh.specs.Means.{linkByDimension, faceByDimension, PlainAs};
 
 // The code of such a link is the neighbour's face.
 pub fn plain_link(bs: &[u8], back: u32, at: usize, face: u32, to: usize) -> bool
@@ -57,4 +58,28 @@ pub fn plain_links(bs: &[u8], at: usize, count: u32, i: u32) -> Seen
         ups,
         downs,
     }
+}
+
+// The same links, each looked at from this end.
+pub fn plain_from_here(bs: &[u8], at: usize, count: u32, i: u32) -> bool
+    requires { ⌜ (at + treeSize * count ≤ length (now bs)) × (i < count) ⌝ }
+    ensures { λ r. ⌜ (r ≡ true → allBelow 6 (faceByDimension (λ k. piece (now (bs .entry)) (at + treeSize * k) coreSize) 3 count i) ≡ true) ⌝ }
+{
+    let from = at + 64 * (i as usize);
+    if records::read::shape_of(bs, from) != 2 {
+        return false;
+    }
+    let mut next = 0;
+    while next < 6 {
+        let face = next;
+        next += 1;
+        let n = records::read::neighbour_of(bs, from, face);
+        if count <= n {
+            return false;
+        }
+        if !plain_link(bs, i, from, face, at + 64 * (n as usize)) {
+            return false;
+        }
+    }
+    true
 }

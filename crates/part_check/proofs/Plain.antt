@@ -7,9 +7,9 @@ use mathlib.Core.List.{List}
 use lib.Dec.{ltb, eqb}
 use borrow.Author.Tests.{eqb-true, eqb-false, lt-ltb, le-ltb}
 use Rattle.encoding.specs.Below.{allBelow, countBelow}
-use Rattle.encoding.proofs.Below.{tests, either, and-fst, and-snd, all-intro, count-same}
+use Rattle.encoding.proofs.Below.{tests, either, and-fst, and-snd, all-at, all-intro, count-same}
 use Rattle.records.specs.Record.{neighbourOf}
-use Rattle.mesh.specs.Means.{linkByDimension, leadsUp, leadsDown, PlainAs, SeenAs}
+use Rattle.mesh.specs.Means.{linkByDimension, faceByDimension, leadsUp, leadsDown, PlainAs, SeenAs}
 use Rattle.mesh.proofs.PlainTrees.{plain-edge, plain-linked, plain-inside}
 use Rattle.part_check.specs.Means.{treeTo, treeFace, treeFits, treeUp, treeDown, treeFaceDown}
 
@@ -57,3 +57,18 @@ module _ (tree ghostly : ℕ → List ℕ) (n g i : ℕ) (below : i < n) {ok : B
         downward = λ q. p .downward t ∙ count-same 6 (leadsDown tree i) (treeDown n tree i) down-plain;
         few = p .few;
       })
+
+-- each link looked at from this end
+module _ (tree ghostly : ℕ → List ℕ) (n g i : ℕ) (all : allBelow 6 (faceByDimension tree 3 n i) ≡ true) where
+  face-here : (f : ℕ) → f < 6 → treeFace (linkByDimension 3) n g tree ghostly i f ≡ true
+  unfolding faceByDimension treeFace treeTo
+  face-here f h =
+      let k : ℕ = neighbourOf (tree i) f in
+      let both : (ltb k n && linkByDimension 3 i (tree i) f (tree k)) ≡ true = all-at 6 (faceByDimension tree 3 n i) all f h in
+      rw (and-fst (ltb k n) (linkByDimension 3 i (tree i) f (tree k)) both, and-snd (ltb k n) (linkByDimension 3 i (tree i) f (tree k)) both)
+
+  pub tree-from-here : (faces d : ℕ) → (eqb faces 6 && eqb d 3) ≡ true → true ≡ allBelow faces (treeFace (linkByDimension d) n g tree ghostly i)
+  tree-from-here faces d e =
+      let six : faces ≡ 6 = eqb-true faces 6 (and-fst (eqb faces 6) (eqb d 3) e) in
+      let three : d ≡ 3 = eqb-true d 3 (and-snd (eqb faces 6) (eqb d 3) e) in
+      rw (six, three) (sym (all-intro 6 (treeFace (linkByDimension 3) n g tree ghostly i) face-here))

@@ -8,6 +8,7 @@ use faults::record::has_face;
 use faults::record::link_kind;
 use faults::record::record_kind;
 use mesh::link::link_ok;
+use mesh::plain::plain_from_here;
 use part::layout::ghost_at;
 use part::layout::tree_at;
 use part::range::beside;
@@ -278,6 +279,19 @@ fn tree_faces_right(part: &[u8], e: Extent, i: u32, faces: u32) -> bool
     true
 }
 
+// The same, of a plain tree by fewer tests.
+fn tree_links_right(part: &[u8], e: Extent, i: u32, faces: u32) -> bool
+    requires { ⌜ Known (now part) e × (i < e .count) × (faces ≤ 6) ⌝ }
+    ensures { λ r. ⌜ r ≡ allBelow faces (treeFace (linkByDimension (e .dimension)) (e .count) (e .ghosts) (storedTree (now (part .entry))) (ghostCore (now (part .entry)) (e .count)) i) ⌝ }
+{
+    if (faces == 6) & (e.dimension == 3) {
+        if plain_from_here(part, 32, e.count, i) {
+            return true;
+        }
+    }
+    tree_faces_right(part, e, i, faces)
+}
+
 fn tree_right(part: &[u8], e: Extent, i: u32) -> bool
     requires { ⌜ Known (now part) e × (i < e .count) ⌝ }
     ensures { λ r. ⌜ r ≡ eqb (treeWrongIn (viewOf (now (part .entry))) i .kind) 0 ⌝ }
@@ -287,7 +301,7 @@ fn tree_right(part: &[u8], e: Extent, i: u32) -> bool
     tree_numbered(part, GlobalIndex(e.first), LocalIndex(i))
         & in_form(part, at, i)
         & (dimension_of(shape) == e.dimension)
-        & tree_faces_right(part, e, i, face_count(shape))
+        & tree_links_right(part, e, i, face_count(shape))
 }
 
 // The first tree that is wrong; the number of trees where none is.

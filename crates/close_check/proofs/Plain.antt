@@ -1,4 +1,4 @@
--- Plain trees: hexahedra whose links lead to hexahedra of the range, with orientation 0.
+-- Plain trees: hexahedra whose links lead to hexahedra of the range.
 use Prim.Native.Nat.{ℕ, _+_, _*_, _≤_, _<_}
 use native.Mathlib.Omega.{arith}
 use mathlib.Core.Path.{_≡_, refl, sym, _∙_}

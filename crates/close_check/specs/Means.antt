@@ -120,7 +120,7 @@ module _ (link : ℕ → List ℕ → ℕ → List ℕ → Bool) where
       allBelow n (treeFromOneEnd a at first n g D) && allBelow g (ghostFromOneEnd link g (ghostFrom a at n) first n D K)
       && eqb (sumBelow n (treeUps a at first n) + sumBelow g (ghostUps first n g (ghostFrom a at n))) (sumBelow n (treeDowns a at first n) + sumBelow g (ghostDowns g (ghostFrom a at n)))
 
--- ---- plain trees: hexahedra whose links lead to hexahedra of the range, with orientation 0. Their tests answer in one direction: where they pass, the tree does; else nothing is said
+-- ---- plain trees: hexahedra whose links lead to hexahedra of the range. Their tests answer in one direction: where they pass, the tree does; else nothing is said
 
 -- the plain test of the six faces of tree i
 pub record PlainSlot (a : List ℕ) (at first n i : ℕ) (ok : Bool) (ups downs : ℕ) : Type 0 where

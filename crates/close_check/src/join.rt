@@ -23,7 +23,7 @@ ghost use Rattle.area.specs.Area.{areaK, areaNew, areaFirst};
 ghost use Rattle.ghost_links.specs.Means.{SummedAs};
 ghost use Rattle.close_check.specs.Means.{Slots, SlotsNumbered, linkOfTree, recordsJoin, treeLeadsUp, treeLeadsDown, treeFace, treeFromOneEnd, treeUps, treeDowns, PlainSlot, RunAs, joinSound, Complete, GhostsIndexed};
 
-// ---- hexahedra whose neighbours are hexahedra of the range, with links of orientation 0: most trees of a brick. A tree that these tests don't pass is looked at by those behind them.
+// ---- plain trees: hexahedra whose neighbours are hexahedra of the range. A tree that these tests don't pass is looked at by those behind them.
 
 fn plain_links(area: &[u8], at: usize, first: u32, count: u32, tree: LocalIndex) -> Seen
     requires { ⌜ (at + treeSize * count ≤ length (now area)) × (first + count ≤ maxTrees) × (tree .0 < count) × (shapeOf (piece (now area) (at + treeSize * (tree .0)) coreSize) ≡ 2) ⌝ }

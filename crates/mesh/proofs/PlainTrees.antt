@@ -1,12 +1,12 @@
--- Plain trees: hexahedra whose neighbours are hexahedra, by links of orientation 0.
-use Prim.Native.Nat.{ℕ, _+_, _*_, _≤_, _<_}
-use native.Mathlib.Nat.{mod-eq-of-lt, div-eq-of-lt}
+-- Plain trees: hexahedra whose neighbours are hexahedra.
+use Prim.Native.Nat.{ℕ, _+_, _*_, _/_, _%_, _≤_, _<_}
+use native.Mathlib.Nat.{div-eq-of-lt}
 use native.Mathlib.Omega.{arith}
-use mathlib.Core.Path.{_≡_, sym, _∙_}
-use mathlib.Core.Bool.{Bool, true, false, _&&_}
+use mathlib.Core.Path.{_≡_, refl, sym, _∙_}
+use mathlib.Core.Bool.{Bool, true, false, _&&_, _||_}
 use mathlib.Core.List.{List}
 use lib.Dec.{ltb, eqb}
-use borrow.Author.Tests.{eqb-true, eq-eqb, lt-ltb, le-ltb}
+use borrow.Author.Tests.{ltb-true, eqb-true, eq-eqb, ne-eqb, lt-ltb, le-ltb}
 use Rattle.encoding.specs.Below.{allBelow, countBelow}
 use Rattle.encoding.specs.Pieces.{piece}
 use Rattle.encoding.proofs.Below.{tests, either, clash, and-fst, and-snd, and-intro, all-at, all-intro}
@@ -18,25 +18,19 @@ use Rattle.mesh.proofs.Checking.{is-answered}
 
 -- ---- a link
 
--- the code of a link with orientation 0 is the neighbour's face, and the neighbour's code there is this face
-pub plain-down : {there a b c : ℕ} (back f : ℕ) (r s : List ℕ) → there ≡ codeOf r f → there < 6 → f < 6 → shapeOf r ≡ 2
-    → a ≡ shapeOf s → b ≡ neighbourOf s there → c ≡ codeOf s there → (eqb a 2 && eqb b back && eqb c f) ≡ true
-    → (codeOf r f < 6) × (linkByDimension 3 back r f s ≡ true)
-unfolding facesIn answeredThere
-plain-down {there} {a} {b} {c} back f r s code small six shape is-a is-b is-c e =
-    let two : (eqb a 2 && eqb b back) ≡ true = and-fst (eqb a 2 && eqb b back) (eqb c f) e in
-    let other : shapeOf s ≡ 2 = sym is-a ∙ eqb-true a 2 (and-fst (eqb a 2) (eqb b back) two) in
-    let leads : neighbourOf s there ≡ back = sym is-b ∙ eqb-true b back (and-snd (eqb a 2) (eqb b back) two) in
-    let is-face : codeOf s there ≡ f = sym is-c ∙ eqb-true c f (and-snd (eqb a 2 && eqb b back) (eqb c f) e) in
-    let same : codeOf s there + there ≡ there + f = omega (arith, is-face) in
-    let answered : answeredThere back there f s there ≡ true =
-    and-intro (eqb (neighbourOf s there) back) (eqb (codeOf s there + there) (there + f)) (eq-eqb (neighbourOf s there) back leads) (eq-eqb (codeOf s there + there) (there + f) same) in
+-- all faces of two hexahedra have 4 corners
+pub plain-down : {c a : ℕ} {t : Bool} (back f : ℕ) (r s : List ℕ) → c ≡ codeOf r f → f < 6 → shapeOf r ≡ 2 → a ≡ shapeOf s → t ≡ answeredThere back c f s (c % 6)
+    → (ltb c 24 && eqb a 2 && t) ≡ true → linkByDimension 3 back r f s ≡ true
+unfolding facesIn
+plain-down {c} {a} {t} back f r s code six shape is-a is-t e =
+    let two : (ltb c 24 && eqb a 2) ≡ true = and-fst (ltb c 24 && eqb a 2) t e in
+    let few : c < 24 = ltb-true c 24 (and-fst (ltb c 24) (eqb a 2) two) in
+    let other : shapeOf s ≡ 2 = sym is-a ∙ eqb-true a 2 (and-snd (ltb c 24) (eqb a 2) two) in
+    let answered : answeredThere back c f s (c % 6) ≡ true = sym is-t ∙ and-snd (ltb c 24 && eqb a 2) t e in
     let both : (eqb (shapeOf r) (shapeOf s) && eqb (shapeOf r) 2) ≡ true =
-    and-intro (eqb (shapeOf r) (shapeOf s)) (eqb (shapeOf r) 2) (eq-eqb (shapeOf r) (shapeOf s) (shape ∙ sym other)) (eq-eqb (shapeOf r) 2 shape) in (
-      omega (arith, code),
-      sym (is-answered 3 back r s f there there 0 code (sym (mod-eq-of-lt small)) (sym (div-eq-of-lt small)) answered)
-          ∙ sym (both-hexahedra 0 (shapeOf r) f (shapeOf s) there both (six, small)),
-    )
+    and-intro (eqb (shapeOf r) (shapeOf s)) (eqb (shapeOf r) 2) (eq-eqb (shapeOf r) (shapeOf s) (shape ∙ sym other)) (eq-eqb (shapeOf r) 2 shape) in
+    sym (is-answered 3 back r s f c (c % 6) (c / 6) code refl refl answered)
+    ∙ (sym (both-hexahedra (c / 6) (shapeOf r) f (shapeOf s) (c % 6) both (six, omega arith)) ∙ lt-ltb (c / 6) 4 (omega arith))
 
 -- a link with orientation 0 may be a boundary
 pub plain-boundary : (own : ℕ) (r : List ℕ) (f : ℕ) → shapeOf r ≡ 2 → codeOf r f < 6 → boundaryOk own r f ≡ true
@@ -66,11 +60,13 @@ module _ (bs : List ℕ) (at : ℕ) where
     unfolding leadsDown
     up-stays l = rw (← read, le-ltb k i (omega arith))
 
-    pub down-plain : (n : ℕ) → k ≤ i
-        → (codeOf (piece bs (at + treeSize * i) coreSize) f < 6) × (linkByDimension 3 i (piece bs (at + treeSize * i) coreSize) f (piece bs (at + treeSize * k) coreSize) ≡ true)
-        → plainFace core n i f ≡ true
+    pub down-plain : {b : Bool} {c : ℕ} (n : ℕ) → k ≤ i
+        → (b ≡ true → linkByDimension 3 i (piece bs (at + treeSize * i) coreSize) f (piece bs (at + treeSize * k) coreSize) ≡ true)
+        → c ≡ codeOf (piece bs (at + treeSize * i) coreSize) f → (b && (ltb k i || ltb c 6)) ≡ true → plainFace core n i f ≡ true
     unfolding plainFace leadsUp
-    down-plain n l p = rw (← read, le-ltb i k l, lt-ltb (codeOf (core i) f) 6 (p .0), p .1)
+    down-plain {b} {c} n l linked is t =
+        let low : (ltb k i || ltb c 6) ≡ true = and-snd b (ltb k i || ltb c 6) t in
+        rw (← read, le-ltb i k l, ← is, low, linked (and-fst b (ltb k i || ltb c 6) t))
 
     pub down-stays : k ≤ i → leadsUp core i f ≡ false
     unfolding leadsUp
@@ -107,20 +103,21 @@ plain-none r =
 module _ {core : ℕ → List ℕ} {n i : ℕ} {ok : Bool} {ups downs : ℕ} (p : PlainAs core n i ok ups downs) (t : ok ≡ true) where
   -- a link that doesn't lead up
   module _ (f : ℕ) (h : f < 6) (l : neighbourOf (core i) f ≤ i) where
-    plain-both : (ltb (codeOf (core i) f) 6 && linkByDimension 3 i (core i) f (core (neighbourOf (core i) f))) ≡ true
+    plain-both : ((ltb (neighbourOf (core i) f) i || ltb (codeOf (core i) f) 6) && linkByDimension 3 i (core i) f (core (neighbourOf (core i) f))) ≡ true
     unfolding plainFace leadsUp
     plain-both = rw (le-ltb i (neighbourOf (core i) f) l) at (all-at 6 (plainFace core n i) (p .passes t) f h)
 
-    pub plain-code : codeOf (core i) f < 6
-    plain-code =
-        let c : ltb (codeOf (core i) f) 6 ≡ true = and-fst (ltb (codeOf (core i) f) 6) (linkByDimension 3 i (core i) f (core (neighbourOf (core i) f))) plain-both in
-        omega tests
-
     pub plain-linked : linkByDimension 3 i (core i) f (core (neighbourOf (core i) f)) ≡ true
-    plain-linked = and-snd (ltb (codeOf (core i) f) 6) (linkByDimension 3 i (core i) f (core (neighbourOf (core i) f))) plain-both
+    plain-linked = and-snd (ltb (neighbourOf (core i) f) i || ltb (codeOf (core i) f) 6) (linkByDimension 3 i (core i) f (core (neighbourOf (core i) f))) plain-both
 
-    pub plain-edge : (own : ℕ) → boundaryOk own (core i) f ≡ true
-    plain-edge own = plain-boundary own (core i) f (p .hexahedron t) plain-code
+    pub plain-edge : boundaryOk i (core i) f ≡ true
+    unfolding boundaryOk toItself
+    plain-edge =
+        let low : (ltb (neighbourOf (core i) f) i || ltb (codeOf (core i) f) 6) ≡ true =
+        and-fst (ltb (neighbourOf (core i) f) i || ltb (codeOf (core i) f) 6) (linkByDimension 3 i (core i) f (core (neighbourOf (core i) f))) plain-both in
+        either (ltb (neighbourOf (core i) f) i)
+        (λ u. let other : eqb (neighbourOf (core i) f) i ≡ false = ne-eqb (neighbourOf (core i) f) i (λ e. omega (tests, e)) in rw other)
+        (λ u. let small : ltb (codeOf (core i) f) 6 ≡ true = rw u at low in plain-boundary i (core i) f (p .hexahedron t) (ltb-true (codeOf (core i) f) 6 small))
 
   -- and one that does
   pub plain-inside : (f : ℕ) → f < 6 → i < neighbourOf (core i) f → neighbourOf (core i) f < n
@@ -134,7 +131,7 @@ module _ {core : ℕ → List ℕ} {n i : ℕ} {ok : Bool} {ups downs : ℕ} (p 
   plain-above f h =
       either (ltb i (neighbourOf (core i) f))
       (λ u. let l : i < neighbourOf (core i) f = omega tests in rw (u, lt-ltb (neighbourOf (core i) f) n (plain-inside f h l)))
-      (λ u. let l : neighbourOf (core i) f ≤ i = omega tests in rw (u, plain-edge f h l i, plain-linked f h l))
+      (λ u. let l : neighbourOf (core i) f ≤ i = omega tests in rw (u, plain-edge f h l, plain-linked f h l))
 
   -- a plain tree of a mesh
   pub plain-seen : (faces d : ℕ) → (eqb faces 6 && eqb d 3) ≡ true
@@ -148,10 +145,10 @@ module _ {core : ℕ → List ℕ} {n i : ℕ} {ok : Bool} {ups downs : ℕ} (p 
 -- ---- each link from this end
 
 module _ (bs : List ℕ) (at i f n : ℕ) {k : ℕ} (read : k ≡ neighbourOf (piece bs (at + treeSize * i) coreSize) f) where
-  pub plain-here : k < n → (codeOf (piece bs (at + treeSize * i) coreSize) f < 6) × (linkByDimension 3 i (piece bs (at + treeSize * i) coreSize) f (piece bs (at + treeSize * k) coreSize) ≡ true)
+  pub plain-here : k < n → linkByDimension 3 i (piece bs (at + treeSize * i) coreSize) f (piece bs (at + treeSize * k) coreSize) ≡ true
       → faceByDimension (λ k. piece bs (at + treeSize * k) coreSize) 3 n i f ≡ true
   unfolding faceByDimension
-  plain-here h p = rw (← read, lt-ltb k n h, p .1)
+  plain-here h p = rw (← read, lt-ltb k n h, p)
 
 -- all six
 pub from-here : (faces d : ℕ) (core : ℕ → List ℕ) (n i : ℕ) → (eqb faces 6 && eqb d 3) ≡ true → allBelow 6 (faceByDimension core 3 n i) ≡ true → true ≡ allBelow faces (faceByDimension core d n i)

@@ -1,7 +1,7 @@
 -- Means, no part of what is promised: the rule of a link between two records, and the same read by the dimension. In proofs/ByDimension.antt: where all records have the dimension, the two say the same.
 use Prim.Native.Nat.{ℕ, zero, suc, _+_, _*_, _/_, _%_, _≤_}
 use mathlib.Core.Path.{_≡_}
-use mathlib.Core.Bool.{Bool, true, cond, _&&_}
+use mathlib.Core.Bool.{Bool, true, cond, _&&_, _||_}
 use mathlib.Core.List.{List}
 use lib.Dec.{ltb, leb, eqb}
 use Rattle.encoding.specs.Below.{allBelow, countBelow, sumBelow}
@@ -98,12 +98,12 @@ pub record SeenAs (test : Bool) (up down : ℕ) (ok : Bool) (ups downs : ℕ) : 
   pub downward : ok ≡ true → downs ≡ down
   pub few : (ups ≤ 6) × (downs ≤ 6)
 
--- ---- plain trees: hexahedra whose neighbours are hexahedra, by links of orientation 0. Their tests answer in one direction: where they pass, the tree's links do; else nothing is said
+-- ---- plain trees: hexahedra whose neighbours are hexahedra. Their tests answer in one direction: where they pass, the tree's links do; else nothing is said
 
--- a link up leads to a tree below n, any other has orientation 0 and obeys the rules
+-- a link up leads to a tree below n, any other obeys the rule, and has orientation 0 if it leads to the tree itself
 unfoldable pub plainFace : (ℕ → List ℕ) → ℕ → ℕ → ℕ → Bool
 plainFace core n i f =
-    cond (leadsUp core i f) (ltb (neighbourOf (core i) f) n) (ltb (codeOf (core i) f) 6 && linkByDimension 3 i (core i) f (core (neighbourOf (core i) f)))
+    cond (leadsUp core i f) (ltb (neighbourOf (core i) f) n) ((ltb (neighbourOf (core i) f) i || ltb (codeOf (core i) f) 6) && linkByDimension 3 i (core i) f (core (neighbourOf (core i) f)))
 
 -- the test of tree i of n
 pub record PlainAs (core : ℕ → List ℕ) (n i : ℕ) (ok : Bool) (ups downs : ℕ) : Type 0 where

@@ -1,4 +1,5 @@
-// Plain trees: hexahedra whose neighbours are hexahedra, by links of orientation 0, as in a brick. Their links need fewer tests, and no division. These tests answer in one direction: what doesn't pass them is looked at by the general ones.
+// Plain trees: hexahedra whose neighbours are hexahedra, as in a brick. All their faces are alike, so that their links need fewer tests. These tests answer in one direction: what doesn't pass them is looked at by the general ones.
+use crate::link::answered_there;
 use crate::sound::Seen;
 use crate::sound::one;
 use crate::sound::refused;
@@ -8,21 +9,18 @@ ghost use Prim.Native.Nat.{_+_, _*_, _≤_, _<_};
 ghost use lib.ListN.{length};
 ghost use Rattle.encoding.specs.Below.{allBelow};
 ghost use Rattle.encoding.specs.Pieces.{piece};
-ghost use Rattle.records.specs.Record.{coreSize, treeSize, shapeOf, codeOf};
+ghost use Rattle.records.specs.Record.{coreSize, treeSize, shapeOf};
 ghost use Rattle.mesh.specs.Means.{linkByDimension, faceByDimension, PlainAs};
 
-// The code of such a link is the neighbour's face.
+// The rule of a link between hexahedra.
 pub fn plain_link(bs: &[u8], back: u32, at: usize, face: u32, to: usize) -> bool
     requires { ⌜ (at + coreSize ≤ length (now bs)) × (face < 6) × (to + coreSize ≤ length (now bs)) × (shapeOf (piece (now bs) at coreSize) ≡ 2) ⌝ }
-    ensures { λ r. ⌜ (r ≡ true → (codeOf (piece (now (bs .entry)) at coreSize) face < 6) × (linkByDimension 3 back (piece (now (bs .entry)) at coreSize) face (piece (now (bs .entry)) to coreSize) ≡ true)) ⌝ }
+    ensures { λ r. ⌜ (r ≡ true → linkByDimension 3 back (piece (now (bs .entry)) at coreSize) face (piece (now (bs .entry)) to coreSize) ≡ true) ⌝ }
 {
-    let there = records::read::code_of(bs, at, face);
-    if 6 <= there {
-        return false;
-    }
-    (records::read::shape_of(bs, to) == 2)
-        & (records::read::neighbour_of(bs, to, there) == back)
-        & (records::read::code_of(bs, to, there) == face)
+    let code = records::read::code_of(bs, at, face);
+    (code < 24)
+        & (records::read::shape_of(bs, to) == 2)
+        & answered_there(bs, back, code, face, to, code % 6)
 }
 
 // The links of tree i of the `count` from byte `at` on, whose neighbours are numbered as they stand here.
@@ -47,7 +45,9 @@ pub fn plain_links(bs: &[u8], at: usize, count: u32, i: u32) -> Seen
             }
             ups += 1;
         } else {
-            if !plain_link(bs, i, from, face, at + 64 * (n as usize)) {
+            // a link to the tree itself may be a boundary, which has orientation 0
+            if !(plain_link(bs, i, from, face, at + 64 * (n as usize))
+                & ((n < i) | (records::read::code_of(bs, from, face) < 6))) {
                 return refused();
             }
             downs += one(n < i);

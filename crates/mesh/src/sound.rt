@@ -145,7 +145,7 @@ fn listed_sound(mesh: &[u8], dimension: u32, trees: u32, k: u32, faces: u32, lis
     true
 }
 
-// Whether the tree is plain; if not, nothing is said. Most trees of a brick are.
+// Whether the tree is plain; if not, nothing is said. Most hexahedra are.
 fn plain_faces(mesh: &[u8], dimension: u32, trees: u32, k: u32, faces: u32) -> Seen
     requires { ⌜ (length (now mesh) ≡ meshHeader + treeSize * trees) × (k < trees) ⌝ }
     ensures { λ r. ⌜ (r .ok ≡ true → SeenAs (allBelow faces (faceFromAbove (meshCore (now (mesh .entry))) dimension trees k)) (countBelow faces (leadsUp (meshCore (now (mesh .entry))) k)) (countBelow faces (leadsDown (meshCore (now (mesh .entry))) k)) (r .ok) (r .ups) (r .downs)) ⌝ }

@@ -1,4 +1,4 @@
--- Plain trees of a part: hexahedra whose links lead to hexahedra among its trees, with orientation 0.
+-- Plain trees of a part: hexahedra whose links lead to hexahedra among its trees.
 use Prim.Native.Nat.{ℕ, _≤_, _<_}
 use native.Mathlib.Omega.{arith}
 use mathlib.Core.Path.{_≡_, sym, _∙_}
@@ -20,7 +20,7 @@ module _ (tree ghostly : ℕ → List ℕ) (n g i : ℕ) (below : i < n) {ok : B
       let k : ℕ = neighbourOf (tree i) f in
       either (ltb i k)
       (λ u. let l : i < k = omega tests in rw (u, lt-ltb k n (plain-inside p t f h l)))
-      (λ u. let l : k ≤ i = omega tests in rw (u, plain-edge p t f h l i, lt-ltb k n (omega arith), plain-linked p t f h l))
+      (λ u. let l : k ≤ i = omega tests in rw (u, plain-edge p t f h l, lt-ltb k n (omega arith), plain-linked p t f h l))
 
   -- what the general test counts
   up-plain : (f : ℕ) → f < 6 → leadsUp tree i f ≡ treeUp n tree i f

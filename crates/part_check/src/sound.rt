@@ -211,7 +211,7 @@ fn tree_faces(
     }
 }
 
-// Whether the links of a tree are plain, all to trees of the part; if not, nothing is said. Most trees of a brick are.
+// Whether the links of a tree are plain, all to trees of the part; if not, nothing is said. Most hexahedra are.
 fn plain_tree(part: &[u8], count: u32, dimension: u32, tree: LocalIndex, faces: u32) -> Seen
     requires { ⌜ (treePlace count ≤ length (now part)) × (tree .0 < count) ⌝ }
     ensures { λ r. ⌜ (r .ok ≡ true → (g : ℕ) → SeenAs (allBelow faces (treeFaceDown (linkByDimension dimension) count g (storedTree (now (part .entry))) (ghostCore (now (part .entry)) count) (tree .0))) (countBelow faces (treeUp count (storedTree (now (part .entry))) (tree .0))) (countBelow faces (treeDown count (storedTree (now (part .entry))) (tree .0))) (r .ok) (r .ups) (r .downs)) ⌝ }

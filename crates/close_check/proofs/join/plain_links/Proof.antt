@@ -123,7 +123,7 @@ loop-again-2 c =
     let inv = loop .inv in
     let read = neighbour-of .ensures in
     let placed = place-near .ensures in
-    let passes = sym (plain-link .ensures (not-false _ (if3 .left)) .1) in (
+    let passes = sym (plain-link .ensures (not-false _ (if3 .left))) in (
       omega arith,
       (
         (λ g. all-more _ _ (inv .1 .0 g) (down-face _ _ _ _ _ _ read (omega (arith, pre .1)) (omega arith) placed (omega (arith, pre .2)) (if1 .left) _ _ passes)),

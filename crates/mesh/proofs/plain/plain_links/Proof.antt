@@ -90,6 +90,9 @@ add-plain-link c = search needs
 plain-link-requires : tie.Need-plain-link-requires Inv-loop μ-loop
 plain-link-requires c κs = search needs
 
+code-of-requires : tie.Need-code-of-requires Inv-loop μ-loop
+code-of-requires c κs = search needs
+
 refused-requires-3 : tie.Need-refused-requires-3 Inv-loop μ-loop
 refused-requires-3 c κs = search needs
 
@@ -107,16 +110,17 @@ loop-less-2 c = search needs
 
 loop-again-2 : tie.Need-loop-again-2 Inv-loop μ-loop
 loop-again-2 c =
-    let loop = c .before .before .before .before .before .before .loop in
-    let neighbour-of = c .before .before .before .before .neighbour-of in
-    let if2 = c .before .before .before .if2 in
-    let plain-link = c .before .before .plain-link in
+    let loop = c .before .before .before .before .before .before .before .loop in
+    let neighbour-of = c .before .before .before .before .before .neighbour-of in
+    let if2 = c .before .before .before .before .if2 in
+    let plain-link = c .before .before .before .plain-link in
+    let code-of = c .before .before .code-of in
     let if4 = c .before .if4 in
     let inv = loop .inv in
     let read = neighbour-of .ensures in (
       omega arith,
       (
-        all-more _ _ (inv .1 .0) (down-plain _ _ _ _ read _ (if2 .left) (plain-link .ensures (not-false _ (if4 .left)))),
+        all-more _ _ (inv .1 .0) (down-plain _ _ _ _ read _ (if2 .left) (plain-link .ensures) (code-of .ensures) (not-false _ (if4 .left))),
         (
           (count-stays _ _ (down-stays _ _ _ _ read (if2 .left)) (inv .1 .1 .0 .0), omega arith),
           (count-next _ _ (c .one .ensures .0) (down-counts _ _ _ _ read) (inv .1 .1 .1 .0), omega arith),
@@ -154,6 +158,7 @@ plain-links-spec =
     mul-plain-link
     add-plain-link
     plain-link-requires
+    code-of-requires
     refused-requires-3
     returns-3
     one-requires

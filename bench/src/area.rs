@@ -5,7 +5,7 @@ use crate::library::Length;
 use crate::checking::{close_checked, deliver_checked, open_checked, words};
 use crate::message::{build_message, library_build, moved};
 use crate::part::{cut_part, put, quarters, range, Set, GHOST, HEADER, TREE};
-use crate::{bricks, floor, floor_row, now, repeats, shorter, tangle, Read};
+use crate::{bricks, floor, floor_row, now, repeats, shorter, tangle, turned, Read};
 use std::cell::RefCell;
 use std::hint::black_box;
 
@@ -289,4 +289,5 @@ pub fn rows() {
     for power in [14, 16] {
         area_rows("tetrahedra, random links", power, &tangle(power));
     }
+    area_rows("hexahedra, a brick with turned links", 16, &turned());
 }

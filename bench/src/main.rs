@@ -249,13 +249,37 @@ fn brick(powers: [u32; 3]) -> Vec<u8> {
     mesh_of(2, &(0..sizes.iter().product()).map(|k| links(k).collect()).collect::<Vec<_>>())
 }
 
-/// Tetrahedra whose faces meet at random, with random orientations: the neighbours lie anywhere in the buffer.
-fn tangle(power: u32) -> Vec<u8> {
+/// Random numbers below a bound.
+fn random() -> impl FnMut(usize) -> usize {
     let mut state = 2_026u64;
-    let mut below = |n: usize| {
+    move |n| {
         state = state.wrapping_mul(6_364_136_223_846_793_005).wrapping_add(1_442_695_040_888_963_407);
         ((u128::from(state) * n as u128) >> 64) as usize
-    };
+    }
+}
+
+/// 2^16 hexahedra of a brick, each turned as it may: its links have random orientations.
+fn turned() -> Vec<u8> {
+    let mut mesh = brick([4, 6, 6]);
+    let mut below = random();
+    let code = |tree: usize, face: usize| 8 + 64 * tree + 32 + face;
+    for tree in 0..1 << 16 {
+        for face in 0..6 {
+            let other = fast::number(&mesh, 8 + 64 * tree + 8 + 4 * face) as usize;
+            if tree < other {
+                let there = usize::from(mesh[code(tree, face)]);
+                let turn = 6 * below(4);
+                mesh[code(tree, face)] = (turn + there) as u8;
+                mesh[code(other, there)] = (turn + face) as u8;
+            }
+        }
+    }
+    mesh
+}
+
+/// Tetrahedra whose faces meet at random, with random orientations: the neighbours lie anywhere in the buffer.
+fn tangle(power: u32) -> Vec<u8> {
+    let mut below = random();
     let mut ends: Vec<usize> = (0..4 << power).collect();
     for at in (1..ends.len()).rev() {
         ends.swap(at, below(at + 1));
@@ -332,6 +356,7 @@ fn main() {
         for &power in powers() {
             mesh_check("tetrahedra, random links", power, tangle(power));
         }
+        mesh_check("hexahedra, a brick with turned links", 16, turned());
     }
     group_rows();
 }

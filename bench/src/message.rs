@@ -2,7 +2,7 @@
 use crate::fast::{self, check_table, number, FACES};
 use crate::library::Length;
 use crate::part::{check_part, cut_part, part_reads, put, quarters, range, Set, GHOST, HEADER, TREE};
-use crate::{bricks, bytes_of, floor, floor_row, powers, tangle, times};
+use crate::{bricks, bytes_of, floor, floor_row, powers, tangle, times, turned};
 use std::hint::black_box;
 
 extern "C" {
@@ -217,4 +217,5 @@ pub fn rows() {
     for &power in powers() {
         message_row("tetrahedra, random links", power, &tangle(power));
     }
+    message_row("hexahedra, a brick with turned links", 16, &turned());
 }

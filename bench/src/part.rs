@@ -1,7 +1,7 @@
 //! Cutting a part and checking one.
 use crate::fast::{self, check_mesh, check_table, number, CORNERS, FACES, MAX_TREES};
 use crate::library::Length;
-use crate::{bricks, bytes_of, floor, floor_row, powers, tangle, times, Read};
+use crate::{bricks, bytes_of, floor, floor_row, powers, tangle, times, turned, Read};
 use std::hint::black_box;
 
 extern "C" {
@@ -315,4 +315,5 @@ pub fn rows() {
     for &power in powers() {
         part_rows("tetrahedra, random links", power, &tangle(power));
     }
+    part_rows("hexahedra, a brick with turned links", 16, &turned());
 }

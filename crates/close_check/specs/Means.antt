@@ -120,28 +120,6 @@ module _ (link : ℕ → List ℕ → ℕ → List ℕ → Bool) where
       allBelow n (treeFromOneEnd a at first n g D) && allBelow g (ghostFromOneEnd link g (ghostFrom a at n) first n D K)
       && eqb (sumBelow n (treeUps a at first n) + sumBelow g (ghostUps first n g (ghostFrom a at n))) (sumBelow n (treeDowns a at first n) + sumBelow g (ghostDowns g (ghostFrom a at n)))
 
--- ---- plain trees: hexahedra whose links lead to hexahedra of the range. Their tests answer in one direction: where they pass, the tree does; else nothing is said
-
--- the plain test of the six faces of tree i
-pub record PlainSlot (a : List ℕ) (at first n i : ℕ) (ok : Bool) (ups downs : ℕ) : Type 0 where
-  pub passes : ok ≡ true → (g : ℕ) → allBelow 6 (treeFace (linkByDimension 3) a at first n g i) ≡ true
-  pub upward : ok ≡ true → ups ≡ countBelow 6 (treeLeadsUp a at first n i)
-  pub downward : ok ≡ true → downs ≡ countBelow 6 (treeLeadsDown a at first n i)
-  pub few : (ups ≤ 6) × (downs ≤ 6)
-
--- the trees before `next` pass, and have so many links up and down
-pub record Reached (a : List ℕ) (at first n g D next ups downs : ℕ) : Type 0 where
-  pub passed : allBelow next (treeFromOneEnd (linkByDimension D) a at first n g D) ≡ true
-  pub upward : ups ≡ sumBelow next (treeUps a at first n)
-  pub downward : downs ≡ sumBelow next (treeDowns a at first n)
-
--- a run of trees that had come to `start`, with so many links up and down, goes on to `next`
-pub record RunAs (a : List ℕ) (at first n D start up down next ups downs : ℕ) : Type 0 where
-  pub on : start ≤ next
-  pub within : next ≤ n
-  pub few : (ups ≤ 6 * next) × (downs ≤ 6 * next)
-  pub reaches : (g : ℕ) → Reached a at first n g D start up down → Reached a at first n g D next ups downs
-
 -- the records in an area's slots are those of a sound part; proofs/Reading.antt: with every due sender heard this is the joined part's soundness
 unfoldable pub joinSound : List ℕ → Bool
 joinSound a = viewSound (areaFirst a) (areaCount a) (areaGhosts a) (treeSlotCore a) (ghostSlot a) (areaDimension a) (areaK a)

@@ -1,7 +1,8 @@
 // Whether the records in an area's slots make a sound part. Trees and ghosts have global numbers here, and links are followed by these. Each link is looked at from one end: between a tree and a ghost from the tree, else from the record with the higher number. Where as many links lead up as down, each link up is then the answer to one down (proofs/FromOneEnd.antt).
 use ghost_links::check::ghosts_linked;
 use mesh::link::link_ok;
-use mesh::plain::plain_link;
+use mesh::plain::link_alike;
+use mesh::sound::Run;
 use mesh::sound::Seen;
 use mesh::sound::one;
 use mesh::sound::refused;
@@ -10,27 +11,31 @@ use records::index::GlobalIndex;
 use records::index::LocalIndex;
 ghost use mathlib.Core.Path.{_≡_};
 ghost use mathlib.Core.Bool.{true, false};
-ghost use Prim.Native.Nat.{_+_, _*_, _≤_, _<_};
+ghost use Prim.Native.Nat.{ℕ, _+_, _*_, _≤_, _<_};
 ghost use lib.ListN.{length};
 ghost use Rattle.encoding.specs.Below.{allBelow, countBelow, sumBelow};
 ghost use Rattle.encoding.specs.Pieces.{piece};
 ghost use Rattle.offsets.specs.Limits.{maxTrees};
-ghost use Rattle.records.specs.Record.{coreSize, treeSize, shapeOf, neighbourOf};
+ghost use Rattle.records.specs.Record.{coreSize, treeSize, neighbourOf};
 ghost use Rattle.part.specs.Means.{inRange};
 ghost use Rattle.positions.specs.Means.{Indexed};
-ghost use Rattle.mesh.specs.Means.{linkByDimension, SeenAs};
+ghost use Rattle.mesh.specs.Means.{linkByDimension, SeenAs, RunAs};
 ghost use Rattle.area.specs.Area.{areaK, areaNew, areaFirst};
 ghost use Rattle.ghost_links.specs.Means.{SummedAs};
-ghost use Rattle.close_check.specs.Means.{Slots, SlotsNumbered, linkOfTree, recordsJoin, treeLeadsUp, treeLeadsDown, treeFace, treeFromOneEnd, treeUps, treeDowns, PlainSlot, RunAs, joinSound, Complete, GhostsIndexed};
+ghost use Rattle.close_check.specs.Means.{Slots, SlotsNumbered, linkOfTree, recordsJoin, treeLeadsUp, treeLeadsDown, treeFace, treeFromOneEnd, treeUps, treeDowns, joinSound, Complete, GhostsIndexed};
 
 // ---- plain trees: hexahedra whose neighbours are hexahedra of the range. A tree that these tests don't pass is looked at by those behind them.
 
-fn plain_links(area: &[u8], at: usize, first: u32, count: u32, tree: LocalIndex) -> Seen
-    requires { ⌜ (at + treeSize * count ≤ length (now area)) × (first + count ≤ maxTrees) × (tree .0 < count) × (shapeOf (piece (now area) (at + treeSize * (tree .0)) coreSize) ≡ 2) ⌝ }
-    ensures { λ r. ⌜ PlainSlot (now (area .entry)) at first count (tree .0) (r .ok) (r .ups) (r .downs) ⌝ }
+// A link that leads up is only counted.
+fn plain_tree(area: &[u8], at: usize, first: u32, count: u32, tree: LocalIndex) -> Seen
+    requires { ⌜ (at + treeSize * count ≤ length (now area)) × (first + count ≤ maxTrees) × (tree .0 < count) ⌝ }
+    ensures { λ r. ⌜ (r .ok ≡ true → (g : ℕ) → SeenAs (treeFromOneEnd (linkByDimension 3) (now (area .entry)) at first count g 3 (tree .0)) (treeUps (now (area .entry)) at first count (tree .0)) (treeDowns (now (area .entry)) at first count (tree .0)) (r .ok) (r .ups) (r .downs)) ⌝ }
 {
     let i = tree.0;
     let from = at + 64 * (i as usize);
+    if records::read::shape_of(area, from) != 2 {
+        return refused();
+    }
     let mut next = 0;
     let mut ups = 0;
     let mut downs = 0;
@@ -45,7 +50,7 @@ fn plain_links(area: &[u8], at: usize, first: u32, count: u32, tree: LocalIndex)
             }
             ups += 1;
         } else {
-            if !plain_link(area, first + i, from, face, at + 64 * (place as usize)) {
+            if !link_alike(area, 2, first + i, from, face, at + 64 * (place as usize)) {
                 return refused();
             }
             downs += one(place < i);
@@ -58,29 +63,16 @@ fn plain_links(area: &[u8], at: usize, first: u32, count: u32, tree: LocalIndex)
     }
 }
 
-// A run of trees: those before `next` pass, and have so many links up and down.
-pub struct Run {
-    pub next: u32,
-    pub ups: u64,
-    pub downs: u64,
-}
-
-// Goes on with a run as far as the trees are plain. By itself, so that few values are at hand in this loop, and all in registers.
-fn plain_run(area: &[u8], at: usize, first: u32, count: u32, dimension: u32, begun: Run) -> Run
+// Goes on with a run in dimension 3, as far as the trees are plain. By itself, so that few values are at hand in this loop, and all in registers.
+fn plain_run(area: &[u8], at: usize, first: u32, count: u32, begun: Run) -> Run
     requires { ⌜ (at + treeSize * count ≤ length (now area)) × (first + count ≤ maxTrees) × (begun .next ≤ count) × (begun .ups ≤ 6 * (begun .next)) × (begun .downs ≤ 6 * (begun .next)) ⌝ }
-    ensures { λ r. ⌜ RunAs (now (area .entry)) at first count dimension (begun .next) (begun .ups) (begun .downs) (r .next) (r .ups) (r .downs) ⌝ }
+    ensures { λ r. ⌜ ((g : ℕ) → RunAs (treeFromOneEnd (linkByDimension 3) (now (area .entry)) at first count g 3) (treeUps (now (area .entry)) at first count) (treeDowns (now (area .entry)) at first count) count (begun .next) (begun .ups) (begun .downs) (r .next) (r .ups) (r .downs)) ⌝ }
 {
     let mut next = begun.next;
     let mut ups = begun.ups;
     let mut downs = begun.downs;
-    if dimension != 3 {
-        return Run { next, ups, downs };
-    }
     while next < count {
-        if records::read::shape_of(area, at + 64 * (next as usize)) != 2 {
-            return Run { next, ups, downs };
-        }
-        let seen = plain_links(area, at, first, count, LocalIndex(next));
+        let seen = plain_tree(area, at, first, count, LocalIndex(next));
         if !seen.ok {
             return Run { next, ups, downs };
         }
@@ -89,6 +81,20 @@ fn plain_run(area: &[u8], at: usize, first: u32, count: u32, dimension: u32, beg
         next += 1;
     }
     Run { next, ups, downs }
+}
+
+// The same in any dimension; where the next tree is no hexahedron it costs one test.
+fn run_on(area: &[u8], at: usize, first: u32, count: u32, dimension: u32, begun: Run) -> Run
+    requires { ⌜ (at + treeSize * count ≤ length (now area)) × (first + count ≤ maxTrees) × (begun .next < count) × (begun .ups ≤ 6 * (begun .next)) × (begun .downs ≤ 6 * (begun .next)) ⌝ }
+    ensures { λ r. ⌜ ((g : ℕ) → RunAs (treeFromOneEnd (linkByDimension dimension) (now (area .entry)) at first count g dimension) (treeUps (now (area .entry)) at first count) (treeDowns (now (area .entry)) at first count) count (begun .next) (begun .ups) (begun .downs) (r .next) (r .ups) (r .downs)) ⌝ }
+{
+    if records::read::shape_of(area, at + 64 * (begun.next as usize)) != 2 {
+        return begun;
+    }
+    if dimension != 3 {
+        return begun;
+    }
+    plain_run(area, at, first, count, begun)
 }
 
 // ---- trees
@@ -264,7 +270,7 @@ fn trees_join(
     let mut ups = 0;
     let mut downs = 0;
     while i < count {
-        let run = plain_run(
+        let run = run_on(
             area,
             at,
             first,

@@ -1,19 +1,18 @@
 -- What the search over the trees of a whole mesh finds, and the check before it.
 use Prim.Native.Nat.{ℕ, _+_, _*_}
-use mathlib.Core.Path.{_≡_, sym, ap, _∙_}
+use mathlib.Core.Path.{_≡_, refl, sym, ap, _∙_}
 use mathlib.Core.Bool.{Bool, true, false}
 use mathlib.Core.List.{List}
 use lib.Dec.{eqb}
 use borrow.Author.Tests.{eq-eqb, ne-eqb, eqb-true, eqb-false}
 use Rattle.encoding.specs.Below.{allBelow}
 use Rattle.encoding.specs.Pieces.{piece}
-use Rattle.encoding.specs.Refusal.{firstFailed}
 use Rattle.encoding.proofs.Below.{all-same}
 use Rattle.records.specs.Record.{coreSize, treeSize, numberOf}
 use Rattle.mesh.specs.Mesh.{meshHeader, meshDimension, meshTrees, meshCore, headerSound, treeSound}
 use Rattle.faults.specs.declared.answer.Fault.{Fault}
 use Rattle.faults.specs.declared.answer.Wrong.{Wrong}
-use Rattle.faults.specs.Answer.{wrong, faultRefused, faultAt, firstFault}
+use Rattle.faults.specs.Answer.{wrong, faultAt, firstFault}
 use Rattle.faults.specs.Record.{recordKind, firstFace, recordWrong}
 use Rattle.faults.specs.Mesh.{treeFaceKind, treeWrong}
 use Rattle.faults.specs.Calls.{meshFaultOf}
@@ -51,6 +50,11 @@ module _ (core : ℕ → List ℕ) (D K k : ℕ) {b : Bool} (pb : b ≡ treeByDi
 
   pub tree-fails : {w : Wrong} → b ≡ false → w ≡ treeWrong core D K k → w .kind ≡ 0 → ⊥
   tree-fails h e z = eqb-false (treeWrong core D K k .kind) 0 (sym right ∙ h) (sym (ap (λ (w : Wrong). w .kind) e) ∙ z)
+
+-- nothing is wrong with trees that pass it
+pub trees-pass : (core : ℕ → List ℕ) (D K k : ℕ) → allBelow k (treeByDimension core D K) ≡ true → quiet (kindOf core D K) k ≡ true
+unfolding quiet
+trees-pass core D K k all = sym (all-same k (treeByDimension core D K) (λ j. eqb (kindOf core D K j) 0) (λ j h. right core D K j refl)) ∙ all
 
 -- ---- a whole mesh
 

@@ -1,7 +1,7 @@
 -- What the check's functions find is what the definitions say.
 use Prim.Native.Nat.{ℕ, _+_, _*_, _/_, _%_, _≤_, _<_}
 use native.Mathlib.Omega.{arith}
-use mathlib.Core.Path.{_≡_, sym, ap, _∙_}
+use mathlib.Core.Path.{_≡_, refl, sym, ap, _∙_}
 use mathlib.Core.Bool.{Bool, true, false, cond, _&&_, and-true, and-false}
 use mathlib.Core.List.{List}
 use lib.Dec.{eqb, ltb, leb}
@@ -9,13 +9,13 @@ use lib.ListN.{length}
 use borrow.Author.Tests.{leb-true, lt-ltb, le-ltb, ne-eqb}
 use Rattle.encoding.specs.Below.{allBelow, countBelow, sumBelow}
 use Rattle.encoding.specs.Pieces.{piece}
-use Rattle.encoding.proofs.Below.{clash, all-fails, all-to, count-more, sum-more}
+use Rattle.encoding.proofs.Below.{clash, all-fails, all-more, all-to, count-more, sum-more}
 use Rattle.offsets.specs.Limits.{treeCountOk}
 use Rattle.records.specs.Shape.{shapeOk, dimensionOf, faceCount, facesIn}
 use Rattle.records.specs.Record.{coreSize, treeSize, numberOf, shapeOf, neighbourOf, codeOf, zerosOk, regionOk, boundaryOk, inForm}
 use Rattle.records.specs.Means.{unusedFrom}
 use Rattle.mesh.specs.Mesh.{meshHeader, meshDimension, meshTrees, dimensionOk, meshCore, headerSound, meshSound}
-use Rattle.mesh.specs.Means.{cornersFit, cornersByDimension, answeredThere, answeredByDimension, linkByDimension, faceByDimension, treeByDimension, leadsUp, leadsDown, linksUp, linksDown, aloneByDimension, leadsInside, listedLink, downSound, listedSound, faceFromAbove, treeFromAbove, treesFromAbove, SeenAs}
+use Rattle.mesh.specs.Means.{cornersFit, cornersByDimension, answeredThere, answeredByDimension, linkByDimension, faceByDimension, treeByDimension, leadsUp, leadsDown, linksUp, linksDown, aloneByDimension, leadsInside, listedLink, downSound, listedSound, faceFromAbove, treeFromAbove, treesFromAbove, SeenAs, FacesAs, Reached, RunAs}
 use Rattle.mesh.proofs.FromAbove.{trees-from-above}
 use Rattle.mesh.proofs.Packing.{faces-both}
 
@@ -73,6 +73,69 @@ count-stays i f e h = rw (count-more i f, e) (omega (arith, h))
 -- one more summand
 pub sum-next : {n r : ℕ} (i : ℕ) (g : ℕ → ℕ) → r ≡ g i → n ≡ sumBelow i g → n + r ≡ sumBelow (i + 1) g
 sum-next i g e h = rw (sum-more i g, h, e)
+
+-- ---- a loop over the faces
+
+module _ (test p q : ℕ → Bool) where
+  pub faces-none : FacesAs test p q 0 0 0
+  unfolding allBelow countBelow
+  faces-none = record { passed = refl; upward = (refl, omega arith); downward = (refl, omega arith) }
+
+  module _ {ups downs : ℕ} (f : ℕ) (before : FacesAs test p q f ups downs) where
+    -- one more face whose link leads up, and one more that doesn't
+    module _ (passes : test f ≡ true) where
+      pub faces-up : true ≡ p f → q f ≡ false → FacesAs test p q (f + 1) (ups + 1) downs
+      faces-up u d =
+          record {
+            passed = all-more f test (before .passed) passes;
+            upward = (count-next {b = true} f p refl u (before .upward .0), omega (arith, before .upward .1));
+            downward = (count-stays f q d (before .downward .0), omega (arith, before .downward .1));
+          }
+
+      pub faces-down : {r : ℕ} {b : Bool} → p f ≡ false → (r ≡ cond b 1 0) × (r ≤ 1) → b ≡ q f → FacesAs test p q (f + 1) ups (downs + r)
+      faces-down u one d =
+          record {
+            passed = all-more f test (before .passed) passes;
+            upward = (count-stays f p u (before .upward .0), omega (arith, before .upward .1));
+            downward = (count-next f q (one .0) d (before .downward .0), omega (arith, before .downward .1, one .1));
+          }
+
+    -- all of them
+    pub faces-all : (n : ℕ) → f ≤ n → n ≤ f → n ≤ 6 → SeenAs (allBelow n test) (countBelow n p) (countBelow n q) true ups downs
+    faces-all n h k six = seen-all n f test p q h k six (before .passed) (before .upward) (before .downward)
+
+-- ---- runs
+
+module _ (test : ℕ → Bool) (p q : ℕ → ℕ) where
+  -- none is passed at the beginning
+  pub reached-none : Reached test p q 0 0 0
+  unfolding allBelow sumBelow
+  reached-none = record { passed = refl; upward = refl; downward = refl }
+
+  -- one more record
+  pub reached-next : {ok : Bool} {up down ups downs : ℕ} (i : ℕ) → Reached test p q i up down → SeenAs (test i) (p i) (q i) ok ups downs → ok ≡ true → Reached test p q (i + 1) (up + ups) (down + downs)
+  reached-next i r s t =
+      record {
+        passed = all-more i test (r .passed) (sym (s .tested) ∙ t);
+        upward = sum-next i p (s .upward t) (r .upward);
+        downward = sum-next i q (s .downward t) (r .downward);
+      }
+
+  -- a run that doesn't go on, and one that goes on by a record
+  pub run-stays : (n start up down : ℕ) → start ≤ n → up ≤ 6 * start → down ≤ 6 * start → RunAs test p q n start up down start up down
+  run-stays n start up down h u d = record { on = omega arith; within = h; few = (u, d); reaches = λ r. r }
+
+  pub run-next : {start up down more less ups downs : ℕ} {ok : Bool} (n i : ℕ) → RunAs test p q n start up down i more less → SeenAs (test i) (p i) (q i) ok ups downs → ok ≡ true → i < n
+      → RunAs test p q n start up down (i + 1) (more + ups) (less + downs)
+  run-next n i run s t h =
+      record {
+        on = omega (arith, run .on);
+        within = omega arith;
+        few = (omega (arith, run .few .0, s .few .0), omega (arith, run .few .1, s .few .1));
+        reaches = λ r. reached-next i (run .reaches r) s t;
+      }
+
+-- ---- the header and all trees
 
 pub alone-read : {a z g : Bool} {number shape dimension : ℕ} (d k : ℕ) (r : List ℕ) → shape ≡ shapeOf r → a ≡ shapeOk shape → z ≡ zerosOk r → g ≡ regionOk r → number ≡ numberOf r → dimension ≡ dimensionOf shape
     → (a && z && g && eqb number k && eqb dimension d) ≡ aloneByDimension d k r

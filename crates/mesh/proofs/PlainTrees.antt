@@ -1,158 +1,128 @@
--- Plain trees: hexahedra whose neighbours are hexahedra.
+-- Plain trees: hexahedra whose neighbours are hexahedra. Their tests answer in one direction: where they pass, the tree does; else nothing is said.
 use Prim.Native.Nat.{ℕ, _+_, _*_, _/_, _%_, _≤_, _<_}
 use native.Mathlib.Nat.{div-eq-of-lt}
 use native.Mathlib.Omega.{arith}
 use mathlib.Core.Path.{_≡_, refl, sym, _∙_}
-use mathlib.Core.Bool.{Bool, true, false, _&&_, _||_}
+use mathlib.Core.Bool.{Bool, true, false, not, _&&_, _||_}
 use mathlib.Core.List.{List}
 use lib.Dec.{ltb, eqb}
-use borrow.Author.Tests.{ltb-true, eqb-true, eq-eqb, ne-eqb, lt-ltb, le-ltb}
+use borrow.Author.Tests.{ltb-true, eqb-true, eq-eqb, lt-ltb, le-ltb}
 use Rattle.encoding.specs.Below.{allBelow, countBelow}
 use Rattle.encoding.specs.Pieces.{piece}
-use Rattle.encoding.proofs.Below.{tests, either, clash, and-fst, and-snd, and-intro, all-at, all-intro}
-use Rattle.records.specs.Shape.{dimensionOf, facesIn}
-use Rattle.records.specs.Record.{coreSize, treeSize, shapeOf, neighbourOf, codeOf, facesOf, orientationOf, toItself, boundaryOk}
-use Rattle.mesh.specs.Means.{answeredThere, linkByDimension, faceByDimension, leadsUp, leadsDown, faceFromAbove, plainFace, PlainAs, SeenAs}
-use Rattle.mesh.proofs.ByDimension.{both-hexahedra}
-use Rattle.mesh.proofs.Checking.{is-answered}
+use Rattle.encoding.proofs.Below.{either, and-fst, and-snd, and-intro, all-at, all-intro}
+use Rattle.records.specs.Shape.{shapeOk, dimensionOf, faceCount, facesIn}
+use Rattle.records.specs.Record.{coreSize, treeSize, shapeOf, neighbourOf, codeOf, facesOf, orientationOf, toItself, boundaryOk, inForm}
+use Rattle.records.specs.Means.{alikeForm}
+use Rattle.records.proofs.Forms.{alike-used, alike-zeros, alike-region, alike-number, alike-shape, alike-form, hexahedron-faces}
+use Rattle.mesh.specs.Mesh.{meshHeader, meshCore}
+use Rattle.mesh.specs.Means.{cornersFit, answeredThere, linkByDimension, faceByDimension, treeByDimension, facePasses, leadsUp, leadsDown, linksUp, linksDown, aloneByDimension, faceFromAbove, treeFromAbove, SeenAs}
+use Rattle.mesh.proofs.Checking.{is-answered, leads-up, leads-down, tree-seen, tree-read, face-read}
 
 -- ---- a link
 
--- all faces of two hexahedra have 4 corners
-pub plain-down : {c a : ℕ} {t : Bool} (back f : ℕ) (r s : List ℕ) → c ≡ codeOf r f → f < 6 → shapeOf r ≡ 2 → a ≡ shapeOf s → t ≡ answeredThere back c f s (c % 6)
-    → (ltb c 24 && eqb a 2 && t) ≡ true → linkByDimension 3 back r f s ≡ true
+-- between records of one shape
+pub alike-down : {a c : ℕ} {w t : Bool} (shape back f : ℕ) (r s : List ℕ) → c ≡ codeOf r f → shapeOf r ≡ shape → a ≡ shapeOf s → w ≡ cornersFit (c / 6) shape f shape (c % 6) → t ≡ answeredThere back c f s (c % 6)
+    → (eqb a shape && w && t) ≡ true → linkByDimension 3 back r f s ≡ true
 unfolding facesIn
-plain-down {c} {a} {t} back f r s code six shape is-a is-t e =
-    let two : (ltb c 24 && eqb a 2) ≡ true = and-fst (ltb c 24 && eqb a 2) t e in
-    let few : c < 24 = ltb-true c 24 (and-fst (ltb c 24) (eqb a 2) two) in
-    let other : shapeOf s ≡ 2 = sym is-a ∙ eqb-true a 2 (and-snd (ltb c 24) (eqb a 2) two) in
-    let answered : answeredThere back c f s (c % 6) ≡ true = sym is-t ∙ and-snd (ltb c 24 && eqb a 2) t e in
-    let both : (eqb (shapeOf r) (shapeOf s) && eqb (shapeOf r) 2) ≡ true =
-    and-intro (eqb (shapeOf r) (shapeOf s)) (eqb (shapeOf r) 2) (eq-eqb (shapeOf r) (shapeOf s) (shape ∙ sym other)) (eq-eqb (shapeOf r) 2 shape) in
-    sym (is-answered 3 back r s f c (c % 6) (c / 6) code refl refl answered)
-    ∙ (sym (both-hexahedra (c / 6) (shapeOf r) f (shapeOf s) (c % 6) both (six, omega arith)) ∙ lt-ltb (c / 6) 4 (omega arith))
+alike-down {a} {c} {w} {t} shape back f r s code own is fits answers e =
+    let two : (eqb a shape && w) ≡ true = and-fst (eqb a shape && w) t e in
+    let other : shapeOf s ≡ shape = sym is ∙ eqb-true a shape (and-fst (eqb a shape) w two) in
+    let answered : answeredThere back c f s (c % 6) ≡ true = sym answers ∙ and-snd (eqb a shape && w) t e in
+    sym (is-answered 3 back r s f c (c % 6) (c / 6) code refl refl answered) ∙ rw (own, other) (sym fits ∙ and-snd (eqb a shape) w two)
 
--- a link with orientation 0 may be a boundary
-pub plain-boundary : (own : ℕ) (r : List ℕ) (f : ℕ) → shapeOf r ≡ 2 → codeOf r f < 6 → boundaryOk own r f ≡ true
-unfolding boundaryOk orientationOf facesOf dimensionOf facesIn
-plain-boundary own r f shape small =
-    let turn : eqb (orientationOf r f) 0 ≡ true = rw (shape, div-eq-of-lt small) in
-    either (toItself own r f) (λ t. rw t turn) (λ t. rw t)
+-- a face that leads to the record itself has orientation 0
+module _ (own : ℕ) (r : List ℕ) (f : ℕ) (space : dimensionOf (shapeOf r) ≡ 3) where
+  straight : codeOf r f < 6 → boundaryOk own r f ≡ true
+  unfolding boundaryOk orientationOf facesOf facesIn
+  straight small =
+      let turn : eqb (orientationOf r f) 0 ≡ true = rw (space, div-eq-of-lt small) in
+      either (toItself own r f) (λ t. rw t turn) (λ t. rw t)
 
--- ---- a tree
+  pub plain-edge : {n c : ℕ} → n ≡ neighbourOf r f → c ≡ codeOf r f → (not (eqb n own) || ltb c 6) ≡ true → boundaryOk own r f ≡ true
+  unfolding boundaryOk toItself
+  plain-edge {n} {c} read code t =
+      either (eqb n own)
+      (λ same. let small : ltb c 6 ≡ true = rw same at t in straight (rw (← code) (ltb-true c 6 small)))
+      (λ other. rw (← read, other))
 
--- the records from byte `at` on
-module _ (bs : List ℕ) (at : ℕ) where
-  abbrev core : ℕ → List ℕ
-  core = λ k. piece bs (at + treeSize * k) coreSize
+-- ---- a tree of a mesh
 
-  module _ (i f : ℕ) {k : ℕ} (read : k ≡ neighbourOf (piece bs (at + treeSize * i) coreSize) f) where
-    -- a link up, and one that doesn't lead up
-    pub up-plain : (n : ℕ) → i < k → k < n → plainFace core n i f ≡ true
-    unfolding plainFace leadsUp
-    up-plain n l h = rw (← read, lt-ltb i k l, lt-ltb k n h)
+module _ (m : List ℕ) (k : ℕ) {at : ℕ} (here : at ≡ meshHeader + treeSize * k) where
+  module _ (f : ℕ) {n : ℕ} (read : n ≡ neighbourOf (piece m at coreSize) f) where
+    -- a link up
+    module _ (up : k < n) where
+      pub up-face : (d K : ℕ) → n < K → faceFromAbove (meshCore m) d K k f ≡ true
+      unfolding faceFromAbove leadsUp meshCore
+      up-face d K h = rw (← here, ← read, lt-ltb k n up, lt-ltb n K h)
 
-    pub up-counts : i < k → true ≡ leadsUp core i f
-    unfolding leadsUp
-    up-counts l = rw (← read, lt-ltb i k l)
+      pub up-counts : true ≡ leadsUp (meshCore m) k f
+      up-counts = sym (lt-ltb k n up) ∙ leads-up m k here n f read
 
-    pub up-stays : i < k → leadsDown core i f ≡ false
-    unfolding leadsDown
-    up-stays l = rw (← read, le-ltb k i (omega arith))
+      pub up-stays : leadsDown (meshCore m) k f ≡ false
+      up-stays = sym (leads-down m k here n f read) ∙ le-ltb n k (omega arith)
 
-    pub down-plain : {b : Bool} {c : ℕ} (n : ℕ) → k ≤ i
-        → (b ≡ true → linkByDimension 3 i (piece bs (at + treeSize * i) coreSize) f (piece bs (at + treeSize * k) coreSize) ≡ true)
-        → c ≡ codeOf (piece bs (at + treeSize * i) coreSize) f → (b && (ltb k i || ltb c 6)) ≡ true → plainFace core n i f ≡ true
-    unfolding plainFace leadsUp
-    down-plain {b} {c} n l linked is t =
-        let low : (ltb k i || ltb c 6) ≡ true = and-snd b (ltb k i || ltb c 6) t in
-        rw (← read, le-ltb i k l, ← is, low, linked (and-fst b (ltb k i || ltb c 6) t))
+    -- any other
+    module _ (other : n ≤ k) where
+      pub down-stays : leadsUp (meshCore m) k f ≡ false
+      down-stays = sym (leads-up m k here n f read) ∙ le-ltb k n other
 
-    pub down-stays : k ≤ i → leadsUp core i f ≡ false
-    unfolding leadsUp
-    down-stays l = rw (← read, le-ltb i k l)
+      pub down-face : {b : Bool} {c to : ℕ} (K : ℕ) → dimensionOf (shapeOf (piece m at coreSize)) ≡ 3 → to ≡ meshHeader + treeSize * n → c ≡ codeOf (piece m at coreSize) f
+          → (b ≡ true → linkByDimension 3 k (piece m at coreSize) f (piece m to coreSize) ≡ true) → (b && (not (eqb n k) || ltb c 6)) ≡ true → faceFromAbove (meshCore m) 3 K k f ≡ true
+      unfolding faceFromAbove leadsUp meshCore
+      down-face {b} {c} K space there code linked t =
+          let edge : boundaryOk k (piece m at coreSize) f ≡ true = plain-edge k (piece m at coreSize) f space read code (and-snd b (not (eqb n k) || ltb c 6) t) in
+          rw (← here, ← read, le-ltb k n other, edge, ← there, linked (and-fst b (not (eqb n k) || ltb c 6) t))
 
-    pub down-counts : ltb k i ≡ leadsDown core i f
-    unfolding leadsDown
-    down-counts = rw (← read)
+  module _ {h : Bool} (is : h ≡ alikeForm 2 6 k (piece m at coreSize)) (t : h ≡ true) where
+    hexahedron : alikeForm 2 6 k (piece m at coreSize) ≡ true
+    hexahedron = sym is ∙ t
 
-  -- the loop over its faces has come to its end
-  pub plain-all : {shape ups downs : ℕ} (n i face : ℕ) → shape ≡ shapeOf (piece bs (at + treeSize * i) coreSize) → shape ≡ 2 → face ≤ 6 → 6 ≤ face → allBelow face (plainFace core n i) ≡ true
-      → (ups ≡ countBelow face (leadsUp core i)) × (ups ≤ face) → (downs ≡ countBelow face (leadsDown core i)) × (downs ≤ face) → PlainAs core n i true ups downs
-  plain-all n i face is two h k passed u v =
-      let e : face ≡ 6 = omega arith in
-      record {
-        hexahedron = λ t. sym is ∙ two;
-        passes = λ t. rw (← e) passed;
-        upward = λ t. rw (← e) (u .0);
-        downward = λ t. rw (← e) (v .0);
-        few = (omega (arith, u .1), omega (arith, v .1));
-      }
+    pub tree-shape : shapeOf (piece m at coreSize) ≡ 2
+    tree-shape = alike-shape 2 6 k (piece m at coreSize) hexahedron
 
--- nothing is said of a tree that isn't plain
-pub plain-none : {ok : Bool} {ups downs : ℕ} {core : ℕ → List ℕ} {n i : ℕ} → (ok ≡ false) × ((ups ≡ 0) × (downs ≡ 0)) → PlainAs core n i ok ups downs
-plain-none r =
-    record {
-      hexahedron = λ t. clash t (r .0);
-      passes = λ t. clash t (r .0);
-      upward = λ t. clash t (r .0);
-      downward = λ t. clash t (r .0);
-      few = (omega (arith, r .1 .0), omega (arith, r .1 .1));
-    }
+    pub tree-space : dimensionOf (shapeOf (piece m at coreSize)) ≡ 3
+    unfolding dimensionOf
+    tree-space = rw tree-shape
 
-module _ {core : ℕ → List ℕ} {n i : ℕ} {ok : Bool} {ups downs : ℕ} (p : PlainAs core n i ok ups downs) (t : ok ≡ true) where
-  -- a link that doesn't lead up
-  module _ (f : ℕ) (h : f < 6) (l : neighbourOf (core i) f ≤ i) where
-    plain-both : ((ltb (neighbourOf (core i) f) i || ltb (codeOf (core i) f) 6) && linkByDimension 3 i (core i) f (core (neighbourOf (core i) f))) ≡ true
-    unfolding plainFace leadsUp
-    plain-both = rw (le-ltb i (neighbourOf (core i) f) l) at (all-at 6 (plainFace core n i) (p .passes t) f h)
+    alone : aloneByDimension 3 k (piece m at coreSize) ≡ true
+    unfolding aloneByDimension shapeOk dimensionOf
+    alone =
+        rw (alike-zeros 2 6 k (piece m at coreSize) hexahedron, alike-region 2 6 k (piece m at coreSize) hexahedron, alike-number 2 6 k (piece m at coreSize) hexahedron, eq-eqb k k refl, tree-shape)
 
-    pub plain-linked : linkByDimension 3 i (core i) f (core (neighbourOf (core i) f)) ≡ true
-    plain-linked = and-snd (ltb (neighbourOf (core i) f) i || ltb (codeOf (core i) f) 6) (linkByDimension 3 i (core i) f (core (neighbourOf (core i) f))) plain-both
+    pub plain-seen : {ok : Bool} {ups downs : ℕ} (K : ℕ) → SeenAs (allBelow 6 (faceFromAbove (meshCore m) 3 K k)) (countBelow 6 (leadsUp (meshCore m) k)) (countBelow 6 (leadsDown (meshCore m) k)) ok ups downs
+        → SeenAs (treeFromAbove (meshCore m) 3 K k) (linksUp (meshCore m) k) (linksDown (meshCore m) k) ok ups downs
+    plain-seen K s =
+        let six : faceCount (shapeOf (piece m at coreSize)) ≡ 6 = hexahedron-faces k (piece m at coreSize) hexahedron in
+        tree-seen m 3 K k here refl (sym six) alone (alike-used 2 6 k (piece m at coreSize) hexahedron) s
 
-    pub plain-edge : boundaryOk i (core i) f ≡ true
-    unfolding boundaryOk toItself
-    plain-edge =
-        let low : (ltb (neighbourOf (core i) f) i || ltb (codeOf (core i) f) 6) ≡ true =
-        and-fst (ltb (neighbourOf (core i) f) i || ltb (codeOf (core i) f) 6) (linkByDimension 3 i (core i) f (core (neighbourOf (core i) f))) plain-both in
-        either (ltb (neighbourOf (core i) f) i)
-        (λ u. let other : eqb (neighbourOf (core i) f) i ≡ false = ne-eqb (neighbourOf (core i) f) i (λ e. omega (tests, e)) in rw other)
-        (λ u. let small : ltb (codeOf (core i) f) 6 ≡ true = rw u at low in plain-boundary i (core i) f (p .hexahedron t) (ltb-true (codeOf (core i) f) 6 small))
+-- ---- a tree of which each link is looked at, and its neighbours have its shape
 
-  -- and one that does
-  pub plain-inside : (f : ℕ) → f < 6 → i < neighbourOf (core i) f → neighbourOf (core i) f < n
-  unfolding plainFace leadsUp
-  plain-inside f h l =
-      let inside : ltb (neighbourOf (core i) f) n ≡ true = rw (lt-ltb i (neighbourOf (core i) f) l) at (all-at 6 (plainFace core n i) (p .passes t) f h) in
-      omega tests
+module _ (m : List ℕ) (K k : ℕ) {at : ℕ} (here : at ≡ meshHeader + treeSize * k) (shape faces : ℕ) {h : Bool} (is : h ≡ alikeForm shape faces k (piece m at coreSize)) (t : h ≡ true) (space : dimensionOf shape ≡ 3) where
+  own-record : alikeForm shape faces k (piece m at coreSize) ≡ true
+  own-record = sym is ∙ t
 
-  plain-above : (f : ℕ) → f < 6 → faceFromAbove core 3 n i f ≡ true
-  unfolding faceFromAbove leadsUp
-  plain-above f h =
-      either (ltb i (neighbourOf (core i) f))
-      (λ u. let l : i < neighbourOf (core i) f = omega tests in rw (u, lt-ltb (neighbourOf (core i) f) n (plain-inside f h l)))
-      (λ u. let l : neighbourOf (core i) f ≤ i = omega tests in rw (u, plain-edge f h l, plain-linked f h l))
+  pub own-shape : shapeOf (piece m at coreSize) ≡ shape
+  own-shape = alike-shape shape faces k (piece m at coreSize) own-record
 
-  -- a plain tree of a mesh
-  pub plain-seen : (faces d : ℕ) → (eqb faces 6 && eqb d 3) ≡ true
-      → SeenAs (allBelow faces (faceFromAbove core d n i)) (countBelow faces (leadsUp core i)) (countBelow faces (leadsDown core i)) ok ups downs
-  plain-seen faces d e =
-      let six : faces ≡ 6 = eqb-true faces 6 (and-fst (eqb faces 6) (eqb d 3) e) in
-      let three : d ≡ 3 = eqb-true d 3 (and-snd (eqb faces 6) (eqb d 3) e) in
-      let all : allBelow 6 (faceFromAbove core 3 n i) ≡ true = all-intro 6 (faceFromAbove core 3 n i) plain-above in
-      rw (six, three) (record { tested = t ∙ sym all; upward = p .upward; downward = p .downward; few = p .few })
+  pub alike-face : (f : ℕ) {n c to : ℕ} {b : Bool} → n ≡ neighbourOf (piece m at coreSize) f → n < K → to ≡ meshHeader + treeSize * n → c ≡ codeOf (piece m at coreSize) f
+      → (b ≡ true → linkByDimension 3 k (piece m at coreSize) f (piece m to coreSize) ≡ true) → (b && (not (eqb n k) || ltb c 6)) ≡ true → facePasses (meshCore m) K k f ≡ true
+  unfolding facePasses meshCore
+  alike-face f {n} {c} {b = b} read below there code linked e =
+      let edge : boundaryOk k (piece m at coreSize) f ≡ true = plain-edge k (piece m at coreSize) f (rw own-shape space) read code (and-snd b (not (eqb n k) || ltb c 6) e) in
+      let link : faceByDimension (meshCore m) 3 K k f ≡ true = sym (face-read m 3 K k here n _ f read below there (sym (linked (and-fst b (not (eqb n k) || ltb c 6) e)))) in
+      rw (← here) (and-intro (boundaryOk k (piece m at coreSize) f) (faceByDimension (meshCore m) 3 K k f) edge link)
 
--- ---- each link from this end
+  module _ (sound : shapeOk shape ≡ true) (counted : faces ≡ faceCount shape) (all : allBelow faces (facePasses (meshCore m) K k) ≡ true) where
+    both : (f : ℕ) → f < faces → (boundaryOk k (piece m at coreSize) f && faceByDimension (meshCore m) 3 K k f) ≡ true
+    unfolding facePasses meshCore
+    both f l = rw (← here) at (all-at faces (facePasses (meshCore m) K k) all f l)
 
-module _ (bs : List ℕ) (at i f n : ℕ) {k : ℕ} (read : k ≡ neighbourOf (piece bs (at + treeSize * i) coreSize) f) where
-  pub plain-here : k < n → linkByDimension 3 i (piece bs (at + treeSize * i) coreSize) f (piece bs (at + treeSize * k) coreSize) ≡ true
-      → faceByDimension (λ k. piece bs (at + treeSize * k) coreSize) 3 n i f ≡ true
-  unfolding faceByDimension
-  plain-here h p = rw (← read, lt-ltb k n h, p)
+    linked : allBelow faces (faceByDimension (meshCore m) 3 K k) ≡ true
+    linked = all-intro faces (faceByDimension (meshCore m) 3 K k) (λ f l. and-snd (boundaryOk k (piece m at coreSize) f) (faceByDimension (meshCore m) 3 K k f) (both f l))
 
--- all six
-pub from-here : (faces d : ℕ) (core : ℕ → List ℕ) (n i : ℕ) → (eqb faces 6 && eqb d 3) ≡ true → allBelow 6 (faceByDimension core 3 n i) ≡ true → true ≡ allBelow faces (faceByDimension core d n i)
-from-here faces d core n i e all =
-    let six : faces ≡ 6 = eqb-true faces 6 (and-fst (eqb faces 6) (eqb d 3) e) in
-    let three : d ≡ 3 = eqb-true d 3 (and-snd (eqb faces 6) (eqb d 3) e) in
-    rw (six, three) (sym all)
+    formed : inForm k (piece m at coreSize) ≡ true
+    formed = alike-form shape faces k (piece m at coreSize) own-record k sound counted (λ f l. and-fst (boundaryOk k (piece m at coreSize) f) (faceByDimension (meshCore m) 3 K k f) (both f l))
+
+    pub alike-tree : treeByDimension (meshCore m) 3 K k ≡ true
+    alike-tree =
+        sym (tree-read m 3 K k here (sym own-shape) (sym formed) refl (sym space) counted (sym linked)) ∙ rw (alike-number shape faces k (piece m at coreSize) own-record, eq-eqb k k refl)

@@ -1,7 +1,7 @@
 -- Means, no part of what is promised: the rule of a link between two records, and the same read by the dimension. In proofs/ByDimension.antt: where all records have the dimension, the two say the same.
 use Prim.Native.Nat.{ℕ, zero, suc, _+_, _*_, _/_, _%_, _≤_}
 use mathlib.Core.Path.{_≡_}
-use mathlib.Core.Bool.{Bool, true, cond, _&&_, _||_}
+use mathlib.Core.Bool.{Bool, true, cond, _&&_}
 use mathlib.Core.List.{List}
 use lib.Dec.{ltb, leb, eqb}
 use Rattle.encoding.specs.Below.{allBelow, countBelow, sumBelow}
@@ -39,6 +39,10 @@ faceByDimension core d K k f = ltb (neighbourOf (core k) f) K && linkByDimension
 unfoldable pub treeByDimension : (ℕ → List ℕ) → ℕ → ℕ → ℕ → Bool
 treeByDimension core d K k =
     inForm k (core k) && eqb (numberOf (core k)) k && eqb (dimensionOf (shapeOf (core k))) d && allBelow (faceCount (shapeOf (core k))) (faceByDimension core d K k)
+
+-- a face that the shape has, in dimension 3: its form and its link
+unfoldable pub facePasses : (ℕ → List ℕ) → ℕ → ℕ → ℕ → Bool
+facePasses core K k f = boundaryOk k (core k) f && faceByDimension core 3 K k f
 
 -- ---- each link looked at from the end with the higher number, and a count. In proofs/FromAbove.antt: over all trees it is what treeSound says
 
@@ -98,17 +102,21 @@ pub record SeenAs (test : Bool) (up down : ℕ) (ok : Bool) (ups downs : ℕ) : 
   pub downward : ok ≡ true → downs ≡ down
   pub few : (ups ≤ 6) × (downs ≤ 6)
 
--- ---- plain trees: hexahedra whose neighbours are hexahedra. Their tests answer in one direction: where they pass, the tree's links do; else nothing is said
+-- a loop over the faces that has come to face f: those before it pass, and so many of them lead up and down
+pub record FacesAs (test up down : ℕ → Bool) (f ups downs : ℕ) : Type 0 where
+  pub passed : allBelow f test ≡ true
+  pub upward : (ups ≡ countBelow f up) × (ups ≤ f)
+  pub downward : (downs ≡ countBelow f down) × (downs ≤ f)
 
--- a link up leads to a tree below n, any other obeys the rule, and has orientation 0 if it leads to the tree itself
-unfoldable pub plainFace : (ℕ → List ℕ) → ℕ → ℕ → ℕ → Bool
-plainFace core n i f =
-    cond (leadsUp core i f) (ltb (neighbourOf (core i) f) n) ((ltb (neighbourOf (core i) f) i || ltb (codeOf (core i) f) 6) && linkByDimension 3 i (core i) f (core (neighbourOf (core i) f)))
+-- the records before `next` pass, and have so many links up and down
+pub record Reached (test : ℕ → Bool) (up down : ℕ → ℕ) (next ups downs : ℕ) : Type 0 where
+  pub passed : allBelow next test ≡ true
+  pub upward : ups ≡ sumBelow next up
+  pub downward : downs ≡ sumBelow next down
 
--- the test of tree i of n
-pub record PlainAs (core : ℕ → List ℕ) (n i : ℕ) (ok : Bool) (ups downs : ℕ) : Type 0 where
-  pub hexahedron : ok ≡ true → shapeOf (core i) ≡ 2
-  pub passes : ok ≡ true → allBelow 6 (plainFace core n i) ≡ true
-  pub upward : ok ≡ true → ups ≡ countBelow 6 (leadsUp core i)
-  pub downward : ok ≡ true → downs ≡ countBelow 6 (leadsDown core i)
-  pub few : (ups ≤ 6) × (downs ≤ 6)
+-- a run over n records that had come to `start`, with so many links up and down, goes on to `next`
+pub record RunAs (test : ℕ → Bool) (up down : ℕ → ℕ) (n start upBefore downBefore next ups downs : ℕ) : Type 0 where
+  pub on : start ≤ next
+  pub within : next ≤ n
+  pub few : (ups ≤ 6 * next) × (downs ≤ 6 * next)
+  pub reaches : Reached test up down start upBefore downBefore → Reached test up down next ups downs

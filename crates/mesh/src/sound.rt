@@ -6,7 +6,7 @@ use crate::layout::trees;
 use crate::link::answered_there;
 use crate::link::corners_fit;
 use crate::link::parted;
-use crate::plain::plain_links;
+use crate::plain::run_on;
 ghost use mathlib.Core.Path.{_≡_};
 ghost use mathlib.Core.Bool.{true, false, cond};
 ghost use Prim.Native.Nat.{_+_, _*_, _≤_, _<_};
@@ -20,6 +20,13 @@ ghost use Rattle.mesh.specs.Means.{packed, linkByDimension, leadsInside,
 // What the faces of a tree show: whether each passes, and how many links lead up and down.
 pub struct Seen {
     pub ok: bool,
+    pub ups: u64,
+    pub downs: u64,
+}
+
+// A run of trees: those before `next` pass, and have so many links up and down.
+pub struct Run {
+    pub next: u32,
     pub ups: u64,
     pub downs: u64,
 }
@@ -145,25 +152,10 @@ fn listed_sound(mesh: &[u8], dimension: u32, trees: u32, k: u32, faces: u32, lis
     true
 }
 
-// Whether the tree is plain; if not, nothing is said. Most hexahedra are.
-fn plain_faces(mesh: &[u8], dimension: u32, trees: u32, k: u32, faces: u32) -> Seen
-    requires { ⌜ (length (now mesh) ≡ meshHeader + treeSize * trees) × (k < trees) ⌝ }
-    ensures { λ r. ⌜ (r .ok ≡ true → SeenAs (allBelow faces (faceFromAbove (meshCore (now (mesh .entry))) dimension trees k)) (countBelow faces (leadsUp (meshCore (now (mesh .entry))) k)) (countBelow faces (leadsDown (meshCore (now (mesh .entry))) k)) (r .ok) (r .ups) (r .downs)) ⌝ }
-{
-    if !((faces == 6) & (dimension == 3)) {
-        return refused();
-    }
-    plain_links(mesh, 8, trees, k)
-}
-
 fn faces_sound(mesh: &[u8], dimension: u32, trees: u32, k: u32, faces: u32) -> Seen
     requires { ⌜ (length (now mesh) ≡ meshHeader + treeSize * trees) × (k < trees) × (faces ≤ 6) ⌝ }
     ensures { λ r. ⌜ SeenAs (allBelow faces (faceFromAbove (meshCore (now (mesh .entry))) dimension trees k)) (countBelow faces (leadsUp (meshCore (now (mesh .entry))) k)) (countBelow faces (leadsDown (meshCore (now (mesh .entry))) k)) (r .ok) (r .ups) (r .downs) ⌝ }
 {
-    let plain = plain_faces(mesh, dimension, trees, k, faces);
-    if plain.ok {
-        return plain;
-    }
     let links = sorted(mesh, trees, k, faces);
     if !links.ok {
         return refused();
@@ -213,13 +205,27 @@ fn trees_sound(mesh: &[u8], dimension: u32, trees: u32) -> bool
     let mut ups = 0;
     let mut downs = 0;
     while k < trees {
-        let seen = tree_sound(mesh, dimension, trees, k);
+        let run = run_on(
+            mesh,
+            dimension,
+            trees,
+            Run {
+                next: k,
+                ups,
+                downs,
+            },
+        );
+        let tree = run.next;
+        if tree == trees {
+            return run.ups == run.downs;
+        }
+        let seen = tree_sound(mesh, dimension, trees, tree);
         if !seen.ok {
             return false;
         }
-        ups += seen.ups;
-        downs += seen.downs;
-        k += 1;
+        ups = run.ups + seen.ups;
+        downs = run.downs + seen.downs;
+        k = tree + 1;
     }
     ups == downs
 }

@@ -140,12 +140,12 @@ module _ (part : List ℕ) (i : ℕ) {at : ℕ} (here : at ≡ treePlace i) wher
             fits-face h (face-ghost (omega tests) (omega tests) number (rw q at there) (rw own at p)))
 
 -- where the record with local index j ends
-pub place-fits : {part : List ℕ} {first n g : ℕ} (j : ℕ) {to : ℕ} → PartCounted part first n g → j < n + g → to ≡ recordPlace n j → to + coreSize ≤ length part
+pub place-fits : {room to : ℕ} (n g j : ℕ) → room ≡ partSize n g → j < n + g → to ≡ recordPlace n j → to + coreSize ≤ room
 unfolding recordPlace
-place-fits {n} j known h e =
+place-fits n g j long h e =
     either (ltb j n)
-    (λ p. let place = rw p at e in omega (tests, place, known .long))
-    (λ p. let place = rw p at e in omega (tests, place, known .long))
+    (λ p. let place = rw p at e in omega (tests, place, long))
+    (λ p. let place = rw p at e in omega (tests, place, long))
 
 -- ---- ghosts
 

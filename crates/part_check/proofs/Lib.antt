@@ -3,5 +3,5 @@ pub mod Checks
 pub mod Judging
 pub mod FromOneEnd
 pub mod ByDimension
-pub mod Plain
 pub mod Checking
+pub mod PlainTrees

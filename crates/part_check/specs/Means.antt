@@ -9,6 +9,7 @@ use Rattle.encoding.specs.Below.{allBelow, anyBelow, countBelow, leastBelow, su
 use Rattle.offsets.specs.Limits.{maxTrees}
 use Rattle.records.specs.Shape.{dimensionOf, faceCount}
 use Rattle.records.specs.Record.{numberOf, shapeOf, neighbourOf, boundaryOk, inForm}
+use Rattle.records.specs.Means.{alikeForm}
 use Rattle.mesh.specs.Link.{orientationOk}
 use Rattle.part.specs.Layout.{partSize}
 use Rattle.part.specs.Part.{storedTree}
@@ -134,3 +135,10 @@ pub record PartCounted (part : List ℕ) (first n g : ℕ) : Type 0 where
 pub record TreeKnown (part : List ℕ) (first n i : ℕ) : Type 0 where
   pub below : i < n
   pub number : treeNumbered first (storedTree part) i ≡ true
+
+-- a part of n trees from the first on and g ghosts, by its length, and a tree of it that is a hexahedron with its number
+pub record Hexahedron (part : List ℕ) (first n g i : ℕ) : Type 0 where
+  pub long : length part ≡ partSize n g
+  pub low : first + n ≤ maxTrees
+  pub below : i < n
+  pub plain : alikeForm 2 6 (first + i) (storedTree part i) ≡ true

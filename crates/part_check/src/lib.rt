@@ -2,6 +2,7 @@
 ghost use mathlib.Core.Path.{_≡_};
 ghost use Rattle.part_check.specs.Calls.{partRefusal};
 
+pub mod plain;
 pub mod sound;
 
 // Check a part for a table and a rank (2, 3, 5, 8): 0 or the refusal.

@@ -1,10 +1,11 @@
 // Whether a part is sound. Its tree records hold local indices, its ghosts global numbers: each link is followed by what stands in the record, and looked at from one end. Between a tree and a ghost that is the tree, between two trees or two ghosts the one with the higher number. Where as many links lead up as down, each link up is then the answer to one down (proofs/FromOneEnd.antt).
+use crate::plain::run_on;
 use ghost_links::check::alone;
 use ghost_links::check::ghosts_linked;
 use mesh::link::answered_there;
 use mesh::link::corners_fit;
 use mesh::link::parted;
-use mesh::plain::plain_links;
+use mesh::sound::Run;
 use mesh::sound::Seen;
 use mesh::sound::one;
 use mesh::sound::refused;
@@ -23,7 +24,7 @@ use records::index::LocalIndex;
 use records::index::to_local;
 ghost use mathlib.Core.Path.{_≡_};
 ghost use mathlib.Core.Bool.{true, cond, _&&_};
-ghost use Prim.Native.Nat.{ℕ, _+_, _*_, _≤_, _<_};
+ghost use Prim.Native.Nat.{_+_, _*_, _≤_, _<_};
 ghost use lib.Dec.{ltb, eqb};
 ghost use lib.ListN.{length};
 ghost use Rattle.encoding.specs.Below.{allBelow, countBelow, leastBelow, sumBelow};
@@ -132,7 +133,7 @@ fn tree_link(part: &[u8], dimension: u32, back: u32, at: usize, face: u32, to: u
 }
 
 // What the record with local index j has for tree i: a tree its local index, a ghost its number.
-fn back_of(first: u32, count: u32, i: u32, j: u32) -> u32
+pub fn back_of(first: u32, count: u32, i: u32, j: u32) -> u32
     requires { ⌜ first + i < maxTrees ⌝ }
     ensures { λ r. ⌜ r ≡ cond (ltb j count) i (first + i) ⌝ }
 {
@@ -211,17 +212,6 @@ fn tree_faces(
     }
 }
 
-// Whether the links of a tree are plain, all to trees of the part; if not, nothing is said. Most hexahedra are.
-fn plain_tree(part: &[u8], count: u32, dimension: u32, tree: LocalIndex, faces: u32) -> Seen
-    requires { ⌜ (treePlace count ≤ length (now part)) × (tree .0 < count) ⌝ }
-    ensures { λ r. ⌜ (r .ok ≡ true → (g : ℕ) → SeenAs (allBelow faces (treeFaceDown (linkByDimension dimension) count g (storedTree (now (part .entry))) (ghostCore (now (part .entry)) count) (tree .0))) (countBelow faces (treeUp count (storedTree (now (part .entry))) (tree .0))) (countBelow faces (treeDown count (storedTree (now (part .entry))) (tree .0))) (r .ok) (r .ups) (r .downs)) ⌝ }
-{
-    if !((faces == 6) & (dimension == 3)) {
-        return refused();
-    }
-    plain_links(part, 32, count, tree.0)
-}
-
 fn tree_sound(
     part: &[u8],
     first: u32,
@@ -238,10 +228,6 @@ fn tree_sound(
         return refused();
     }
     let faces = records::shape::face_count(records::read::shape_of(part, at));
-    let plain = plain_tree(part, count, dimension, tree, faces);
-    if plain.ok {
-        return plain;
-    }
     tree_faces(part, first, count, ghosts, dimension, tree, faces)
 }
 
@@ -254,13 +240,33 @@ fn trees_sound(part: &[u8], first: u32, count: u32, ghosts: u32, dimension: u32)
     let mut ups = 0;
     let mut downs = 0;
     while i < count {
-        let seen = tree_sound(part, first, count, ghosts, dimension, LocalIndex(i));
+        let run = run_on(
+            part,
+            first,
+            count,
+            ghosts,
+            dimension,
+            Run {
+                next: i,
+                ups,
+                downs,
+            },
+        );
+        let tree = run.next;
+        if tree == count {
+            return Seen {
+                ok: true,
+                ups: run.ups,
+                downs: run.downs,
+            };
+        }
+        let seen = tree_sound(part, first, count, ghosts, dimension, LocalIndex(tree));
         if !seen.ok {
             return refused();
         }
-        ups += seen.ups;
-        downs += seen.downs;
-        i += 1;
+        ups = run.ups + seen.ups;
+        downs = run.downs + seen.downs;
+        i = tree + 1;
     }
     Seen {
         ok: true,

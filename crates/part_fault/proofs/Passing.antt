@@ -19,7 +19,6 @@ use Rattle.part.specs.Means.{inRange, neighbourIn, ghostCore, ghostHas}
 use Rattle.part.specs.Part.{storedTree, storedGhost, viewOf}
 use Rattle.part.proofs.Ranges.{range-last}
 use Rattle.part_check.specs.Means.{treeTo, treeFace, treeStored, treeNumbered, ghostNumbered, ghostTo, ghostFace, ghostStored}
-use Rattle.faults.specs.declared.answer.Wrong.{Wrong}
 use Rattle.faults.proofs.OneRecord.{link-any}
 use Rattle.part_fault.specs.declared.search.Extent.{Extent}
 use Rattle.part_fault.specs.declared.search.Way.{Way}
@@ -90,6 +89,11 @@ module _ (part : List ℕ) (e : Extent) (known : Known part e) where
       → (treeNumbered (e .first) (storedTree part) i && treeStored (linkByDimension (e .dimension)) (e .count) (e .ghosts) (storedTree part) (ghostCore part (e .count)) (e .dimension) i) ≡ eqb (treeWrongIn (viewOf part) i .kind) 0
   unfolding storedGhost ghostCore
   tree-known i = rw (known .is-first, known .is-count, known .is-ghosts, known .is-dimension) (tree-checked (viewOf part) i)
+
+  -- a tree that passes the tests of dimension 3
+  pub tree-plain : (i : ℕ) → e .dimension ≡ 3
+      → (treeNumbered (e .first) (storedTree part) i && treeStored (linkByDimension 3) (e .count) (e .ghosts) (storedTree part) (ghostCore part (e .count)) 3 i) ≡ true → eqb (treeWrongIn (viewOf part) i .kind) 0 ≡ true
+  tree-plain i three t = sym (tree-known i) ∙ rw three t
 
   tree-read : (i : ℕ) {at : ℕ} {a d : Bool} {shape dimension faces : ℕ} → at ≡ treePlace i → shape ≡ shapeOf (piece part at coreSize) → a ≡ inForm i (piece part at coreSize) → dimension ≡ dimensionOf shape → faces ≡ faceCount shape
       → d ≡ allBelow faces (treeFace (linkByDimension (e .dimension)) (e .count) (e .ghosts) (storedTree part) (ghostCore part (e .count)) i)

@@ -8,14 +8,15 @@ use faults::record::has_face;
 use faults::record::link_kind;
 use faults::record::record_kind;
 use mesh::link::link_ok;
-use mesh::plain::plain_from_here;
 use part::layout::ghost_at;
 use part::layout::tree_at;
 use part::range::beside;
 use part::range::in_range;
+use part_check::plain::plain_face;
 use part_check::sound::ghost_numbered;
 use part_check::sound::ghost_with;
 use part_check::sound::tree_numbered;
+use records::form::alike;
 use records::form::in_form;
 use records::index::GlobalIndex;
 use records::index::LocalIndex;
@@ -27,17 +28,19 @@ use records::read::shape_of;
 use records::shape::dimension_of;
 use records::shape::face_count;
 ghost use mathlib.Core.Path.{_≡_};
-ghost use mathlib.Core.Bool.{not};
+ghost use mathlib.Core.Bool.{true, not, _&&_};
 ghost use Prim.Native.Nat.{_+_, _≤_, _<_};
 ghost use lib.Dec.{eqb};
+ghost use lib.ListN.{length};
 ghost use Rattle.encoding.specs.Below.{allBelow, leastBelow};
 ghost use Rattle.mesh.specs.Means.{linkByDimension};
-ghost use Rattle.part.specs.Layout.{ghostPlace};
+ghost use Rattle.offsets.specs.Limits.{maxTrees};
+ghost use Rattle.part.specs.Layout.{ghostPlace, partSize};
 ghost use Rattle.part.specs.Means.{ghostCore};
 ghost use Rattle.positions.specs.Means.{Indexed};
 ghost use Rattle.records.specs.Record.{neighbourOf};
 ghost use Rattle.part.specs.Part.{partK, partFirst, partCount, partGhostCount, storedTree, storedGhost, viewOf};
-ghost use Rattle.part_check.specs.Means.{treeFace, ghostNumbered, ghostFace, PartLaid};
+ghost use Rattle.part_check.specs.Means.{treeFace, treeStored, treeNumbered, ghostNumbered, ghostFace, PartLaid};
 ghost use Rattle.faults.specs.Answer.{firstFault};
 ghost use Rattle.faults.specs.Record.{firstFace};
 ghost use Rattle.part_fault.specs.Wrong.{treeToIn, treeFaceIn, treeWrongIn, ghostToIn, ghostFaceIn, ghostWrongIn, faceIn, wrongIn};
@@ -279,19 +282,6 @@ fn tree_faces_right(part: &[u8], e: Extent, i: u32, faces: u32) -> bool
     true
 }
 
-// The same, of a plain tree by fewer tests.
-fn tree_links_right(part: &[u8], e: Extent, i: u32, faces: u32) -> bool
-    requires { ⌜ Known (now part) e × (i < e .count) × (faces ≤ 6) ⌝ }
-    ensures { λ r. ⌜ r ≡ allBelow faces (treeFace (linkByDimension (e .dimension)) (e .count) (e .ghosts) (storedTree (now (part .entry))) (ghostCore (now (part .entry)) (e .count)) i) ⌝ }
-{
-    if (faces == 6) & (e.dimension == 3) {
-        if plain_from_here(part, 32, e.count, i) {
-            return true;
-        }
-    }
-    tree_faces_right(part, e, i, faces)
-}
-
 fn tree_right(part: &[u8], e: Extent, i: u32) -> bool
     requires { ⌜ Known (now part) e × (i < e .count) ⌝ }
     ensures { λ r. ⌜ r ≡ eqb (treeWrongIn (viewOf (now (part .entry))) i .kind) 0 ⌝ }
@@ -301,7 +291,46 @@ fn tree_right(part: &[u8], e: Extent, i: u32) -> bool
     tree_numbered(part, GlobalIndex(e.first), LocalIndex(i))
         & in_form(part, at, i)
         & (dimension_of(shape) == e.dimension)
-        & tree_links_right(part, e, i, face_count(shape))
+        & tree_faces_right(part, e, i, face_count(shape))
+}
+
+// Nothing is wrong with a plain tree (part_check::plain).
+fn plain_tree(part: &[u8], first: u32, count: u32, ghosts: u32, tree: LocalIndex) -> bool
+    requires { ⌜ (length (now part) ≡ partSize count ghosts) × (first + count ≤ maxTrees) × (tree .0 < count) ⌝ }
+    ensures { λ r. ⌜ (r ≡ true → (treeNumbered first (storedTree (now (part .entry))) (tree .0) && treeStored (linkByDimension 3) count ghosts (storedTree (now (part .entry))) (ghostCore (now (part .entry)) count) 3 (tree .0)) ≡ true) ⌝ }
+{
+    if !alike(part, tree_at(tree), 2, 6, first + tree.0) {
+        return false;
+    }
+    let mut face = 0;
+    while face < 6 {
+        if !plain_face(part, first, count, ghosts, tree, face) {
+            return false;
+        }
+        face += 1;
+    }
+    true
+}
+
+// How many trees from the first on are plain: all of a brick. In a loop of its own, as in part_check; it is not begun again behind a tree that is none, which would cost each tetrahedron more than it could gain.
+fn plain_run(part: &[u8], e: Extent) -> u32
+    requires { ⌜ Known (now part) e ⌝ }
+    ensures { λ r. ⌜ (r ≤ e .count) × (allBelow r (λ i. eqb (treeWrongIn (viewOf (now (part .entry))) i .kind) 0) ≡ true) ⌝ }
+{
+    let first = e.first;
+    let count = e.count;
+    let ghosts = e.ghosts;
+    let mut i = 0;
+    if e.dimension != 3 {
+        return i;
+    }
+    while i < count {
+        if !plain_tree(part, first, count, ghosts, LocalIndex(i)) {
+            return i;
+        }
+        i += 1;
+    }
+    count
 }
 
 // The first tree that is wrong; the number of trees where none is.
@@ -309,7 +338,7 @@ fn wrong_tree(part: &[u8], e: Extent) -> u32
     requires { ⌜ Known (now part) e ⌝ }
     ensures { λ r. ⌜ r ≡ leastBelow (e .count) (λ i. not (eqb (treeWrongIn (viewOf (now (part .entry))) i .kind) 0)) ⌝ }
 {
-    let mut i = 0;
+    let mut i = plain_run(part, e);
     while i < e.count {
         if !tree_right(part, e, i) {
             return i;

@@ -18,7 +18,7 @@ use Rattle.encoding.proofs.Pieces.{piece-at, piece-past}
 use Rattle.encoding.proofs.Numbers.{at-step, at-none, at-one, at-bound}
 use Rattle.records.specs.Shape.{shapeOk, dimensionOf, faceCount}
 use Rattle.records.specs.Record.{coreSize, unused, regionLimit, numberOf, shapeOf, neighbourOf, codeOf, facesOf, faceOf, orientationOf, regionOf, regionOk, zerosOk, unusedOk, toItself, boundaryOk, inForm}
-use Rattle.records.specs.Means.{faceForm, unusedFrom, leadsTo, plainForm}
+use Rattle.records.specs.Means.{faceForm, unusedFrom, leadsTo, alikeForm, plainForm}
 use Rattle.records.proofs.Shapes.{count-six, count-faces, faces-positive, faces-six, faces-either}
 
 -- ---- records in a buffer
@@ -292,46 +292,85 @@ faces-elsewhere own r c none e =
     let other : eqb (neighbourOf r f) own ≡ false = any-false 6 (λ f. eqb (neighbourOf r f) own) none f h in
     rw (c, other))
 
--- ---- plain records
+-- ---- records of one shape
 
-module _ (own : ℕ) (r : List ℕ) where
-  pub plain-read : {number shape : ℕ} {z g l : Bool} → number ≡ numberOf r → shape ≡ shapeOf r → z ≡ zerosOk r → g ≡ regionOk r → l ≡ anyBelow 6 (leadsTo own r)
-      → (eqb number own && eqb shape 2 && z && g && not l) ≡ plainForm own r
-  unfolding plainForm
-  plain-read n s z g l = rw (n, s, z, g, l)
+module _ (s c k : ℕ) (r : List ℕ) where
+  pub alike-read : {number shape : ℕ} {z g u : Bool} → number ≡ numberOf r → shape ≡ shapeOf r → z ≡ zerosOk r → g ≡ regionOk r → u ≡ allBelow 6 (unusedFrom c r) → (eqb number k && eqb shape s && z && g && u) ≡ alikeForm s c k r
+  unfolding alikeForm
+  alike-read n shape z g u = rw (n, shape, z, g, u)
 
-  module _ (e : plainForm own r ≡ true) where
+  module _ (e : alikeForm s c k r ≡ true) where
     abbrev numbered : Bool
-    numbered = eqb (numberOf r) own
+    numbered = eqb (numberOf r) k
 
     abbrev shaped : Bool
-    shaped = eqb (shapeOf r) 2
+    shaped = eqb (shapeOf r) s
 
-    plain-three : (numbered && shaped && zerosOk r && regionOk r) ≡ true
+    alike-four : (numbered && shaped && zerosOk r && regionOk r) ≡ true
+    unfolding alikeForm
+    alike-four = and-fst (numbered && shaped && zerosOk r && regionOk r) (allBelow 6 (unusedFrom c r)) e
+
+    alike-three : (numbered && shaped && zerosOk r) ≡ true
+    alike-three = and-fst (numbered && shaped && zerosOk r) (regionOk r) alike-four
+
+    alike-two : (numbered && shaped) ≡ true
+    alike-two = and-fst (numbered && shaped) (zerosOk r) alike-three
+
+    pub alike-used : allBelow 6 (unusedFrom c r) ≡ true
+    unfolding alikeForm
+    alike-used = and-snd (numbered && shaped && zerosOk r && regionOk r) (allBelow 6 (unusedFrom c r)) e
+
+    pub alike-region : regionOk r ≡ true
+    alike-region = and-snd (numbered && shaped && zerosOk r) (regionOk r) alike-four
+
+    pub alike-zeros : zerosOk r ≡ true
+    alike-zeros = and-snd (numbered && shaped) (zerosOk r) alike-three
+
+    pub alike-number : numberOf r ≡ k
+    alike-number = eqb-true (numberOf r) k (and-fst numbered shaped alike-two)
+
+    pub alike-shape : shapeOf r ≡ s
+    alike-shape = eqb-true (shapeOf r) s (and-snd numbered shaped alike-two)
+
+    -- where its boundaries are in form, it is
+    pub alike-form : (own : ℕ) → shapeOk s ≡ true → c ≡ faceCount s → ((f : ℕ) → f < c → boundaryOk own r f ≡ true) → inForm own r ≡ true
+    unfolding unusedFrom
+    alike-form own sound counted edge =
+        let here : faceCount (shapeOf r) ≡ c = ap faceCount alike-shape ∙ sym counted in
+        form-intro own r (rw alike-shape sound) alike-zeros alike-region (λ f h. edge f (omega (arith, here))) (λ f h l. rw (le-ltb f c (omega (arith, here))) at (all-at 6 (unusedFrom c r) alike-used f l))
+
+-- a hexahedron has six faces
+module _ (k : ℕ) (r : List ℕ) (e : alikeForm 2 6 k r ≡ true) where
+  pub hexahedron-faces : faceCount (shapeOf r) ≡ 6
+  unfolding faceCount
+  hexahedron-faces = rw (alike-shape 2 6 k r e)
+
+  pub hexahedron-form : (own : ℕ) → ((f : ℕ) → f < 6 → boundaryOk own r f ≡ true) → inForm own r ≡ true
+  unfolding shapeOk faceCount
+  hexahedron-form own edge = alike-form 2 6 k r e own refl refl edge
+
+-- none of whose faces leads to itself
+module _ (own : ℕ) (r : List ℕ) where
+  pub plain-read : {h l : Bool} → h ≡ alikeForm 2 6 own r → l ≡ anyBelow 6 (leadsTo own r) → (h && not l) ≡ plainForm own r
+  unfolding plainForm
+  plain-read h l = rw (h, l)
+
+  module _ (e : plainForm own r ≡ true) where
+    plain-hexahedron : alikeForm 2 6 own r ≡ true
     unfolding plainForm
-    plain-three = and-fst (numbered && shaped && zerosOk r && regionOk r) (not (anyBelow 6 (leadsTo own r))) e
-
-    plain-two : (numbered && shaped && zerosOk r) ≡ true
-    plain-two = and-fst (numbered && shaped && zerosOk r) (regionOk r) plain-three
-
-    plain-one : (numbered && shaped) ≡ true
-    plain-one = and-fst (numbered && shaped) (zerosOk r) plain-two
+    plain-hexahedron = and-fst (alikeForm 2 6 own r) (not (anyBelow 6 (leadsTo own r))) e
 
     elsewhere : anyBelow 6 (leadsTo own r) ≡ false
     unfolding plainForm
-    elsewhere = not-true (anyBelow 6 (leadsTo own r)) (and-snd (numbered && shaped && zerosOk r && regionOk r) (not (anyBelow 6 (leadsTo own r))) e)
+    elsewhere = not-true (anyBelow 6 (leadsTo own r)) (and-snd (alikeForm 2 6 own r) (not (anyBelow 6 (leadsTo own r))) e)
 
     pub plain-number : numberOf r ≡ own
-    plain-number = eqb-true (numberOf r) own (and-fst numbered shaped plain-one)
-
-    pub plain-shape : shapeOf r ≡ 2
-    plain-shape = eqb-true (shapeOf r) 2 (and-snd numbered shaped plain-one)
+    plain-number = alike-number 2 6 own r plain-hexahedron
 
     pub plain-form : inForm own r ≡ true
-    unfolding shapeOk faceCount boundaryOk toItself leadsTo
+    unfolding boundaryOk toItself leadsTo
     plain-form =
-        form-intro own r (rw plain-shape) (and-snd (numbered && shaped) (zerosOk r) plain-two) (and-snd (numbered && shaped && zerosOk r) (regionOk r) plain-three)
+        hexahedron-form own r plain-hexahedron own
         (λ f h.
-        let other : eqb (neighbourOf r f) own ≡ false = any-false 6 (λ f. eqb (neighbourOf r f) own) elsewhere f (omega (arith, count-six (shapeOf r))) in
+        let other : eqb (neighbourOf r f) own ≡ false = any-false 6 (λ f. eqb (neighbourOf r f) own) elsewhere f h in
         rw other)
-        (λ f h k. let six : faceCount (shapeOf r) ≡ 6 = rw plain-shape in absurd (omega (arith, six)))

@@ -3,7 +3,7 @@ use Prim.Native.Nat.{ℕ, _+_, _-_, _/_, _%_}
 use mathlib.Core.Bool.{Bool, true, cond, not, _&&_}
 use mathlib.Core.List.{List}
 use lib.Dec.{leb, ltb, eqb}
-use Rattle.encoding.specs.Below.{anyBelow}
+use Rattle.encoding.specs.Below.{allBelow, anyBelow}
 use Rattle.records.specs.Shape.{faceCount}
 use Rattle.records.specs.Record.{numberOf, shapeOf, neighbourOf, zerosOk, regionOk, boundaryOk, unusedOk}
 
@@ -19,9 +19,13 @@ unusedFrom c r f = cond (ltb f c) true (unusedOk r f)
 unfoldable pub leadsTo : ℕ → List ℕ → ℕ → Bool
 leadsTo k r f = eqb (neighbourOf r f) k
 
+-- a record with shape s, which has c faces, and number k: in form but for its boundaries
+unfoldable pub alikeForm : ℕ → ℕ → ℕ → List ℕ → Bool
+alikeForm s c k r = eqb (numberOf r) k && eqb (shapeOf r) s && zerosOk r && regionOk r && allBelow 6 (unusedFrom c r)
+
 -- a hexahedron with number own, of which no face leads to itself: such a record is in form
 unfoldable pub plainForm : ℕ → List ℕ → Bool
-plainForm own r = eqb (numberOf r) own && eqb (shapeOf r) 2 && zerosOk r && regionOk r && not (anyBelow 6 (leadsTo own r))
+plainForm own r = alikeForm 2 6 own r && not (anyBelow 6 (leadsTo own r))
 
 -- the corners of the polygon that a solid is drawn out from
 unfoldable pub baseCorners : ℕ → ℕ

@@ -14,7 +14,7 @@ ghost use lib.ListN.{length};
 ghost use Rattle.encoding.specs.Below.{allBelow, anyBelow};
 ghost use Rattle.encoding.specs.Pieces.{piece};
 ghost use Rattle.records.specs.Record.{coreSize, zerosOk, regionOk, unusedOk, boundaryOk, inForm};
-ghost use Rattle.records.specs.Means.{faceForm, unusedFrom, leadsTo, plainForm};
+ghost use Rattle.records.specs.Means.{faceForm, unusedFrom, leadsTo, alikeForm, plainForm};
 
 // The neighbour of a face without use.
 pub const UNUSED: u32 = 4294967295;
@@ -112,16 +112,24 @@ fn leads_to(bs: &[u8], at: usize, k: u32) -> bool
         | (neighbour_of(bs, at, 5) == k)
 }
 
+// A record with this shape, which has so many faces, and this number: in form but for its boundaries.
+pub fn alike(bs: &[u8], at: usize, shape: u32, faces: u32, number: u32) -> bool
+    requires { ⌜ (at + coreSize ≤ length (now bs)) × (faces ≤ 6) ⌝ }
+    ensures { λ r. ⌜ r ≡ alikeForm shape faces number (piece (now (bs .entry)) at coreSize) ⌝ }
+{
+    (number_of(bs, at) == number)
+        & (shape_of(bs, at) == shape)
+        & zeros_ok(bs, at)
+        & region_ok(bs, at)
+        & unused_from(bs, at, faces)
+}
+
 // A hexahedron with this number, none of whose faces leads to itself: most records are such. It is in form.
 pub fn plain(bs: &[u8], at: usize, own: u32) -> bool
     requires { ⌜ at + coreSize ≤ length (now bs) ⌝ }
     ensures { λ r. ⌜ r ≡ plainForm own (piece (now (bs .entry)) at coreSize) ⌝ }
 {
-    (number_of(bs, at) == own)
-        & (shape_of(bs, at) == 2)
-        & zeros_ok(bs, at)
-        & region_ok(bs, at)
-        & !leads_to(bs, at, own)
+    alike(bs, at, 2, 6, own) & !leads_to(bs, at, own)
 }
 
 // Whether the record is in form. Only a face that leads to the record itself can be a boundary. Its own number is the local index in a part's tree records and the global number everywhere else.

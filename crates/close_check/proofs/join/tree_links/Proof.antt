@@ -1,12 +1,11 @@
 use Prim.Native.Nat.{_≤_, _-_}
-use mathlib.Core.Path.{_≡_, refl, sym, _∙_}
+use mathlib.Core.Path.{refl, sym, _∙_}
 use mathlib.Core.Bool.{true}
 use native.Mathlib.Omega.{arith}
 use borrow.Author.Tests.{not-true, not-false}
-use Rattle.encoding.specs.Below.{allBelow, countBelow}
-use Rattle.encoding.proofs.Below.{all-more, all-fails}
-use Rattle.mesh.specs.Means.{linkByDimension}
-use Rattle.mesh.proofs.Checking.{seen-refused, seen-all, count-next, count-stays}
+use Rattle.encoding.proofs.Below.{all-fails}
+use Rattle.mesh.specs.Means.{linkByDimension, FacesAs}
+use Rattle.mesh.proofs.Checking.{seen-refused, faces-none, faces-up, faces-down, faces-all}
 use Rattle.close_check.specs.Means.{treeFace, treeLeadsUp, treeLeadsDown}
 use Rattle.close_check.proofs.Links.{place-out, out-up, out-down, out-face, up-up, up-down, up-face, down-is, down-up, down-face}
 use borrow.Author.Needs.{needs}
@@ -14,11 +13,8 @@ use Rattle.close_check.proofs.join.tree_links.Statement.{statement}
 use Rattle.close_check.proofs.join.tree_links.Tie as tie
 
 abbrev Inv-loop : tie.InvT-loop
-Inv-loop area at first count ghosts dimension marks behind tree faces i from next₀ ups₀ downs₀ next ups downs =
-    (next ≤ faces)
-    × ((allBelow next (treeFace (linkByDimension dimension) area at first count ghosts (tree .0)) ≡ true)
-    × (((ups ≡ countBelow next (treeLeadsUp area at first count (tree .0))) × (ups ≤ next))
-    × ((downs ≡ countBelow next (treeLeadsDown area at first count (tree .0))) × (downs ≤ next))))
+Inv-loop area at first count ghosts dimension marks behind tree faces i from next₀ ups₀ downs₀ next ups downs = (next ≤ faces)
+    × FacesAs (treeFace (linkByDimension dimension) area at first count ghosts (tree .0)) (treeLeadsUp area at first count (tree .0)) (treeLeadsDown area at first count (tree .0)) next ups downs
 
 abbrev μ-loop : tie.MeasureT-loop
 μ-loop area at first count ghosts dimension marks behind tree faces i from next₀ ups₀ downs₀ next ups downs = faces - next
@@ -33,8 +29,7 @@ add-from : tie.Need-add-from Inv-loop μ-loop
 add-from c = search needs
 
 loop-holds : tie.Need-loop-holds Inv-loop μ-loop
-unfolding allBelow countBelow
-loop-holds c = search needs
+loop-holds c = (omega arith, faces-none _ _ _)
 
 add-next : tie.Need-add-next Inv-loop μ-loop
 add-next c = search needs
@@ -46,35 +41,28 @@ place-near-requires : tie.Need-place-near-requires Inv-loop μ-loop
 place-near-requires c κs = search needs
 
 add-ups : tie.Need-add-ups Inv-loop μ-loop
-add-ups c = search needs
+add-ups c =
+    let loop = c .before .before .before .before .before .loop in
+    let pre = c .before .before .before .before .before .before .before .before .before .pre in
+    omega (arith, loop .inv .1 .upward .1, pre .2)
 
 loop-less : tie.Need-loop-less Inv-loop μ-loop
 loop-less c = search needs
 
 loop-again : tie.Need-loop-again Inv-loop μ-loop
 loop-again c =
-    let loop = c .before .before .before .before .before .loop in
     let neighbour-of = c .before .before .before .neighbour-of in
     let place-near = c .before .before .place-near in
     let pre = c .before .before .before .before .before .before .before .before .before .pre in
+    let loop = c .before .before .before .before .before .loop in
     let if1 = c .before .if1 in
-    let inv = loop .inv in
     let read = neighbour-of .ensures in
-    let placed = place-near .ensures in (
+    let placed = place-near .ensures in
+    let most = pre .0 .most in (
       omega arith,
-      (
-        all-more _ _ (inv .1 .0) (up-face _ _ _ _ _ _ read (omega (arith, pre .0 .most)) (omega arith) placed (if1 .taken) (c .if2 .taken) _ _),
-        (
-          (
-            count-next _ _ refl (up-up _ _ _ _ _ _ read (omega (arith, pre .0 .most)) (omega arith) placed (if1 .taken) (c .if2 .taken)) (inv .1 .1 .0 .0),
-            omega arith,
-          ),
-          (
-            count-stays _ _ (sym (up-down _ _ _ _ _ _ read (omega (arith, pre .0 .most)) (omega arith) placed (if1 .taken) (c .if2 .taken))) (inv .1 .1 .1 .0),
-            omega arith,
-          ),
-        ),
-      ),
+      faces-up _ _ _ _ (loop .inv .1) (up-face _ _ _ _ _ _ read (omega (arith, most)) (omega arith) placed (if1 .taken) (c .if2 .taken) _ _)
+          (up-up _ _ _ _ _ _ read (omega (arith, most)) (omega arith) placed (if1 .taken) (c .if2 .taken))
+          (sym (up-down _ _ _ _ _ _ read (omega (arith, most)) (omega arith) placed (if1 .taken) (c .if2 .taken))),
     )
 
 add-link-down : tie.Need-add-link-down Inv-loop μ-loop
@@ -112,46 +100,45 @@ one-requires : tie.Need-one-requires Inv-loop μ-loop
 one-requires c κs = search needs
 
 add-downs : tie.Need-add-downs Inv-loop μ-loop
-add-downs c = search needs
+add-downs c =
+    let loop = c .before .before .before .before .before .before .before .before .loop in
+    let pre = c .before .before .before .before .before .before .before .before .before .before .before .before .pre in
+    omega (arith, loop .inv .1 .downward .1, c .one .ensures .1, pre .2)
 
 loop-less-2 : tie.Need-loop-less-2 Inv-loop μ-loop
 loop-less-2 c = search needs
 
 loop-again-2 : tie.Need-loop-again-2 Inv-loop μ-loop
 loop-again-2 c =
-    let loop = c .before .before .before .before .before .before .before .before .loop in
     let neighbour-of = c .before .before .before .before .before .before .neighbour-of in
     let place-near = c .before .before .before .before .before .place-near in
     let pre = c .before .before .before .before .before .before .before .before .before .before .before .before .pre in
+    let loop = c .before .before .before .before .before .before .before .before .loop in
     let if1 = c .before .before .before .before .if1 in
     let if2 = c .before .before .before .if2 in
     let link-down = c .before .before .link-down in
     let if3 = c .before .if3 in
-    let inv = loop .inv in
     let read = neighbour-of .ensures in
-    let placed = place-near .ensures in (
+    let placed = place-near .ensures in
+    let most = pre .0 .most in (
       omega arith,
-      (
-        all-more _ _ (inv .1 .0) (down-face _ _ _ _ _ _ read (omega (arith, pre .0 .most)) (omega arith) placed (if1 .taken) (if2 .left) _ _ (link-down .ensures) ∙ not-false _ (if3 .left)),
-        (
-          (
-            count-stays _ _ (sym (down-up _ _ _ _ _ _ read (omega (arith, pre .0 .most)) (omega arith) placed (if1 .taken) (if2 .left))) (inv .1 .1 .0 .0),
-            omega arith,
-          ),
-          (
-            count-next _ _ (c .one .ensures .0) (down-is _ _ _ _ _ _ read (omega (arith, pre .0 .most)) (omega arith) placed (if1 .taken)) (inv .1 .1 .1 .0),
-            omega arith,
-          ),
-        ),
-      ),
+      faces-down _ _ _ _ (loop .inv .1) (down-face _ _ _ _ _ _ read (omega (arith, most)) (omega arith) placed (if1 .taken) (if2 .left) _ _ (link-down .ensures) ∙ not-false _ (if3 .left))
+          (sym (down-up _ _ _ _ _ _ read (omega (arith, most)) (omega arith) placed (if1 .taken) (if2 .left))) (c .one .ensures)
+          (down-is _ _ _ _ _ _ read (omega (arith, most)) (omega arith) placed (if1 .taken)),
     )
 
 link-out-requires : tie.Need-link-out-requires Inv-loop μ-loop
 link-out-requires c κs =
     let pre = c .before .before .before .before .before .before .before .before .pre in
     let neighbour-of = c .before .before .neighbour-of in
-    let place-near = c .before .place-near in
-    (pre .0, pre .1, omega (arith, pre .2), pre .3, neighbour-of .ensures, place-out _ _ _ _ _ _ (neighbour-of .ensures) (omega (arith, pre .0 .most)) (omega arith) (place-near .ensures) (c .if1 .left))
+    let place-near = c .before .place-near in (
+      pre .0,
+      pre .1,
+      omega (arith, pre .2),
+      pre .3,
+      neighbour-of .ensures,
+      place-out _ _ _ _ _ _ (neighbour-of .ensures) (omega (arith, pre .0 .most)) (omega arith) (place-near .ensures) (c .if1 .left),
+    )
 
 refused-requires-2 : tie.Need-refused-requires-2 Inv-loop μ-loop
 refused-requires-2 c κs = search needs
@@ -169,37 +156,31 @@ returns-2 c =
     seen-refused (all-fails _ _ _ (loop-test .taken) (out-face _ _ _ _ _ _ (neighbour-of .ensures) out _ _ (link-out .ensures) ∙ not-true _ (if4 .taken))) (c .refused2 .ensures)
 
 add-downs-2 : tie.Need-add-downs-2 Inv-loop μ-loop
-add-downs-2 c = search needs
+add-downs-2 c =
+    let loop = c .before .before .before .before .before .before .loop in
+    let pre = c .before .before .before .before .before .before .before .before .before .before .pre in
+    omega (arith, loop .inv .1 .downward .1, pre .2)
 
 loop-less-3 : tie.Need-loop-less-3 Inv-loop μ-loop
 loop-less-3 c = search needs
 
 loop-again-3 : tie.Need-loop-again-3 Inv-loop μ-loop
 loop-again-3 c =
-    let loop = c .before .before .before .before .before .before .loop in
     let neighbour-of = c .before .before .before .before .neighbour-of in
     let pre = c .before .before .before .before .before .before .before .before .before .before .pre in
     let place-near = c .before .before .before .place-near in
     let if1 = c .before .before .if1 in
+    let loop = c .before .before .before .before .before .before .loop in
     let link-out = c .before .link-out in
-    let inv = loop .inv in
     let read = neighbour-of .ensures in
-    let out = place-out _ _ _ _ _ _ (neighbour-of .ensures) (omega (arith, pre .0 .most)) (omega arith) (place-near .ensures) (if1 .left) in (
+    let out = place-out _ _ _ _ _ _ read (omega (arith, pre .0 .most)) (omega arith) (place-near .ensures) (if1 .left) in (
       omega arith,
-      (
-        all-more _ _ (inv .1 .0) (out-face _ _ _ _ _ _ read out _ _ (link-out .ensures) ∙ not-false _ (c .if4 .left)),
-        (
-          (count-stays _ _ (sym (out-up _ _ _ _ _ _ read out)) (inv .1 .1 .0 .0), omega arith),
-          (count-next _ _ refl (out-down _ _ _ _ _ _ read out) (inv .1 .1 .1 .0), omega arith),
-        ),
-      ),
+      faces-down _ _ _ _ (loop .inv .1) (out-face _ _ _ _ _ _ read out _ _ (link-out .ensures) ∙ not-false _ (c .if4 .left)) {b = true} (sym (out-up _ _ _ _ _ _ read out))
+          (refl, omega arith) (out-down _ _ _ _ _ _ read out),
     )
 
 returns-3 : tie.Need-returns-3 Inv-loop μ-loop
-returns-3 c =
-    let loop = c .before .loop in
-    let pre = c .before .before .before .before .before .pre in
-    let inv = loop .inv in seen-all _ _ _ _ _ (inv .0) (omega arith) (pre .2) (inv .1 .0) (inv .1 .1 .0) (inv .1 .1 .1)
+returns-3 c = faces-all _ _ _ _ (c .before .loop .inv .1) _ (c .before .loop .inv .0) (omega arith) (c .before .before .before .before .before .pre .2)
 
 pub tree-links-spec : {M : Type 1} → statement M
 tree-links-spec =

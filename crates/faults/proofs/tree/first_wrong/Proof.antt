@@ -5,8 +5,8 @@ use native.Mathlib.Omega.{arith}
 use borrow.Author.Tests.{not-true, not-false}
 use Rattle.mesh.specs.Mesh.{meshCore}
 use Rattle.faults.specs.Mesh.{treeWrong}
-use Rattle.faults.proofs.Searches.{kindOf, tree-passes, tree-fails}
-use Rattle.faults.proofs.Firsts.{quiet, quiet-start, quiet-more, quiet-to, first-read, first-none}
+use Rattle.faults.proofs.Searches.{kindOf, tree-passes, tree-fails, trees-pass}
+use Rattle.faults.proofs.Firsts.{quiet, quiet-more, quiet-to, first-read, first-none}
 use borrow.Author.Needs.{needs}
 use Rattle.faults.proofs.tree.first_wrong.Statement.{statement}
 use Rattle.faults.proofs.tree.first_wrong.Tie as tie
@@ -17,8 +17,11 @@ Inv-loop mesh dimension trees k₀ k = (k ≤ trees) × (quiet (kindOf (meshCore
 abbrev μ-loop : tie.MeasureT-loop
 μ-loop mesh dimension trees k₀ k = trees - k
 
+plain-run-requires : tie.Need-plain-run-requires Inv-loop μ-loop
+plain-run-requires c κs = search needs
+
 loop-holds : tie.Need-loop-holds Inv-loop μ-loop
-loop-holds c = (omega arith, quiet-start _)
+loop-holds c = (c .plain-run .ensures .0, trees-pass _ _ _ _ (c .plain-run .ensures .1))
 
 tree-right-requires : tie.Need-tree-right-requires Inv-loop μ-loop
 tree-right-requires c κs = search needs
@@ -64,6 +67,7 @@ first-wrong-spec =
     (tie.spec
     Inv-loop
     μ-loop
+    plain-run-requires
     loop-holds
     tree-right-requires
     tree-wrong-requires

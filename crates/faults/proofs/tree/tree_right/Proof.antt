@@ -21,8 +21,8 @@ dimension-of-requires c κs = search needs
 face-count-requires : tie.Need-face-count-requires
 face-count-requires c κs = search needs
 
-links-right-requires : tie.Need-links-right-requires
-links-right-requires c κs = search needs
+faces-right-requires : tie.Need-faces-right-requires
+faces-right-requires c κs = search needs
 
 returns : tie.Need-returns
 returns c =
@@ -32,7 +32,7 @@ returns c =
     let number-of = c .before .before .before .number-of in
     let dimension-of = c .before .before .dimension-of in
     let face-count = c .before .face-count in
-    tree-read _ _ _ _ (tree-at .ensures) (shape-of .ensures) (in-form .ensures) (number-of .ensures) (dimension-of .ensures) (face-count .ensures .0) (c .links-right .ensures)
+    tree-read _ _ _ _ (tree-at .ensures) (shape-of .ensures) (in-form .ensures) (number-of .ensures) (dimension-of .ensures) (face-count .ensures .0) (c .faces-right .ensures)
 
 pub tree-right-spec : {M : Type 1} → statement M
 tree-right-spec =
@@ -44,5 +44,5 @@ tree-right-spec =
     number-of-requires
     dimension-of-requires
     face-count-requires
-    links-right-requires
+    faces-right-requires
     returns)

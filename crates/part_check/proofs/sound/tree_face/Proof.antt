@@ -32,7 +32,7 @@ tree-link-requires c κs =
     let pre = c .before .before .before .before .before .before .before .pre in
     let tree-at = c .before .before .before .before .before .tree-at in
     let neighbour-of = c .before .before .before .before .neighbour-of in
-    (omega (arith, pre .0 .long, pre .1 .below), pre .2, place-fits _ (pre .0) (neighbour-under _ _ (tree-at .ensures) _ (neighbour-of .ensures) (pre .3)) (c .record-at .ensures))
+    (omega (arith, pre .0 .long, pre .1 .below), pre .2, place-fits _ _ _ (pre .0 .long) (neighbour-under _ _ (tree-at .ensures) _ (neighbour-of .ensures) (pre .3)) (c .record-at .ensures))
 
 returns-2 : tie.Need-returns-2
 returns-2 c =
@@ -43,7 +43,8 @@ returns-2 c =
     let pre = c .before .before .before .before .before .before .before .before .pre in
     let back-of = c .before .before .back-of in
     let record-at = c .before .record-at in
-    fits-read _ _ (tree-at .ensures) _ _ _ _ (neighbour-of .ensures) (boundary-ok .ensures) (not-false _ (if1 .left)) (pre .1) (neighbour-under _ _ (tree-at .ensures) _ (neighbour-of .ensures) (pre .3)) (back-of .ensures) (record-at .ensures) (c .tree-link .ensures)
+    fits-read _ _ (tree-at .ensures) _ _ _ _ (neighbour-of .ensures) (boundary-ok .ensures) (not-false _ (if1 .left)) (pre .1)
+    (neighbour-under _ _ (tree-at .ensures) _ (neighbour-of .ensures) (pre .3)) (back-of .ensures) (record-at .ensures) (c .tree-link .ensures)
 
 pub tree-face-spec : {M : Type 1} → statement M
 tree-face-spec =

@@ -19,10 +19,18 @@ refused-requires c κs = search needs
 
 returns : tie.Need-returns
 returns c =
-    let tree-at = c .before .before .before .before .tree-at in
-    let tree-numbered = c .before .before .before .tree-numbered in
-    let alone = c .before .before .alone in
-    let if1 = c .before .if1 in
+    let tree-at' = c .before .before .before .before .tree-at in
+    let tree-numbered' = c .before .before .before .tree-numbered in
+    let alone' = c .before .before .alone in
+    let if1' = c .before .if1 in
+    let at-tree-at = tree-at' in
+    let at-tree-numbered = tree-numbered' in
+    let at-alone = alone' in
+    let at-if1 = if1' in
+    let tree-at = at-tree-at in
+    let tree-numbered = at-tree-numbered in
+    let alone = at-alone in
+    let if1 = at-if1 in
     seen-refused (tree-off _ _ _ _ _ _ (tree-at .ensures) (tree-numbered .ensures) (alone .ensures) (not-true _ (if1 .taken))) (c .refused .ensures)
 
 shape-of-requires : tie.Need-shape-of-requires
@@ -31,36 +39,21 @@ shape-of-requires c κs = search needs
 face-count-requires : tie.Need-face-count-requires
 face-count-requires c κs = search needs
 
-plain-tree-requires : tie.Need-plain-tree-requires
-plain-tree-requires c κs = search needs
+tree-faces-requires : tie.Need-tree-faces-requires
+tree-faces-requires c κs =
+    let pre = c .before .before .before .before .before .before .before .pre in
+    let tree-numbered = c .before .before .before .before .tree-numbered in
+    let if1 = c .before .before .if1 in
+    (pre .0, tree-known _ _ _ _ _ (tree-numbered .ensures) (not-false _ (if1 .left)) (pre .1), c .face-count .ensures .1)
 
 returns-2 : tie.Need-returns-2
 returns-2 c =
-    let tree-at = c .before .before .before .before .before .before .before .tree-at in
-    let tree-numbered = c .before .before .before .before .before .before .tree-numbered in
-    let alone = c .before .before .before .before .before .alone in
-    let if1 = c .before .before .before .before .if1 in
-    let shape-of = c .before .before .before .shape-of in
-    let face-count = c .before .before .face-count in
-    let plain-tree = c .before .plain-tree in
-    tree-seen _ _ _ _ _ _ (tree-at .ensures) (tree-numbered .ensures) (alone .ensures) (not-false _ (if1 .left)) (shape-of .ensures) (face-count .ensures .0) (plain-tree .ensures (c .if2 .taken) _)
-
-tree-faces-requires : tie.Need-tree-faces-requires
-tree-faces-requires c κs =
-    let pre = c .before .before .before .before .before .before .before .before .before .pre in
-    let tree-numbered = c .before .before .before .before .before .before .tree-numbered in
-    let if1 = c .before .before .before .before .if1 in
-    let face-count = c .before .before .face-count in
-    (pre .0, tree-known _ _ _ _ _ (tree-numbered .ensures) (not-false _ (if1 .left)) (pre .1), face-count .ensures .1)
-
-returns-3 : tie.Need-returns-3
-returns-3 c =
-    let tree-at = c .before .before .before .before .before .before .before .before .tree-at in
-    let tree-numbered = c .before .before .before .before .before .before .before .tree-numbered in
-    let alone = c .before .before .before .before .before .before .alone in
-    let if1 = c .before .before .before .before .before .if1 in
-    let shape-of = c .before .before .before .before .shape-of in
-    let face-count = c .before .before .before .face-count in
+    let tree-at = c .before .before .before .before .before .before .tree-at in
+    let tree-numbered = c .before .before .before .before .before .tree-numbered in
+    let alone = c .before .before .before .before .alone in
+    let if1 = c .before .before .before .if1 in
+    let shape-of = c .before .before .shape-of in
+    let face-count = c .before .face-count in
     tree-seen _ _ _ _ _ _ (tree-at .ensures) (tree-numbered .ensures) (alone .ensures) (not-false _ (if1 .left)) (shape-of .ensures) (face-count .ensures .0) (c .tree-faces .ensures)
 
 pub tree-sound-spec : {M : Type 1} → statement M
@@ -74,7 +67,5 @@ tree-sound-spec =
     returns
     shape-of-requires
     face-count-requires
-    plain-tree-requires
-    returns-2
     tree-faces-requires
-    returns-3)
+    returns-2)

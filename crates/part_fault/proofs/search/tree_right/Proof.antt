@@ -21,8 +21,8 @@ dimension-of-requires c κs = search needs
 face-count-requires : tie.Need-face-count-requires
 face-count-requires c κs = search needs
 
-tree-links-right-requires : tie.Need-tree-links-right-requires
-tree-links-right-requires c κs = search needs
+tree-faces-right-requires : tie.Need-tree-faces-right-requires
+tree-faces-right-requires c κs = search needs
 
 returns : tie.Need-returns
 returns c =
@@ -33,7 +33,8 @@ returns c =
     let in-form = c .before .before .before .before .in-form in
     let dimension-of = c .before .before .before .dimension-of in
     let face-count = c .before .face-count in
-    tree-passed _ _ (pre .0) _ (tree-at .ensures) (tree-numbered .ensures) (shape-of .ensures) (in-form .ensures) (dimension-of .ensures) (face-count .ensures .0) (c .tree-links-right .ensures)
+    tree-passed _ _ (pre .0) _ (tree-at .ensures) (tree-numbered .ensures) (shape-of .ensures) (in-form .ensures) (dimension-of .ensures) (face-count .ensures .0)
+    (c .tree-faces-right .ensures)
 
 pub tree-right-spec : {M : Type 1} → statement M
 tree-right-spec =
@@ -45,5 +46,5 @@ tree-right-spec =
     in-form-requires
     dimension-of-requires
     face-count-requires
-    tree-links-right-requires
+    tree-faces-right-requires
     returns)

@@ -1,14 +1,14 @@
-use Prim.Native.Nat.{_≤_, _-_}
-use mathlib.Core.Path.{_≡_, refl, sym, _∙_}
-use mathlib.Core.Bool.{true}
-use lib.Dec.{eqb}
-use native.Mathlib.Omega.{arith}
-use borrow.Author.Tests.{not-true, not-false}
-use Rattle.encoding.specs.Below.{allBelow}
-use Rattle.encoding.proofs.Below.{all-more}
-use Rattle.part.specs.Part.{viewOf}
-use Rattle.part_fault.specs.Wrong.{treeWrongIn}
 use Rattle.part_fault.proofs.Found.{first-fails, none-fails}
+use Rattle.part_fault.specs.Wrong.{treeWrongIn}
+use Rattle.part.specs.Part.{viewOf}
+use Rattle.encoding.proofs.Below.{all-more}
+use Rattle.encoding.specs.Below.{allBelow}
+use borrow.Author.Tests.{not-true, not-false}
+use native.Mathlib.Omega.{arith}
+use lib.Dec.{eqb}
+use mathlib.Core.Bool.{true}
+use mathlib.Core.Path.{_≡_, sym, _∙_}
+use Prim.Native.Nat.{_≤_, _-_}
 use borrow.Author.Needs.{needs}
 use Rattle.part_fault.proofs.search.wrong_tree.Statement.{statement}
 use Rattle.part_fault.proofs.search.wrong_tree.Tie as tie
@@ -19,9 +19,11 @@ Inv-loop part e i₀ i = (i ≤ e .count) × (allBelow i (λ k. eqb (treeWrongIn
 abbrev μ-loop : tie.MeasureT-loop
 μ-loop part e i₀ i = e .count - i
 
+plain-run-requires : tie.Need-plain-run-requires Inv-loop μ-loop
+plain-run-requires c κs = search needs
+
 loop-holds : tie.Need-loop-holds Inv-loop μ-loop
-unfolding allBelow
-loop-holds c = (omega arith, refl)
+loop-holds c = c .plain-run .ensures
 
 tree-right-requires : tie.Need-tree-right-requires Inv-loop μ-loop
 tree-right-requires c κs = search needs
@@ -51,6 +53,7 @@ wrong-tree-spec =
     (tie.spec
     Inv-loop
     μ-loop
+    plain-run-requires
     loop-holds
     tree-right-requires
     returns

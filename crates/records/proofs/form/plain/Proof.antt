@@ -3,36 +3,14 @@ use borrow.Author.Needs.{needs}
 use Rattle.records.proofs.form.plain.Statement.{statement}
 use Rattle.records.proofs.form.plain.Tie as tie
 
-number-of-requires : tie.Need-number-of-requires
-number-of-requires c κs = search needs
-
-shape-of-requires : tie.Need-shape-of-requires
-shape-of-requires c κs = search needs
-
-zeros-ok-requires : tie.Need-zeros-ok-requires
-zeros-ok-requires c κs = search needs
-
-region-ok-requires : tie.Need-region-ok-requires
-region-ok-requires c κs = search needs
+alike-requires : tie.Need-alike-requires
+alike-requires c κs = search needs
 
 leads-to-requires : tie.Need-leads-to-requires
 leads-to-requires c κs = search needs
 
 returns : tie.Need-returns
-returns c =
-    let number-of = c .before .before .before .before .number-of in
-    let shape-of = c .before .before .before .shape-of in
-    let zeros-ok = c .before .before .zeros-ok in
-    let region-ok = c .before .region-ok in
-    plain-read _ _ (number-of .ensures) (shape-of .ensures) (zeros-ok .ensures) (region-ok .ensures) (c .leads-to .ensures)
+returns c = plain-read _ _ (c .before .alike .ensures) (c .leads-to .ensures)
 
 pub plain-spec : {M : Type 1} → statement M
-plain-spec =
-    tie.close
-    (tie.spec
-    number-of-requires
-    shape-of-requires
-    zeros-ok-requires
-    region-ok-requires
-    leads-to-requires
-    returns)
+plain-spec = tie.close (tie.spec alike-requires leads-to-requires returns)

@@ -214,7 +214,8 @@ fn sound<const F: u8, const LOW: u32, const HIGH: u32>(part: &[u8], trees: u32, 
     true
 }
 
-pub fn check_part(part: &[u8], table: &[u8], rank: u32) -> u32 {
+/// What is refused before the records are looked at: the table, the rank, then the part's header and length.
+pub fn head_refusal(part: &[u8], table: &[u8], rank: u32) -> u32 {
     match check_table(table) {
         0 => {}
         refusal => return refusal,
@@ -227,18 +228,25 @@ pub fn check_part(part: &[u8], table: &[u8], rank: u32) -> u32 {
     let (trees, count) = (fast::entry(table, ranks) as u32, end - first);
     if part.len() < HEADER
         || [4, 8, 12, 16, 20, 28].map(|at| number(part, at)) != [trees, ranks as u32, rank, first, count, 0]
+        || !(2..=3).contains(&number(part, 0))
     {
         return 8;
     }
     let ghosts = number(part, 24) as usize;
-    if ghosts > MAX_TREES as usize || part.len() != HEADER + TREE * count as usize + GHOST * ghosts {
-        return 8;
+    8 * u32::from(part.len() != HEADER + TREE * count as usize + GHOST * ghosts)
+}
+
+pub fn check_part(part: &[u8], table: &[u8], rank: u32) -> u32 {
+    let refusal = head_refusal(part, table, rank);
+    if refusal != 0 {
+        return refusal;
     }
-    let sound = match number(part, 0) {
-        2 => sound::<4, 0, 1>(part, trees, first, count),
-        3 => sound::<6, 2, 5>(part, trees, first, count),
-        _ => false,
-    };
+    let [trees, first, count, ghosts] = [4, 16, 20, 24].map(|at| number(part, at));
+    let sound = ghosts <= MAX_TREES as u32
+        && match number(part, 0) {
+            2 => sound::<4, 0, 1>(part, trees, first, count),
+            _ => sound::<6, 2, 5>(part, trees, first, count),
+        };
     if sound {
         0
     } else {

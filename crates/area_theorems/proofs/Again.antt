@@ -26,7 +26,8 @@ use Rattle.mesh.specs.Mesh.{dimensionOk}
 use Rattle.message.specs.Layout.{afterLast}
 use Rattle.bits.specs.Bits.{bitOf}
 use Rattle.area.specs.Layout.{areaHeader, heardWords, ghostBound, oldPlace, newPlace, wordsPlace, slotsPlace, ghostSlotsPlace, areaSize, areaHeaderBytes, wordOf, wordsOf, slotsOf, areaWith}
-use Rattle.area.specs.Area.{areaEpoch, areaDimension, areaK, areaP, areaRank, areaCount, areaGhosts, areaOld, areaNew, areaFirst, heard, treeSlot, treeSlotCore, ghostSlot, dueHeard, areaHeaderSound, bitSound, treeSlotSound, filledBound, ghostHeldSound, areaBound, ghostSlotSound, areaSound, behindArea}
+use Rattle.area.specs.Area.{areaEpoch, areaDimension, areaK, areaP, areaRank, areaCount, areaGhosts, areaOld, areaNew, areaFirst, heard, treeSlot}
+use Rattle.area.specs.Area.{treeSlotCore, ghostSlot, dueHeard, areaHeaderSound, bitSound, treeSlotSound, filledBound, ghostHeldSound, areaBound, ghostSlotSound, areaSound, behindArea}
 use Rattle.area.proofs.Soundness.{filled-fits}
 use Rattle.area_theorems.proofs.Joined.{slots-length, slots-at, slots-same, slots-piece, slots-replicate}
 use Rattle.area_theorems.proofs.Heard.{word-again, words-slots}

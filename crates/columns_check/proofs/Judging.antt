@@ -132,7 +132,8 @@ module _ (D first n g : ℕ) (tree ghostly : ℕ → List ℕ) (K : ℕ) where
   unfolding ghostFromOneEnd ghostHead
   ghost-split j =
       let r : List ℕ = ghostly j in
-      with-more (formAlone D r) (allBelow (faceCount (shapeOf r)) (ghostLow ghostly K j)) (allBelow (faceCount (shapeOf r)) (ghostFaceDown link g ghostly j)) (headOk D r) (allBelow 6 (λ f. ghostSide link first n g tree ghostly D K f j)) (anyBelow (faceCount (shapeOf r)) (neighbourIn first (first + n) r))
+      with-more (formAlone D r) (allBelow (faceCount (shapeOf r)) (ghostLow ghostly K j)) (allBelow (faceCount (shapeOf r)) (ghostFaceDown link g ghostly j)) (headOk D r)
+      (allBelow 6 (λ f. ghostSide link first n g tree ghostly D K f j)) (anyBelow (faceCount (shapeOf r)) (neighbourIn first (first + n) r))
       (ap (λ (b : Bool). formAlone D r && b) (sym (all-and (faceCount (shapeOf r)) (ghostLow ghostly K j) (ghostFaceDown link g ghostly j)))
       ∙ alone-split D r (λ f. ghostLow ghostly K j f && ghostFaceDown link g ghostly j f)
       ∙ ap (λ (b : Bool). headOk D r && b) (all-same 6 (λ f. sideLow r f (ghostLow ghostly K j f && ghostFaceDown link g ghostly j f)) (λ f. ghostSide link first n g tree ghostly D K f j) (λ f l. sym (ghost-side-is link first n g tree ghostly D K f j))))

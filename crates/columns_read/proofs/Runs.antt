@@ -186,7 +186,21 @@ module _ (D first n g K f i k : ℕ) (tree ghostly : ℕ → List ℕ) where
       unfolding treeSide sideOk faceForm boundaryOk toItself faceOf orientationOf facesOf treeFace treeTo linkByDimension cornersByDimension answeredByDimension answeredThere
       side-same down others =
           let before : neighbourOf (tree i) f < n = omega arith in
-          rw (up-same, down, own .neighbour, own .code, own .shape, lt-ltb f (faceCount (shapeOf (tree i))) used, lt-ltb (neighbourOf (tree i) f + k) n held, lt-ltb (neighbourOf (tree i) f) n before, others .neighbour, others .code, others .shape, eqb-add (neighbourOf (tree i) f) i k, eqb-add (neighbourOf (tree (neighbourOf (tree i) f)) (codeOf (tree i) f % facesIn D)) i k)
+          rw (
+            up-same,
+            down,
+            own .neighbour,
+            own .code,
+            own .shape,
+            lt-ltb f (faceCount (shapeOf (tree i))) used,
+            lt-ltb (neighbourOf (tree i) f + k) n held,
+            lt-ltb (neighbourOf (tree i) f) n before,
+            others .neighbour,
+            others .code,
+            others .shape,
+            eqb-add (neighbourOf (tree i) f) i k,
+            eqb-add (neighbourOf (tree (neighbourOf (tree i) f)) (codeOf (tree i) f % facesIn D)) i k,
+          )
 
   head-same : HeadLike (tree i) (tree (i + k)) k → treeHead (linkByDimension D) first n g tree ghostly D K (i + k) ≡ treeHead (linkByDimension D) first n g tree ghostly D K i
   unfolding treeHead treeNumbered headOk

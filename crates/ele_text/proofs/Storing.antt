@@ -86,7 +86,16 @@ module _ (f : File) (r : Row) (vs : List ℕ) where
                 let l0 : i < length vs = omega arith in
                 let l1 : suc i < length (set vs i (r .b)) = simp length-set (omega arith) in
                 let l2 : suc (suc i) < length (set (set vs i (r .b)) (suc i) (r .c)) = simp length-set (omega arith) in
-                rw (q, i1, i2, take-suc-set (set (set vs i (r .b)) (suc i) (r .c)) (suc (suc i)) (r .d) l2, take-suc-set (set vs i (r .b)) (suc i) (r .c) l1, take-suc-set vs i (r .b) l0, append-assoc (take i vs ++ (r .b ∷ [])) (r .c ∷ []) (r .d ∷ []), append-assoc (take i vs) (r .b ∷ []) (r .c ∷ r .d ∷ []))
+                rw (
+                  q,
+                  i1,
+                  i2,
+                  take-suc-set (set (set vs i (r .b)) (suc i) (r .c)) (suc (suc i)) (r .d) l2,
+                  take-suc-set (set vs i (r .b)) (suc i) (r .c) l1,
+                  take-suc-set vs i (r .b) l0,
+                  append-assoc (take i vs ++ (r .b ∷ [])) (r .c ∷ []) (r .d ∷ []),
+                  append-assoc (take i vs) (r .b ∷ []) (r .c ∷ r .d ∷ []),
+                )
 
 -- ---- all lines
 

@@ -97,7 +97,9 @@ module _ (i : Bool) (D : ℕ) (own : ℕ) (r : List ℕ) (link : ℕ → ℕ) wh
       let used : (f : ℕ) → f < faceCount (shapeOf r) → (boundaryOk own r f && eqb (link f) 0) ≡ true = λ f h. sym (used-face f h) ∙ face f (omega (arith, count-six (shapeOf r))) in
       let form : inForm own r ≡ true =
       form-intro own r (and-snd i shape k2) (and-fst (zerosOk r) (regionOk r) b) (and-snd (zerosOk r) (regionOk r) b) (λ f h. and-fst (boundaryOk own r f) (eqb (link f) 0) (used f h)) (λ f l h. sym (unused-face f l) ∙ face f h) in
-      and-intro (inForm own r && i && dimensional) _ (and-intro (inForm own r && i) dimensional (and-intro (inForm own r) i form (and-fst i shape k2)) (and-snd (i && shape && bytes) dimensional k)) (all-intro (faceCount (shapeOf r)) (λ f. eqb (link f) 0) (λ f h. and-snd (boundaryOk own r f) (eqb (link f) 0) (used f h)))
+      and-intro (inForm own r && i && dimensional) _
+      (and-intro (inForm own r && i) dimensional (and-intro (inForm own r) i form (and-fst i shape k2)) (and-snd (i && shape && bytes) dimensional k))
+      (all-intro (faceCount (shapeOf r)) (λ f. eqb (link f) 0) (λ f h. and-snd (boundaryOk own r f) (eqb (link f) 0) (used f h)))
 
   to-asked : formed ≡ true → asked ≡ true
   to-asked e =

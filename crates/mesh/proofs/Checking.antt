@@ -15,7 +15,8 @@ use Rattle.records.specs.Shape.{shapeOk, dimensionOf, faceCount, facesIn}
 use Rattle.records.specs.Record.{coreSize, treeSize, numberOf, shapeOf, neighbourOf, codeOf, zerosOk, regionOk, boundaryOk, inForm}
 use Rattle.records.specs.Means.{unusedFrom}
 use Rattle.mesh.specs.Mesh.{meshHeader, meshDimension, meshTrees, dimensionOk, meshCore, headerSound, meshSound}
-use Rattle.mesh.specs.Means.{cornersFit, cornersByDimension, answeredThere, answeredByDimension, linkByDimension, faceByDimension, treeByDimension, leadsUp, leadsDown, linksUp, linksDown, aloneByDimension, leadsInside, listedLink, downSound, listedSound, faceFromAbove, treeFromAbove, treesFromAbove, SeenAs, FacesAs, Reached, RunAs}
+use Rattle.mesh.specs.Means.{cornersFit, cornersByDimension, answeredThere, answeredByDimension, linkByDimension, faceByDimension, treeByDimension, leadsUp, leadsDown, linksUp, linksDown}
+use Rattle.mesh.specs.Means.{aloneByDimension, leadsInside, listedLink, downSound, listedSound, faceFromAbove, treeFromAbove, treesFromAbove, SeenAs, FacesAs, Reached, RunAs}
 use Rattle.mesh.proofs.FromAbove.{trees-from-above}
 use Rattle.mesh.proofs.Packing.{faces-both}
 

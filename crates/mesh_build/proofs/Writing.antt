@@ -36,7 +36,15 @@ six-bytes : (a b c d e f : ℕ) → a < 256 → b < 256 → c < 256 → d < 256 
     → leBytes 8 (a + 256 * b + 65536 * c + 16777216 * d + 4294967296 * e + 1099511627776 * f) ≡ (a ∷ b ∷ c ∷ d ∷ e ∷ f ∷ 0 ∷ 0 ∷ [])
 six-bytes a b c d e f ha hb hc hd he hf =
     let n : a + 256 * b + 65536 * c + 16777216 * d + 4294967296 * e + 1099511627776 * f ≡ a + 256 * (b + 256 * (c + 256 * (d + 256 * (e + 256 * (f + 256 * 0))))) = omega arith in
-    rw (n, byte-next 7 a (b + 256 * (c + 256 * (d + 256 * (e + 256 * (f + 256 * 0))))) ha, byte-next 6 b (c + 256 * (d + 256 * (e + 256 * (f + 256 * 0)))) hb, byte-next 5 c (d + 256 * (e + 256 * (f + 256 * 0))) hc, byte-next 4 d (e + 256 * (f + 256 * 0)) hd, byte-next 3 e (f + 256 * 0) he, byte-next 2 f 0 hf)
+    rw (
+      n,
+      byte-next 7 a (b + 256 * (c + 256 * (d + 256 * (e + 256 * (f + 256 * 0))))) ha,
+      byte-next 6 b (c + 256 * (d + 256 * (e + 256 * (f + 256 * 0)))) hb,
+      byte-next 5 c (d + 256 * (e + 256 * (f + 256 * 0))) hc,
+      byte-next 4 d (e + 256 * (f + 256 * 0)) hd,
+      byte-next 3 e (f + 256 * 0) he,
+      byte-next 2 f 0 hf,
+    )
     none-above
 
 pub codes-word : (rows : List (List ℕ)) (F : ℕ) → Rows rows F → {a b c d e f : ℕ}

@@ -128,7 +128,14 @@ module _ (mesh table : List ℕ) (rank : ℕ) (ok : Cuttable mesh table rank) (m
       let w = cuttable-fits mesh table rank ok bytes in
       let b = cut-within mesh table rank ok bytes in
       let p = position-below mesh table rank ok bytes k l e in
-      rw (ne-eqb (n + position k) unused (λ q. omega (arith, count-le k ghost)), cut-count mesh table rank ok bytes, cut-ghosts mesh table rank ok bytes, le-ltb (n + position k) n (omega arith), lt-ltb (n + position k) (n + ghostCount mesh table rank) (omega arith), add-sub-cancel-left n (position k))
+      rw (
+        ne-eqb (n + position k) unused (λ q. omega (arith, count-le k ghost)),
+        cut-count mesh table rank ok bytes,
+        cut-ghosts mesh table rank ok bytes,
+        le-ltb (n + position k) n (omega arith),
+        lt-ltb (n + position k) (n + ghostCount mesh table rank) (omega arith),
+        add-sub-cancel-left n (position k),
+      )
       (cut-ghost-number mesh table rank ok bytes k l e)
 
   -- a neighbour renamed to a local index and back is itself
@@ -277,7 +284,22 @@ module _ (mesh table : List ℕ) (rank : ℕ) (ok : Cuttable mesh table rank) (m
   header-sound : partHeaderSound part table rank ≡ true
   unfolding partHeaderSound
   header-sound =
-      rw (cut-dimension mesh table rank ok bytes, header-parts mesh (sound-header mesh (ok .mesh-sound)) .0, cut-K mesh table rank ok bytes, ok .same-trees, cut-ranks mesh table rank ok bytes, cut-rank mesh table rank ok bytes, cut-first mesh table rank ok bytes, cut-count mesh table rank ok bytes, cut-zero mesh table rank ok bytes, eq-eqb (trees table) (trees table) refl, eq-eqb (ranks table) (ranks table) refl, eq-eqb rank rank refl, eq-eqb first first refl, eq-eqb n n refl)
+      rw (
+        cut-dimension mesh table rank ok bytes,
+        header-parts mesh (sound-header mesh (ok .mesh-sound)) .0,
+        cut-K mesh table rank ok bytes,
+        ok .same-trees,
+        cut-ranks mesh table rank ok bytes,
+        cut-rank mesh table rank ok bytes,
+        cut-first mesh table rank ok bytes,
+        cut-count mesh table rank ok bytes,
+        cut-zero mesh table rank ok bytes,
+        eq-eqb (trees table) (trees table) refl,
+        eq-eqb (ranks table) (ranks table) refl,
+        eq-eqb rank rank refl,
+        eq-eqb first first refl,
+        eq-eqb n n refl,
+      )
 
   -- a tree of f(rank) is held, and so is a ghost
   pub tree-held : (k : ℕ) → holds table rank k ≡ true → partHolds (cutPart mesh table rank) k ≡ true

@@ -183,7 +183,17 @@ module _ (run : Run) (S : Setting run) where
     unfolding buildChecks tableChecks firstFailed
     build-refusal =
         let T = S .tables in
-        rw (T .oldRanks, T .newRanks, T .oldValid, T .newValid, eq-eqb (ranks (run .old)) (ranks (run .new)) (sym (T .sameRanks)), eq-eqb (trees (run .old)) (trees (run .new)) (sym (T .sameTrees)), lt-ltb p (ranks (run .old)) l, lt-ltb q (ranks (run .old)) r, cut-sound (run .mesh) (run .old) p (old-cuttable p l) (S .mesh-bytes) (T .oldBytes))
+        rw (
+          T .oldRanks,
+          T .newRanks,
+          T .oldValid,
+          T .newValid,
+          eq-eqb (ranks (run .old)) (ranks (run .new)) (sym (T .sameRanks)),
+          eq-eqb (trees (run .old)) (trees (run .new)) (sym (T .sameTrees)),
+          lt-ltb p (ranks (run .old)) l,
+          lt-ltb q (ranks (run .old)) r,
+          cut-sound (run .mesh) (run .old) p (old-cuttable p l) (S .mesh-bytes) (T .oldBytes),
+        )
 
     -- its whole answer: 9 where p sends q no tree, 22 where the buffer is shorter than the message, else the message
     pub build-answer : (out : List ℕ) → buildMessageOf (cutPart (run .mesh) (run .old) p) (run .old) (run .new) p q (run .epoch) out
@@ -191,7 +201,17 @@ module _ (run : Run) (S : Setting run) where
     unfolding buildMessageOf buildChecks tableChecks firstFailed messageOf
     build-answer out =
         let T = S .tables in
-        rw (T .oldRanks, T .newRanks, T .oldValid, T .newValid, eq-eqb (ranks (run .old)) (ranks (run .new)) (sym (T .sameRanks)), eq-eqb (trees (run .old)) (trees (run .new)) (sym (T .sameTrees)), lt-ltb p (ranks (run .old)) l, lt-ltb q (ranks (run .old)) r, cut-sound (run .mesh) (run .old) p (old-cuttable p l) (S .mesh-bytes) (T .oldBytes))
+        rw (
+          T .oldRanks,
+          T .newRanks,
+          T .oldValid,
+          T .newValid,
+          eq-eqb (ranks (run .old)) (ranks (run .new)) (sym (T .sameRanks)),
+          eq-eqb (trees (run .old)) (trees (run .new)) (sym (T .sameTrees)),
+          lt-ltb p (ranks (run .old)) l,
+          lt-ltb q (ranks (run .old)) r,
+          cut-sound (run .mesh) (run .old) p (old-cuttable p l) (S .mesh-bytes) (T .oldBytes),
+        )
 
     -- where p sends q a tree, it writes that message into any buffer that is long enough
     pub built-bytes : sendsTo (run .old) (run .new) p q ≡ true → (out : List ℕ) → length (messageOf run p q) ≤ length out

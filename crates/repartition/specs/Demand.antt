@@ -64,7 +64,12 @@ module _ (run : Run) where
     pub ghost-record-whole : (out : List ℕ) → closeAfter b cs out .0 .refusal ≡ 0 → (j : ℕ) → j < partGhostCount (closeAfter b cs out .1)
         → AllIn (GhostIs (numberOf (storedGhost (closeAfter b cs out .1) j)) (storedGhost (closeAfter b cs out .1) j)) (cameIn b cs)
 
--- Demand 3. Take any sound whole mesh, two valid tables that agree in P and in the mesh's K, a rank of theirs and an epoch; two buffers of any content that are at least as long as the area; and any two lists of deliver and close calls, in any order and with repeats, where each delivery is the message that an old rank built from its part of the mesh, for this rank or another. Then the open call accepts, and after the lists the areas are equal in every byte exactly when the same senders are heard by the lists; the bytes behind the area stay; the first delivery of each message meant for the rank is accepted, a repeated one gets 15, one for another rank 13; a close gets 20 until the receive set is heard, then 22 if its buffer is shorter than the part, and else its buffer begins with the part that cutting the mesh by the new table gives, and its answer is that length; and once all are heard, each tree and each ghost of that part came in exactly one accepted message, its record there the one in the part.
+-- Demand 3. Take any sound whole mesh, two valid tables that agree in P and in the mesh's K, a rank of theirs and an epoch; two buffers of any content that are at least as long as the area; and any
+-- two lists of deliver and close calls, in any order and with repeats, where each delivery is the message that an old rank built from its part of the mesh, for this rank or another. Then the open
+-- call accepts, and after the lists the areas are equal in every byte exactly when the same senders are heard by the lists; the bytes behind the area stay; the first delivery of each message meant
+-- for the rank is accepted, a repeated one gets 15, one for another rank 13; a close gets 20 until the receive set is heard, then 22 if its buffer is shorter than the part, and else its buffer begins
+-- with the part that cutting the mesh by the new table gives, and its answer is that length; and once all are heard, each tree and each ghost of that part came in exactly one accepted message, its
+-- record there the one in the part.
 abbrev pub Demand3 : Type 0
 Demand3 =
     (run : Run) → Setting run → (b c : List ℕ) → size run ≤ length b → size run ≤ length c

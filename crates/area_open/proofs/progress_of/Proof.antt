@@ -100,7 +100,9 @@ returns-2 c =
     let words-place = c .before .before .before .before .words-place in
     let rank = c .before .rank in
     let heard-ones = c .before .before .before .before .before .before .before .heard-ones in
-    progress-read _ (sym (area-sound .ensures) ∙ not-false _ (if1 .left)) (sound-holds _ (sym (area-sound .ensures) ∙ not-false _ (if1 .left)) (λ i. shared-slice-known .given i .fits)) (tabled _ (ranks .ensures) (new-place .ensures .0) (words-place .ensures .0) (sound-holds _ (sym (area-sound .ensures) ∙ not-false _ (if1 .left)) (λ i. shared-slice-known .given i .fits))) (rank .ensures) (heard-ones .ensures) (c .set-count .ensures .0)
+    progress-read _ (sym (area-sound .ensures) ∙ not-false _ (if1 .left)) (sound-holds _ (sym (area-sound .ensures) ∙ not-false _ (if1 .left)) (λ i. shared-slice-known .given i .fits))
+    (tabled _ (ranks .ensures) (new-place .ensures .0) (words-place .ensures .0) (sound-holds _ (sym (area-sound .ensures) ∙ not-false _ (if1 .left)) (λ i. shared-slice-known .given i .fits)))
+    (rank .ensures) (heard-ones .ensures) (c .set-count .ensures .0)
 
 pub progress-of-spec : {M : Type 1} → statement M
 progress-of-spec =

@@ -75,7 +75,9 @@ write-requires c κs =
     let if2 = c .before .before .before .if2 in
     let at-total = c .before .total in
     let if3 = c .before .before .if3 in
-    let ls = args .leaves .now in let sums = args .sums .now in record { ranksFit = sym (rank-count-ok .ensures) ∙ not-false _ (if1 .left); leavesFit = and-fst (leavesOk ls) (sumsOk ls sums) (sym (blocks-ok .ensures) ∙ not-false _ (if2 .left)); total = at-total .ensures ∙ pairs-add ls sums (and-snd (leavesOk ls) (sumsOk ls sums) (sym (blocks-ok .ensures) ∙ not-false _ (if2 .left))); room = if3 .left }
+    let ls = args .leaves .now in
+    let sums = args .sums .now in
+    record { ranksFit = sym (rank-count-ok .ensures) ∙ not-false _ (if1 .left); leavesFit = and-fst (leavesOk ls) (sumsOk ls sums) (sym (blocks-ok .ensures) ∙ not-false _ (if2 .left)); total = at-total .ensures ∙ pairs-add ls sums (and-snd (leavesOk ls) (sumsOk ls sums) (sym (blocks-ok .ensures) ∙ not-false _ (if2 .left))); room = if3 .left }
 
 same-length : tie.Need-same-length
 same-length c = search needs
@@ -90,7 +92,16 @@ returns-4 c =
     let args = c .before .before .before .before .before .before .before .before .before .before .before .before .before .args in
     let if3 = c .before .before .before .before .before .if3 in
     let write = c .before .before .write in
-    simp (← rank-count-ok .ensures, not-false (rank-count-ok .result) (if1 .left), ← blocks-ok .ensures, not-false (blocks-ok .result) (if2 .left), le-leb (tableLength (args .ranks)) (length (args .out .now)) (if3 .left), write .ensures, blocks-agree (args .ranks) (args .leaves .now) (args .sums .now) (and-snd (leavesOk (args .leaves .now)) (sumsOk (args .leaves .now) (args .sums .now)) (sym (blocks-ok .ensures) ∙ not-false _ (if2 .left))) .1, leaf-table-length (args .ranks) (args .leaves .now))
+    simp (
+      ← rank-count-ok .ensures,
+      not-false (rank-count-ok .result) (if1 .left),
+      ← blocks-ok .ensures,
+      not-false (blocks-ok .result) (if2 .left),
+      le-leb (tableLength (args .ranks)) (length (args .out .now)) (if3 .left),
+      write .ensures,
+      blocks-agree (args .ranks) (args .leaves .now) (args .sums .now) (and-snd (leavesOk (args .leaves .now)) (sumsOk (args .leaves .now) (args .sums .now)) (sym (blocks-ok .ensures) ∙ not-false _ (if2 .left))) .1,
+      leaf-table-length (args .ranks) (args .leaves .now),
+    )
 
 pub table-from-blocks-spec : {M : Type 1} → statement M
 table-from-blocks-spec =

@@ -77,7 +77,16 @@ returns-4 c =
     let if3 = c .before .before .if3 in
     let args = c .before .before .before .before .before .before .before .before .before .before .before .args in
     let if4 = c .before .if4 in
-    simp (c .refused4 .ensures, ← rank-count-ok .ensures, not-false (rank-count-ok .result) (if1 .left), ← weights-ok .ensures, not-false (weights-ok .result) (if2 .left), ← leaves-ok .ensures, not-false (leaves-ok .result) (if3 .left), lt-leb (tableLength (length (args .weights .now))) (length (args .out .now)) (if4 .taken))
+    simp (
+      c .refused4 .ensures,
+      ← rank-count-ok .ensures,
+      not-false (rank-count-ok .result) (if1 .left),
+      ← weights-ok .ensures,
+      not-false (weights-ok .result) (if2 .left),
+      ← leaves-ok .ensures,
+      not-false (leaves-ok .result) (if3 .left),
+      lt-leb (tableLength (length (args .weights .now))) (length (args .out .now)) (if4 .taken),
+    )
 
 total-requires : tie.Need-total-requires
 total-requires c κs = sym (c .before .before .leaves-ok .ensures) ∙ not-false _ (c .before .if3 .left)
@@ -109,7 +118,17 @@ returns-5 c =
     let args = c .before .before .before .before .before .before .before .before .before .before .before .before .before .before .before .args in
     let if4 = c .before .before .before .before .before .if4 in
     let write = c .before .before .write in
-    simp (← rank-count-ok .ensures, not-false (rank-count-ok .result) (if1 .left), ← weights-ok .ensures, not-false (weights-ok .result) (if2 .left), ← leaves-ok .ensures, not-false (leaves-ok .result) (if3 .left), le-leb (tableLength (length (args .weights .now))) (length (args .out .now)) (if4 .left), write .ensures, weighted-length (args .weights .now) (args .leaves .now))
+    simp (
+      ← rank-count-ok .ensures,
+      not-false (rank-count-ok .result) (if1 .left),
+      ← weights-ok .ensures,
+      not-false (weights-ok .result) (if2 .left),
+      ← leaves-ok .ensures,
+      not-false (leaves-ok .result) (if3 .left),
+      le-leb (tableLength (length (args .weights .now))) (length (args .out .now)) (if4 .left),
+      write .ensures,
+      weighted-length (args .weights .now) (args .leaves .now),
+    )
 
 pub table-from-weights-spec : {M : Type 1} → statement M
 table-from-weights-spec =

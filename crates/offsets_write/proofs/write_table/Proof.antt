@@ -75,7 +75,15 @@ returns-4 c =
     let args = c .before .before .before .before .before .before .before .before .before .before .before .before .args in
     let if3 = c .before .before .before .before .if3 in
     let write = c .before .before .write in
-    simp (← rank-count-ok .ensures, not-false (rank-count-ok .result) (if1 .left), ← partition-ok .ensures, not-false (partition-ok .result) (if2 .left), le-leb (tableLength (args .ranks)) (length (args .out .now)) (if3 .left), write .ensures, table-length (each (args .first .now)) (each (args .count .now)) (args .ranks))
+    simp (
+      ← rank-count-ok .ensures,
+      not-false (rank-count-ok .result) (if1 .left),
+      ← partition-ok .ensures,
+      not-false (partition-ok .result) (if2 .left),
+      le-leb (tableLength (args .ranks)) (length (args .out .now)) (if3 .left),
+      write .ensures,
+      table-length (each (args .first .now)) (each (args .count .now)) (args .ranks),
+    )
 
 pub write-table-spec : {M : Type 1} → statement M
 write-table-spec =

@@ -58,7 +58,8 @@ returns-3 c =
     let if2 = c .before .before .before .before .if2 in
     let survey = c .before .before .before .survey in
     let if3 = c .before .if3 in
-    refused-strings (args .shapes .now) (args .lengths .now) (args .bits .now) (args .out .now) (c .count-refused3 .result) (c .count-refused3 .ensures) (sym (trees-ok .ensures) ∙ not-false _ (if1 .left)) (sym (shapes-ok .ensures) ∙ not-false _ (if2 .left)) (survey .result) (survey .ensures) (not-true _ (if3 .taken))
+    refused-strings (args .shapes .now) (args .lengths .now) (args .bits .now) (args .out .now) (c .count-refused3 .result) (c .count-refused3 .ensures)
+    (sym (trees-ok .ensures) ∙ not-false _ (if1 .left)) (sym (shapes-ok .ensures) ∙ not-false _ (if2 .left)) (survey .result) (survey .ensures) (not-true _ (if3 .taken))
 
 count-refused-requires-4 : tie.Need-count-refused-requires-4
 count-refused-requires-4 c κs = search needs
@@ -74,7 +75,9 @@ returns-4 c =
     let survey = c .before .before .before .before .before .survey in
     let if3 = c .before .before .before .if3 in
     let if4 = c .before .if4 in
-    refused-counts (args .shapes .now) (args .lengths .now) (args .bits .now) (args .out .now) (c .count-refused4 .result) (c .count-refused4 .ensures) (sym (trees-ok .ensures) ∙ not-false _ (if1 .left)) (sym (shapes-ok .ensures) ∙ not-false _ (if2 .left)) (survey .result) (survey .ensures) (not-false _ (if3 .left)) (not-true _ (if4 .taken))
+    refused-counts (args .shapes .now) (args .lengths .now) (args .bits .now) (args .out .now) (c .count-refused4 .result) (c .count-refused4 .ensures)
+    (sym (trees-ok .ensures) ∙ not-false _ (if1 .left)) (sym (shapes-ok .ensures) ∙ not-false _ (if2 .left)) (survey .result) (survey .ensures) (not-false _ (if3 .left))
+    (not-true _ (if4 .taken))
 
 count-refused-requires-5 : tie.Need-count-refused-requires-5
 count-refused-requires-5 c κs = search needs
@@ -91,7 +94,9 @@ returns-5 c =
     let if3 = c .before .before .before .before .if3 in
     let if4 = c .before .before .if4 in
     let if5 = c .before .if5 in
-    refused-room (args .shapes .now) (args .lengths .now) (args .bits .now) (args .out .now) (c .count-refused5 .result) (c .count-refused5 .ensures) (sym (trees-ok .ensures) ∙ not-false _ (if1 .left)) (sym (shapes-ok .ensures) ∙ not-false _ (if2 .left)) (survey .result) (survey .ensures) (not-false _ (if3 .left)) (not-false _ (if4 .left)) (if5 .taken)
+    refused-room (args .shapes .now) (args .lengths .now) (args .bits .now) (args .out .now) (c .count-refused5 .result) (c .count-refused5 .ensures)
+    (sym (trees-ok .ensures) ∙ not-false _ (if1 .left)) (sym (shapes-ok .ensures) ∙ not-false _ (if2 .left)) (survey .result) (survey .ensures) (not-false _ (if3 .left))
+    (not-false _ (if4 .left)) (if5 .taken)
 
 write-requires : tie.Need-write-requires
 unfolding treesOk
@@ -129,7 +134,8 @@ returns-6 c =
     let if3 = c .before .before .before .before .before .before .before .if3 in
     let if4 = c .before .before .before .before .before .if4 in
     let if5 = c .before .before .before .before .if5 in
-    all-counted (args .shapes .now) (args .lengths .now) (args .bits .now) (args .out .now) _ (write .ensures) (sym (trees-ok .ensures) ∙ not-false _ (if1 .left)) (sym (shapes-ok .ensures) ∙ not-false _ (if2 .left)) (survey .result) (survey .ensures) (not-false _ (if3 .left)) (not-false _ (if4 .left)) (if5 .left)
+    all-counted (args .shapes .now) (args .lengths .now) (args .bits .now) (args .out .now) _ (write .ensures) (sym (trees-ok .ensures) ∙ not-false _ (if1 .left))
+    (sym (shapes-ok .ensures) ∙ not-false _ (if2 .left)) (survey .result) (survey .ensures) (not-false _ (if3 .left)) (not-false _ (if4 .left)) (if5 .left)
 
 pub leaf-counts-spec : {M : Type 1} → statement M
 leaf-counts-spec =

@@ -179,7 +179,10 @@ returns-6 c =
     let rank = c .before .before .rank in
     let count2 = c .before .before .before .count2 in
     let tree-count = c .before .tree-count in
-    header-read _ (if1 .left) (dimension .ensures) (dimension-ok .ensures) (not-false _ (if2 .left)) (ranks .ensures) (rank-count-ok .ensures) (not-false _ (if3 .left)) (dimension2 .ensures) (count .ensures) (area-size .ensures) (if4 .left) (tables-fit .ensures) (not-false _ (if5 .left)) (sized-area _ (ranks .ensures) (new-place .ensures .0) (words-place .ensures .0) (dimension2 .ensures) (count .ensures) (rank-count-ok .ensures) (not-false _ (if3 .left)) (area-size .ensures) (if4 .left) .isNew) (rank .ensures) (count2 .ensures) (tree-count .ensures .0) (c .read-u32 .ensures)
+    header-read _ (if1 .left) (dimension .ensures) (dimension-ok .ensures) (not-false _ (if2 .left)) (ranks .ensures) (rank-count-ok .ensures) (not-false _ (if3 .left)) (dimension2 .ensures)
+    (count .ensures) (area-size .ensures) (if4 .left) (tables-fit .ensures) (not-false _ (if5 .left))
+    (sized-area _ (ranks .ensures) (new-place .ensures .0) (words-place .ensures .0) (dimension2 .ensures) (count .ensures) (rank-count-ok .ensures) (not-false _ (if3 .left)) (area-size .ensures) (if4 .left) .isNew)
+    (rank .ensures) (count2 .ensures) (tree-count .ensures .0) (c .read-u32 .ensures)
 
 pub header-sound-spec : {M : Type 1} → statement M
 header-sound-spec =

@@ -129,7 +129,8 @@ returns-2 c =
     let end-tree = c .before .before .before .before .before .before .before .end-tree in
     let ghosts-held = c .before .before .before .ghosts-held in
     let if1 = c .before .before .if1 in
-    ghosts-read (pre .0) (ghosts .ensures) (count .ensures) (dimension .ensures) (ghost-bound .ensures .0) (pre .1) (ranks .ensures) (ghost-slots-place .ensures .0) (trees .ensures) (rank .ensures) (first-tree .ensures) (end-tree .ensures) (ghosts-held .ensures) (not-false _ (if1 .left)) (c .all-zero .ensures)
+    ghosts-read (pre .0) (ghosts .ensures) (count .ensures) (dimension .ensures) (ghost-bound .ensures .0) (pre .1) (ranks .ensures) (ghost-slots-place .ensures .0) (trees .ensures)
+    (rank .ensures) (first-tree .ensures) (end-tree .ensures) (ghosts-held .ensures) (not-false _ (if1 .left)) (c .all-zero .ensures)
 
 pub ghosts-sound-spec : {M : Type 1} → statement M
 ghosts-sound-spec =

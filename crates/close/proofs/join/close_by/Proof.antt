@@ -93,8 +93,11 @@ write-part-requires c κs =
     let if2 = c .before .before .before .if2 in
     let ranks = c .before .before .before .before .before .before .before .before .before .before .before .before .before .before .before .before .before .before .before .ranks in
     let ghost-slots-place = c .before .before .before .before .before .before .before .before .before .before .before .before .before .before .before .before .before .before .ghost-slots-place in
-    let make = c .before .before .before .before .before .before .before .before .before .before .before .before .before .before .make in
-    (join-room _ _ (not-refused _ (pre .0 .sound) (pre .0 .all) (λ i. shared-slice-known .given i .fits) (sym (join-by .ensures) ∙ not-false _ (if1 .left))) refl (λ i. shared-slice-known .given i .fits) (count .ensures) (ghosts .ensures) (ghost-at .ensures) (if2 .left), index-read _ (ranks .ensures) (count .ensures) (ghosts .ensures) (ghost-slots-place .ensures .0) (make .ensures))
+    let make = c .before .before .before .before .before .before .before .before .before .before .before .before .before .before .make in (
+      join-room _ _ (not-refused _ (pre .0 .sound) (pre .0 .all) (λ i. shared-slice-known .given i .fits) (sym (join-by .ensures) ∙ not-false _ (if1 .left))) refl
+          (λ i. shared-slice-known .given i .fits) (count .ensures) (ghosts .ensures) (ghost-at .ensures) (if2 .left),
+      index-read _ (ranks .ensures) (count .ensures) (ghosts .ensures) (ghost-slots-place .ensures .0) (make .ensures),
+    )
 
 same-length-5 : tie.Need-same-length-5
 same-length-5 c = search needs

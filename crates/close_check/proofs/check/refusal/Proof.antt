@@ -60,7 +60,9 @@ returns-2 c =
     let shared-slice-known = c .before .before .before .before .before .before .before .before .shared-slice-known in
     let if1 = c .before .before .before .before .before .before .if1 in
     let join-sound = c .before .join-sound in
-    refused-join _ (complete _ (early-refusal .ensures) (λ i. shared-slice-known .given i .fits) (if1 .left) .sound) (complete _ (early-refusal .ensures) (λ i. shared-slice-known .given i .fits) (if1 .left) .all) (λ i. shared-slice-known .given i .fits) (sym (join-sound .ensures) ∙ not-true _ (c .if2 .taken))
+    refused-join _ (complete _ (early-refusal .ensures) (λ i. shared-slice-known .given i .fits) (if1 .left) .sound)
+    (complete _ (early-refusal .ensures) (λ i. shared-slice-known .given i .fits) (if1 .left) .all) (λ i. shared-slice-known .given i .fits)
+    (sym (join-sound .ensures) ∙ not-true _ (c .if2 .taken))
 
 returns-3 : tie.Need-returns-3
 returns-3 c =
@@ -68,7 +70,9 @@ returns-3 c =
     let shared-slice-known = c .before .before .before .before .before .before .before .before .shared-slice-known in
     let if1 = c .before .before .before .before .before .before .if1 in
     let join-sound = c .before .join-sound in
-    not-refused _ (complete _ (early-refusal .ensures) (λ i. shared-slice-known .given i .fits) (if1 .left) .sound) (complete _ (early-refusal .ensures) (λ i. shared-slice-known .given i .fits) (if1 .left) .all) (λ i. shared-slice-known .given i .fits) (sym (join-sound .ensures) ∙ not-false _ (c .if2 .left))
+    not-refused _ (complete _ (early-refusal .ensures) (λ i. shared-slice-known .given i .fits) (if1 .left) .sound)
+    (complete _ (early-refusal .ensures) (λ i. shared-slice-known .given i .fits) (if1 .left) .all) (λ i. shared-slice-known .given i .fits)
+    (sym (join-sound .ensures) ∙ not-false _ (c .if2 .left))
 
 pub refusal-spec : {M : Type 1} → statement M
 refusal-spec =

@@ -74,7 +74,10 @@ returns-2 c =
     let ghost-count = c .before .before .before .ghost-count in
     let dimension = c .before .before .dimension in
     let trees = c .before .trees in
-    columns-read _ _ _ (header-sound .ensures) (not-false _ (if1 .left)) (λ i. shared-slice-known .given i .fits) (λ i. shared-slice-known2 .given i .fits) pre (first-tree .ensures) (tree-count .ensures) (ghost-count .ensures) (dimension .ensures) (trees .ensures) (laid-read _ _ _ (λ i. shared-slice-known2 .given i .fits) pre (header-sound .ensures) (not-false _ (if1 .left)) (first-tree .ensures) (tree-count .ensures) (ghost-count .ensures) (trees .ensures) .within) (c .records-sound .ensures)
+    columns-read _ _ _ (header-sound .ensures) (not-false _ (if1 .left)) (λ i. shared-slice-known .given i .fits) (λ i. shared-slice-known2 .given i .fits) pre (first-tree .ensures)
+    (tree-count .ensures) (ghost-count .ensures) (dimension .ensures) (trees .ensures)
+    (laid-read _ _ _ (λ i. shared-slice-known2 .given i .fits) pre (header-sound .ensures) (not-false _ (if1 .left)) (first-tree .ensures) (tree-count .ensures) (ghost-count .ensures) (trees .ensures) .within)
+    (c .records-sound .ensures)
 
 pub columns-sound-spec : {M : Type 1} → statement M
 columns-sound-spec =

@@ -97,7 +97,8 @@ returns-6 c =
     let parted = c .before .before .parted in
     let sides-like2 = c .before .sides-like2 in
     let if5 = c .before .before .before .before .if5 in
-    sides-run _ _ _ _ _ _ _ _ (pre .2) (sides-like .ensures) (word .ensures) (byte .ensures .0) (face-count .ensures .0) (if4 .left) (omega (arith, if1 .left)) (omega (arith, if1 .left, if3 .left)) (c .lesser .ensures .0) (byte2 .ensures .0) (parted .ensures .0) (parted .ensures .1 .1) (sides-like2 .ensures) (c .lesser .ensures .1) (if5 .left)
+    sides-run _ _ _ _ _ _ _ _ (pre .2) (sides-like .ensures) (word .ensures) (byte .ensures .0) (face-count .ensures .0) (if4 .left) (omega (arith, if1 .left))
+    (omega (arith, if1 .left, if3 .left)) (c .lesser .ensures .0) (byte2 .ensures .0) (parted .ensures .0) (parted .ensures .1 .1) (sides-like2 .ensures) (c .lesser .ensures .1) (if5 .left)
 
 pub sides-on-spec : {M : Type 1} → statement M
 sides-on-spec =

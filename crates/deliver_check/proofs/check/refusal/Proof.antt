@@ -123,8 +123,11 @@ due-refusal-requires c κs =
     let if1 = c .before .before .before .before .before .before .before .before .before .if1 in
     let same-run = c .before .before .before .before .before .before .before .before .same-run in
     let if2 = c .before .before .before .before .before .before .before .if2 in
-    let shared-slice-known = c .before .before .before .before .before .before .before .before .before .before .before .before .shared-slice-known in
-    (tabled _ (ranks .ensures) (new-place .ensures .0) (words-place .ensures .0) (ready _ _ pre (in-layout .ensures) (not-false _ (if1 .left)) (same-run .ensures) (not-false _ (if2 .left)) (λ i. shared-slice-known .given i .fits) .header), ready _ _ pre (in-layout .ensures) (not-false _ (if1 .left)) (same-run .ensures) (not-false _ (if2 .left)) (λ i. shared-slice-known .given i .fits))
+    let shared-slice-known = c .before .before .before .before .before .before .before .before .before .before .before .before .shared-slice-known in (
+      tabled _ (ranks .ensures) (new-place .ensures .0) (words-place .ensures .0)
+          (ready _ _ pre (in-layout .ensures) (not-false _ (if1 .left)) (same-run .ensures) (not-false _ (if2 .left)) (λ i. shared-slice-known .given i .fits) .header),
+      ready _ _ pre (in-layout .ensures) (not-false _ (if1 .left)) (same-run .ensures) (not-false _ (if2 .left)) (λ i. shared-slice-known .given i .fits),
+    )
 
 returns-4 : tie.Need-returns-4
 returns-4 c =

@@ -64,7 +64,10 @@ returns c =
     let read-u645 = c .before .before .before .read-u645 in
     let read-u646 = c .before .before .read-u646 in
     let read-u647 = c .before .read-u647 in
-    let a = args in let e : read-u64 .result ≡ u64At (a .bs .now) (a .at + 0) = rw add-zero (read-u64 .ensures) in rw (e, read-u642 .ensures, read-u643 .ensures, read-u644 .ensures, read-u645 .ensures, read-u646 .ensures, read-u647 .ensures, c .read-u648 .ensures) (eight (λ k. eqb (u64At (a .bs .now) (a .at + 8 * k)) 0) ∙ row-zero 8 8 (a .bs .now) (a .at))
+    let a = args in
+    let e : read-u64 .result ≡ u64At (a .bs .now) (a .at + 0) = rw add-zero (read-u64 .ensures) in
+    rw (e, read-u642 .ensures, read-u643 .ensures, read-u644 .ensures, read-u645 .ensures, read-u646 .ensures, read-u647 .ensures, c .read-u648 .ensures)
+    (eight (λ k. eqb (u64At (a .bs .now) (a .at + 8 * k)) 0) ∙ row-zero 8 8 (a .bs .now) (a .at))
 
 pub zero64-spec : {M : Type 1} → statement M
 zero64-spec =

@@ -85,7 +85,8 @@ returns-2 c =
     let first-tree2 = c .before .before .before .before .first-tree2 in
     let read-u323 = c .before .before .read-u323 in
     let ghost-count = c .before .ghost-count in
-    head-read _ _ _ (ranks .ensures .0) (first-tree .ensures) (end-tree .ensures) (tree-count .ensures) (dimension .ensures) (dimension-ok .ensures) (trees .ensures) (entry .ensures) (read-u32 .ensures) (read-u322 .ensures) (first-tree2 .ensures) (read-u323 .ensures) (ghost-count .ensures) (c .ghost-at .ensures)
+    head-read _ _ _ (ranks .ensures .0) (first-tree .ensures) (end-tree .ensures) (tree-count .ensures) (dimension .ensures) (dimension-ok .ensures) (trees .ensures) (entry .ensures)
+    (read-u32 .ensures) (read-u322 .ensures) (first-tree2 .ensures) (read-u323 .ensures) (ghost-count .ensures) (c .ghost-at .ensures)
 
 pub header-sound-spec : {M : Type 1} → statement M
 header-sound-spec =

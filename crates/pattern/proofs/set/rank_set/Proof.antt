@@ -97,7 +97,9 @@ ranks-found-requires c κs =
     let shared-slice-known = c .before .before .before .before .before .before .before .before .before .before .before .before .before .shared-slice-known in
     let shared-slice-known2 = c .before .before .before .before .before .before .before .before .before .before .before .before .shared-slice-known2 in
     let if1 = c .before .before .before .before .before .before .before .before .before .if1 in
-    back-small _ _ (set-write .ensures .counted) _ _ (room-counted (too-short .ensures) (if3 .left) (set-write .ensures .counted)) (set-write .ensures .kept (room-counted (too-short .ensures) (if3 .left) (set-write .ensures .counted))) (set-small _ _ _ _ (old-ranks _ _ _ (tables-refusal .ensures) (λ i. shared-slice-known .given i .fits) (λ i. shared-slice-known2 .given i .fits) (if1 .left)))
+    back-small _ _ (set-write .ensures .counted) _ _ (room-counted (too-short .ensures) (if3 .left) (set-write .ensures .counted))
+    (set-write .ensures .kept (room-counted (too-short .ensures) (if3 .left) (set-write .ensures .counted)))
+    (set-small _ _ _ _ (old-ranks _ _ _ (tables-refusal .ensures) (λ i. shared-slice-known .given i .fits) (λ i. shared-slice-known2 .given i .fits) (if1 .left)))
 
 same-length : tie.Need-same-length
 same-length c = search needs
@@ -111,7 +113,9 @@ returns-4 c =
     let too-short = c .before .before .before .before .before .before .before .too-short in
     let if3 = c .before .before .before .before .before .before .if3 in
     let set-write = c .before .before .before .before .set-write in
-    set-found _ _ _ (tables-refusal .ensures) _ _ _ (if1 .left) _ (ranks .ensures .0) _ (set-write .ensures .counted) (if2 .left) (room-counted (too-short .ensures) (if3 .left) (set-write .ensures .counted)) _ _ (set-write .ensures .kept (room-counted (too-short .ensures) (if3 .left) (set-write .ensures .counted))) (c .ranks-found .ensures)
+    set-found _ _ _ (tables-refusal .ensures) _ _ _ (if1 .left) _ (ranks .ensures .0) _ (set-write .ensures .counted) (if2 .left)
+    (room-counted (too-short .ensures) (if3 .left) (set-write .ensures .counted)) _ _ (set-write .ensures .kept (room-counted (too-short .ensures) (if3 .left) (set-write .ensures .counted)))
+    (c .ranks-found .ensures)
 
 pub rank-set-spec : {M : Type 1} → statement M
 rank-set-spec =

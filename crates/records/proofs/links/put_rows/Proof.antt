@@ -61,7 +61,10 @@ returns c =
     let put-row4 = c .before .before .before .before .before .before .before .before .before .before .before .before .put-row4 in
     let put-row5 = c .before .before .before .before .before .before .before .put-row5 in
     let put-row6 = c .before .before .put-row6 in
-    let a = args in let h = pre .0 in first-six (a .t3) (a .faces) (a .bs .now) (a .at) h (first-next _ _ _ _ 5 (lit< tt) h (first-next _ _ _ _ 4 (lit< tt) h (first-next _ _ _ _ 3 (lit< tt) h (first-next _ _ _ _ 2 (lit< tt) h (first-next _ _ _ _ 1 (lit< tt) h (first-next _ _ _ _ 0 (lit< tt) h (first-none _ _ _ _) (put-row .ensures)) (put-row2 .ensures)) (put-row3 .ensures)) (put-row4 .ensures)) (put-row5 .ensures)) (put-row6 .ensures))
+    let a = args in
+    let h = pre .0 in
+    first-six (a .t3) (a .faces) (a .bs .now) (a .at) h
+    (first-next _ _ _ _ 5 (lit< tt) h (first-next _ _ _ _ 4 (lit< tt) h (first-next _ _ _ _ 3 (lit< tt) h (first-next _ _ _ _ 2 (lit< tt) h (first-next _ _ _ _ 1 (lit< tt) h (first-next _ _ _ _ 0 (lit< tt) h (first-none _ _ _ _) (put-row .ensures)) (put-row2 .ensures)) (put-row3 .ensures)) (put-row4 .ensures)) (put-row5 .ensures)) (put-row6 .ensures))
 
 pub put-rows-spec : {M : Type 1} → statement M
 put-rows-spec =

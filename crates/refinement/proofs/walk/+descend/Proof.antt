@@ -100,8 +100,11 @@ descend-loop-again t c =
 descend-returns-2 : (t : ℕ) → descend-lts.Need-returns-2 (descend-claims t) (descend-at t) descend.Post descend-Inv-loop descend-μ-loop
 descend-returns-2 t c =
     let a = c .before .before .before .before .before .before .before .before .args in
-    let bit = c .before .before .before .before .before .before .bit in
-    (others-done (a .shape) (a .s .now) (asWalk (a .w)) _ (a .depth) _ _ (c .before .before .before .before .before .before .before .before .pre .1 .0) (bit .ensures) (c .before .before .before .before .if2 .taken) (c .loop-test .left) (c .before .before .children .ensures) (c .before .loop .inv .0), c .before .loop .inv .1)
+    let bit = c .before .before .before .before .before .before .bit in (
+      others-done (a .shape) (a .s .now) (asWalk (a .w)) _ (a .depth) _ _ (c .before .before .before .before .before .before .before .before .pre .1 .0) (bit .ensures)
+          (c .before .before .before .before .if2 .taken) (c .loop-test .left) (c .before .before .children .ensures) (c .before .loop .inv .0),
+      c .before .loop .inv .1,
+    )
 
 descend-returns-3 : (t : ℕ) → descend-lts.Need-returns-3 (descend-claims t) (descend-at t) descend.Post descend-Inv-loop descend-μ-loop
 descend-returns-3 t c =

@@ -103,8 +103,11 @@ inverted-inverted-requires-3 t c κs =
 inverted-returns-2 : (t : ℕ) → inverted-lts.Need-returns-2 (inverted-claims t) (inverted-at t) inverted.Post
 inverted-returns-2 t c =
     let a = c .before .before .before .before .before .before .before .before .before .args in
-    let bit = c .before .before .before .before .before .before .before .bit in
-    (walk-triangle hanging (a .s .now) (a .w) _ _ _ _ (a .depth) (bit .ensures) (c .before .before .before .before .before .if2 .taken) (c .before .before .before .inverted .ensures .0) (c .before .before .inverted2 .ensures .0) (c .before .upright .ensures .0) (c .inverted3 .ensures .0), c .inverted3 .ensures .1)
+    let bit = c .before .before .before .before .before .before .before .bit in (
+      walk-triangle hanging (a .s .now) (a .w) _ _ _ _ (a .depth) (bit .ensures) (c .before .before .before .before .before .if2 .taken) (c .before .before .before .inverted .ensures .0)
+          (c .before .before .inverted2 .ensures .0) (c .before .upright .ensures .0) (c .inverted3 .ensures .0),
+      c .inverted3 .ensures .1,
+    )
 
 inverted-returns-3 : (t : ℕ) → inverted-lts.Need-returns-3 (inverted-claims t) (inverted-at t) inverted.Post
 inverted-returns-3 t c =
@@ -172,8 +175,11 @@ upright-upright-requires-3 t c κs =
 upright-returns-2 : (t : ℕ) → upright-lts.Need-returns-2 (upright-claims t) (upright-at t) upright.Post
 upright-returns-2 t c =
     let a = c .before .before .before .before .before .before .before .before .before .args in
-    let bit = c .before .before .before .before .before .before .before .bit in
-    (walk-triangle standing (a .s .now) (a .w) _ _ _ _ (a .depth) (bit .ensures) (c .before .before .before .before .before .if2 .taken) (c .before .before .before .upright .ensures .0) (c .before .before .upright2 .ensures .0) (c .before .inverted .ensures .0) (c .upright3 .ensures .0), c .upright3 .ensures .1)
+    let bit = c .before .before .before .before .before .before .before .bit in (
+      walk-triangle standing (a .s .now) (a .w) _ _ _ _ (a .depth) (bit .ensures) (c .before .before .before .before .before .if2 .taken) (c .before .before .before .upright .ensures .0)
+          (c .before .before .upright2 .ensures .0) (c .before .inverted .ensures .0) (c .upright3 .ensures .0),
+      c .upright3 .ensures .1,
+    )
 
 upright-returns-3 : (t : ℕ) → upright-lts.Need-returns-3 (upright-claims t) (upright-at t) upright.Post
 upright-returns-3 t c =

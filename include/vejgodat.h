@@ -61,6 +61,63 @@
  *     4  prism          dimension 3, faces 0 to 2 of 4, 3 and 4 of 3 corners
  *     5  pyramid        dimension 3, faces 0 to 3 of 3, face 4 of 4 corners
  *
+ * The corners of each face, in the order of their places in it: place 0, 1 and
+ * so on.
+ *
+ *                       face 0   face 1   face 2   face 3   face 4   face 5
+ *     0  quadrilateral  0 2      1 3      0 1      2 3
+ *     1  triangle       1 2      0 2      0 1
+ *     2  hexahedron     0 2 4 6  1 3 5 7  0 1 4 5  2 3 6 7  0 1 2 3  4 5 6 7
+ *     3  tetrahedron    1 2 3    0 2 3    0 1 3    0 1 2
+ *     4  prism          1 2 4 5  0 2 3 5  0 1 3 4  0 1 2    3 4 5
+ *     5  pyramid        0 2 4    1 3 4    0 1 4    2 3 4    0 1 2 3
+ *
+ *     quadrilateral              triangle
+ *            f3                                            y
+ *        2-------3                  2                      |
+ *        |       |                  | .                    o-- x
+ *     f0 |       | f1            f1 |   . f0
+ *        |       |                  |     .
+ *        0-------1                  0-------1
+ *            f2                         f2
+ *
+ *     hexahedron                 tetrahedron
+ *          6-------7                    3                  z
+ *         /|      /|                   /|.                 |  y
+ *        4-------5 |                  / | .                | /
+ *        | |     | |                 /  2  .               o-- x
+ *        | 2-----|-3                / .   . .
+ *        |/      |/                0---------1
+ *        0-------1
+ *     faces 0 and 1: low and     face i has all corners
+ *     high on x; 2 and 3: on     but corner i
+ *     y; 4 and 5: on z
+ *
+ *     prism                      pyramid
+ *           5                              4               z
+ *         / | .                          / . . .           |  y
+ *       3-------4                      /   .  .   .        | /
+ *       |   |   |                    /     2----.----3     o-- x
+ *       |   2   |                  /   .         . /
+ *       | .   . |                0----------------1
+ *       0-------1
+ *     faces 0 to 2: upright,     faces 0 and 1: low and
+ *     without corners i and      high on x; 2 and 3: on
+ *     i + 3; 3: low on z;        y; 4: the base
+ *     4: high on z
+ *
+ * In a quadrilateral and a hexahedron bit 0 of a corner's number says whether it
+ * is low or high on x, bit 1 on y, and bit 2 on z: the order of p4est.
+ *
+ * Two faces that meet have the same vertices. Of the two, the first is the one
+ * whose tree has the lower shape number; of equal shapes, the one with the lower
+ * face number; of equal faces, the one of the lower tree. The orientation is the
+ * place, in the other face, of the vertex that is at place 0 of the first. Both
+ * ends of the link carry it. For quadrilaterals and hexahedra it is p4est's.
+ * The library checks only that an orientation is below the number of corners of
+ * the face, and that both ends carry the same. A mesh has no vertices, so no
+ * check finds an orientation that is wrong at both ends.
+ *
  * A face code is the orientation times F plus the neighbour's face, where F is
  * 4 in dimension 2 and 6 in dimension 3. At the domain's boundary a face has
  * its own tree as neighbour, itself as the neighbour's face and orientation 0.

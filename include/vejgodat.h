@@ -757,6 +757,13 @@ vejgodat_length     vejgodat_write_table (uint32_t ranks,
  * ceil (N p / P) up to, but without, ceil (N (p + 1) / P). A tree is on rank
  * p exactly if one of these leaves is in it.
  *
+ * This is not the partition of p4est, which rounds down: there rank p begins
+ * with leaf floor (N p / P), and in general the tables differ. A solver that has
+ * a forest, p4est's or another, takes the table from the forest's own partition:
+ * the first tree and the number of trees of each rank, gathered over all ranks,
+ * through \ref vejgodat_write_table. That is right however the forest rounds,
+ * and after a partition by weights or for coarsening too.
+ *
  * Checks, in this order: \ref VEJGODAT_RANKS (2) if \a ranks isn't within P's
  * limits; \ref VEJGODAT_PARTITION (6) if \a leaves_len isn't within K's limits
  * or a leaf count isn't from 1 to \ref VEJGODAT_MAX_LEAVES;

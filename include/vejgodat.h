@@ -1198,7 +1198,9 @@ vejgodat_part_shape (const uint8_t * part, uint32_t index)
 
 /** What tree or ghost \a index meets at a face: of a tree the local index of a
  * tree or a ghost, its own at the boundary; of a ghost a global number; and
- * \ref VEJGODAT_UNUSED where the shape doesn't have the face. */
+ * \ref VEJGODAT_UNUSED where the shape doesn't have the face. A tree may also
+ * meet itself elsewhere than at the boundary, at another face, so ask
+ * \ref vejgodat_part_kind and don't compare with \a index. */
 static inline uint32_t
 vejgodat_part_neighbour (const uint8_t * part, uint32_t index, uint32_t face)
 {
@@ -1221,6 +1223,28 @@ vejgodat_part_orientation (const uint8_t * part, uint32_t index,
 {
   return part[vejgodat_part_place (part, index) + 32 + face]
     / (vejgodat_part_dimension (part) == 2 ? 4u : 6u);
+}
+
+/** What is across a face of tree \a index, below n: \ref VEJGODAT_KIND_BOUNDARY
+ * (0) or one of the names that follow it, as \ref vejgodat_neighbour_of gives
+ * it. For every face below 6 the exact test is, in this order:
+ *
+ *  - unused (1) if the neighbour is \ref VEJGODAT_UNUSED;
+ *  - boundary (0) if the neighbour is \a index and the face code is \a face;
+ *  - a tree of the part (2) if the neighbour is below n, \a index included: on a
+ *    periodic axis of extent 1 a tree meets itself at its opposite face;
+ *  - a ghost (3) else. */
+static inline uint32_t
+vejgodat_part_kind (const uint8_t * part, uint32_t index, uint32_t face)
+{
+  const uint32_t      neighbour = vejgodat_part_neighbour (part, index, face);
+
+  return neighbour == VEJGODAT_UNUSED ? VEJGODAT_KIND_UNUSED
+    : neighbour == index
+    && part[vejgodat_part_place (part, index) + 32 + face] == face
+    ? VEJGODAT_KIND_BOUNDARY
+    : neighbour < vejgodat_part_trees (part) ? VEJGODAT_KIND_LOCAL
+    : VEJGODAT_KIND_GHOST;
 }
 
 /** The 24 bytes of data of tree \a index, below n: ghosts have none. */

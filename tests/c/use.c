@@ -380,6 +380,41 @@ bricks (void)
   EXPECT (answer.refusal == VEJGODAT_EXTENT && answer.length == 0);
 }
 
+/* A row of three hexahedra, its other axes periodic with extent 1, on two ranks: of what kind each face is, by the
+ * reader and by the checked call. A tree that meets itself at the opposite face isn't at the boundary. */
+static void
+kinds (void)
+{
+  static const int64_t entries[3] = { 0, 2, 3 };
+  static const uint32_t expected[3][6] = {
+    {0, 2, 2, 2, 2, 2}, {2, 3, 2, 2, 2, 2}, {3, 0, 2, 2, 2, 2}
+  };
+  uint8_t             mesh[VEJGODAT_MESH_BYTES (3)], table[24];
+  uint8_t             part[VEJGODAT_PART_BYTES (3, 0)];
+  vejgodat_length     answer;
+  vejgodat_neighbour  there;
+  uint32_t            rank, i, face;
+
+  put_table (table, 2, entries);
+  answer = vejgodat_write_brick (3, 1, 1, 0, 1, 1, mesh, sizeof mesh);
+  EXPECT (answer.refusal == VEJGODAT_OK);
+  for (rank = 0; rank < 2; ++rank) {
+    answer = vejgodat_cut_part (mesh, sizeof mesh, table, sizeof table, rank,
+                                part, sizeof part);
+    EXPECT (answer.refusal == VEJGODAT_OK);
+    for (i = 0; i < vejgodat_part_trees (part); ++i) {
+      for (face = 0; face < 6; ++face) {
+        there = vejgodat_neighbour_of (part, (size_t) answer.length, table,
+                                       sizeof table, rank, i, face);
+        EXPECT (there.refusal == VEJGODAT_OK);
+        EXPECT (vejgodat_part_kind (part, i, face) == there.kind);
+        EXPECT (there.kind == expected[vejgodat_part_number (part, i)][face]);
+        EXPECT (face < 2 || vejgodat_part_neighbour (part, i, face) == i);
+      }
+    }
+  }
+}
+
 static int
 is_neighbour (vejgodat_neighbour got, uint32_t kind, uint32_t index,
               uint32_t face)
@@ -472,6 +507,11 @@ parts (void)
     for (i = 0; i < 4; ++i) {
       EXPECT (vejgodat_part_orientation (part, k, (uint32_t) i) == 0);
     }
+  }
+  for (i = 0; i < 6; ++i) {
+    there = vejgodat_neighbour_of (part, part_len, table, 32, 1, 1,
+                                   (uint32_t) i);
+    EXPECT (vejgodat_part_kind (part, 1, (uint32_t) i) == there.kind);
   }
   EXPECT (vejgodat_part_data (part, 1)[23] == 0xa1);
 
@@ -1161,6 +1201,7 @@ main (void)
   corners ();
   check_mesh ();
   bricks ();
+  kinds ();
   parts ();
   messages ();
   areas ();

@@ -322,6 +322,7 @@ readers_agree (generator * g, const mesh_part * part, const uint8_t * table,
         || there.shape != vejgodat_part_shape (part->bytes, i)
         || (there.kind == VEJGODAT_KIND_UNUSED ? VEJGODAT_UNUSED
             : there.index) != vejgodat_part_neighbour (part->bytes, i, face)
+        || there.kind != vejgodat_part_kind (part->bytes, i, face)
         || there.face != vejgodat_part_face (part->bytes, i, face)
         || there.orientation
         != vejgodat_part_orientation (part->bytes, i, face)

@@ -21,7 +21,14 @@
  * An offset table O is P + 1 signed 64-bit entries, little-endian, 8 (P + 1)
  * bytes in all, at any address. P is read from its length, and K is O[P]. On a
  * little-endian machine these are the bytes of an `int64_t[P + 1]`, which may
- * be given as `(const uint8_t *) O`.
+ * be given as `(const uint8_t *) O`. Since P is read from the length, a table
+ * that is given one entry short is taken for one of P - 1 ranks, whose K is the
+ * entry that is then the last. It may be valid as such, as {0,2,4,6} of
+ * {0,2,4,6,8} is.
+ *
+ * All ranks give the same tables to the calls of one move. Where they don't,
+ * a rank waits for messages that nobody sends, or a message is refused with 14
+ * or 16. So make a table on one rank and broadcast it.
  *
  *  - First tree of rank p: O[p] if O[p] >= 0, else -O[p] - 1. A negative entry
  *    says that this tree is shared with the nearest lower rank that has trees.
@@ -401,10 +408,9 @@ extern "C" {
 enum
 {
   VEJGODAT_OK = 0,              /**< Accepted. */
-  VEJGODAT_RANKS = 2,           /**< A table, or a rank count for making one,
-                                     is outside P's limits. A table is so if
-                                     its length isn't 8 (P + 1) bytes for a P
-                                     from 1 to 16,384. */
+  VEJGODAT_RANKS = 2,           /**< A rank count isn't within P's limits, 1
+                                     to 16,384, or a table's length isn't
+                                     8 (P + 1) bytes for such a P. */
   VEJGODAT_TABLE = 3,           /**< A table isn't valid. */
   VEJGODAT_DIFFER = 4,          /**< Old and new table differ in P or K. */
   VEJGODAT_INDEX = 5,           /**< A rank is >= P, a tree >= K, a local index
@@ -479,8 +485,8 @@ vejgodat_refusal_text (uint32_t refusal)
   case 1:
     return "the text of a plan has another form";
   case VEJGODAT_RANKS:
-    return "a table, or a rank count for making one, is outside the limits of"
-      " P (1 to 16,384)";
+    return "a rank count, or that of a table's length (8 (P + 1) bytes), isn't"
+      " from 1 to 16,384";
   case VEJGODAT_TABLE:
     return "a table isn't valid";
   case VEJGODAT_DIFFER:

@@ -72,6 +72,7 @@ check_table (void)
   static const int64_t refused[4][4] =
     { {0, 0}, {-1, 1}, {0, 4, 3, 5}, {0, -4, -3, 5} };
   static const int    refused_ranks[4] = { 1, 1, 3, 3 };
+  static const int64_t shortened[4] = { 0, 2, 4, 6 };
   uint8_t             table[32];
   size_t              length;
   int                 i;
@@ -86,6 +87,11 @@ check_table (void)
   }
   EXPECT (vejgodat_check_table (table, 31) == VEJGODAT_RANKS);
   EXPECT (vejgodat_check_table (NULL, 0) == VEJGODAT_RANKS);
+  /* one entry short, it is a table of one rank less */
+  put_table (table, 3, shortened);
+  EXPECT (vejgodat_check_table (table, 32) == VEJGODAT_OK);
+  EXPECT (vejgodat_check_table (table, 24) == VEJGODAT_OK);
+  EXPECT (vejgodat_table_range (table, 24, 2).refusal == VEJGODAT_INDEX);
 }
 
 static void

@@ -1737,6 +1737,10 @@ uint32_t            vejgodat_region_counts (const uint8_t * part,
  * calls say where. The answer is the first fault: the least rank, tree or
  * record at which something is wrong, and of what is wrong there the first.
  * Nothing before it is wrong. Mend it and ask again.
+ *
+ * An object is sound only if \a refusal and \a fault are both 0. A call that
+ * refuses has looked at nothing, and \a fault is 0 as every field then is: a
+ * rank that isn't below P gets refusal 5, fault 0 and kind 0, "no fault".
  * @{
  */
 
@@ -1848,7 +1852,9 @@ typedef struct
 {
   uint32_t            refusal;  /**< 0, or why the call declined. */
   uint32_t            fault;    /**< 0 for a sound object, else what its check
-                                     refuses it with: 3, 7 or 8. */
+                                     refuses it with: 3, 7 or 8. Also 0 where
+                                     the call declined: the object is sound
+                                     only if \a refusal is 0 too. */
   uint32_t            kind;     /**< What is wrong: \ref VEJGODAT_FAULT_FIRST or
                                      one of the names that follow it; 0 exactly
                                      where \a fault is. */

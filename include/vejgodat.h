@@ -322,9 +322,10 @@
  *  - A count of uint8_t is a number of bytes, one of uint32_t a number of
  *    entries and not of bytes. Lists of uint32_t are aligned as uint32_t;
  *    everything that is bytes may be at any address.
- *  - A buffer that a call writes overlaps no other buffer of that call. Those
- *    that it only reads may overlap: the same table may be given as old and as
- *    new.
+ *  - A buffer that a call writes overlaps no other buffer of that call. Where
+ *    it does, the call writes garbage and gives no refusal: no part can be cut
+ *    into its mesh, and none turned into columns in its place. Buffers that a
+ *    call only reads may overlap: the same table may be given as old and as new.
  *  - Nobody else writes a buffer of a call while the call runs.
  *  - The thread has stack left. A call that cuts or checks a part, stored by
  *    columns too, or closes an area takes sets of trees there, of 208 KiB at most,
@@ -336,6 +337,9 @@
  *    \ref vejgodat_import_triangle take more, 1.75 MiB whatever the file is;
  *    \ref VEJGODAT_IMPORT_STACK_BYTES are enough for them. No call can see
  *    this: too little stack breaks the program.
+ *  - Tree data are the caller's and may be anything, so no check can see that a
+ *    byte of them has changed, in a file, in memory or on the way to another
+ *    rank. Where that matters, keep a checksum in them.
  */
 #ifndef VEJGODAT_H
 #define VEJGODAT_H
@@ -1028,7 +1032,9 @@ vejgodat_length     vejgodat_part_length (const uint8_t * mesh,
 /** Cut a rank's part out of a mesh.
  *
  * Links are renamed to local indices; every other byte of a record is copied,
- * tree data included. The part is sound for the table and the rank.
+ * tree data included. The part is sound for the table and the rank. \a out must
+ * not overlap \a mesh or \a table: no call can see that, and what it writes
+ * would be garbage, without a refusal.
  *
  * Checks, in this order: 2, 3, 5 and 7 as \ref vejgodat_part_length;
  * \ref VEJGODAT_BUFFER (22) if \a out_len is below the length of the part. A
@@ -1947,6 +1953,10 @@ vejgodat_fault      vejgodat_part_fault (const uint8_t * part,
 
 /** Write a part by columns.
  *
+ * \a out must not overlap \a part or \a table, so a part isn't turned in its
+ * own place: no call can see that, and what it writes would be garbage, without
+ * a refusal.
+ *
  * Checks, in this order: those of \ref vejgodat_check_table (2, 3);
  * \ref VEJGODAT_INDEX (5) if \a rank is not below P; \ref VEJGODAT_PART (8) if
  * the part isn't sound; \ref VEJGODAT_BUFFER (22) if \a out_len is below
@@ -1973,6 +1983,9 @@ vejgodat_length     vejgodat_part_to_columns (const uint8_t * part,
   VEJGODAT_USE_RESULT;
 
 /** Write the part of a column file.
+ *
+ * \a out must not overlap \a columns or \a table, as for
+ * \ref vejgodat_part_to_columns.
  *
  * Checks, in this order: those of \ref vejgodat_check_table (2, 3);
  * \ref VEJGODAT_INDEX (5) if \a rank is not below P; \ref VEJGODAT_COLUMNS

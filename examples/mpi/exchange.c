@@ -1,5 +1,6 @@
 #include "exchange.h"
 
+#include <assert.h>
 #include <stdio.h>
 #include <stdlib.h>
 #include <string.h>
@@ -35,8 +36,7 @@ must_be_sound (vejgodat_fault fault, const char *name, const char *place)
   }
 }
 
-/* malloc that ends the run instead of failing */
-static void        *
+void               *
 room (size_t bytes)
 {
   void               *at = malloc (bytes > 0 ? bytes : 1);
@@ -46,6 +46,63 @@ room (size_t bytes)
     MPI_Abort (MPI_COMM_WORLD, 1);
   }
   return at;
+}
+
+int
+apart (const void *a, size_t a_len, const void *b, size_t b_len)
+{
+  const uintptr_t     x = (uintptr_t) a, y = (uintptr_t) b;
+
+  return a_len == 0 || b_len == 0
+    || (x < y ? a_len <= y - x : b_len <= x - y);
+}
+
+/* FNV-1a */
+static uint64_t
+mix (uint64_t digest, const uint8_t * bytes, size_t length)
+{
+  while (length-- > 0) {
+    digest = (digest ^ *bytes++) * UINT64_C (0x100000001b3);
+  }
+  return digest;
+}
+
+/* End the run, on all ranks, unless all have the same tables, and so P and K, and the same epoch, and P is the number of
+ * ranks of comm. Tables that differ would let a rank wait for messages that nobody sends. */
+static void
+must_agree (MPI_Comm comm, uint32_t epoch, const uint8_t * old_table,
+            const uint8_t * new_table, size_t table_len)
+{
+  const uint64_t      numbers[2] = { epoch, table_len };
+  uint64_t            digest, mine[2], most[2];
+  const char         *why = NULL;
+  int                 size, rank;
+
+  MPI_Comm_size (comm, &size);
+  MPI_Comm_rank (comm, &rank);
+  digest = mix (UINT64_C (0xcbf29ce484222325), (const uint8_t *) numbers,
+                sizeof numbers);
+  digest = mix (digest, old_table, table_len);
+  digest = mix (digest, new_table, table_len);
+  /* all are equal where the largest is the least, whose complement is the largest of the complements */
+  mine[0] = digest;
+  mine[1] = ~digest;
+  MPI_Allreduce (mine, most, 2, MPI_UINT64_T, MPI_MAX, comm);
+  if (most[0] != ~most[1]) {
+    why = "the ranks have different tables or epochs: make them on one rank"
+      " and broadcast them";
+  }
+  else if (table_len != VEJGODAT_TABLE_BYTES (size)) {
+    why = "the tables aren't for as many ranks as the communicator has";
+  }
+  if (why != NULL) {
+    if (rank == 0) {
+      fprintf (stderr, "exchange: %s\n", why);
+      MPI_Abort (comm, 1);
+    }
+    /* the others wait here until rank 0 has ended them */
+    MPI_Barrier (comm);
+  }
 }
 
 /* what a rank works with from one table to the next */
@@ -92,6 +149,7 @@ send_all (move * it, uint32_t epoch, const mesh_part * part)
                                     it->table_len, it->me);
   must (many.refusal, "vejgodat_build_all_length");
   it->out = room ((size_t) many.length);
+  assert (apart (it->out, (size_t) many.length, part->bytes, part->length));
   many = vejgodat_build_all (part->bytes, part->length, it->old_table,
                              it->table_len, it->new_table, it->table_len,
                              it->me, epoch, it->out, (size_t) many.length);
@@ -197,6 +255,7 @@ close_area (move * it, mesh_part * part)
   must (length.refusal, "vejgodat_part_of_area_length");
   part->length = (size_t) length.length;
   part->bytes = room (part->length);
+  assert (apart (part->bytes, part->length, it->area, it->area_len));
   length = vejgodat_close_area (it->area, it->area_len, part->bytes,
                                 part->length);
   must (length.refusal, "vejgodat_close_area");
@@ -219,8 +278,10 @@ exchange_by (void (*take) (move *), MPI_Comm comm, uint32_t epoch,
   it.old_table = old_table;
   it.new_table = new_table;
   it.table_len = table_len;
-  open_area (&it, epoch, vejgodat_part_dimension (part->bytes));
+  must_agree (comm, epoch, old_table, new_table, table_len);
+  /* what is built from is sound, so its dimension may be read */
   send_all (&it, epoch, part);
+  open_area (&it, epoch, vejgodat_part_dimension (part->bytes));
   count_due (&it, size);
   take (&it);
   close_area (&it, part);

@@ -20,9 +20,17 @@ void                must (uint32_t refusal, const char *call);
 void                must_be_sound (vejgodat_fault fault, const char *name,
                                    const char *place);
 
+/* malloc that ends the run instead of failing */
+void               *room (size_t bytes);
+
+/* Whether two buffers have no byte in common. No call can see that what it writes overlaps what it reads. */
+int                 apart (const void *a, size_t a_len, const void *b,
+                           size_t b_len);
+
 /* Collective over comm, which has as many ranks as the tables. Each rank gives its part under the old table, and then
- * has that under the new one. All ranks give the same tables of table_len bytes and the same epoch, one higher in each
- * call. All messages of a rank are built, and all that it gets delivered, under one check. */
+ * has that under the new one. All ranks give the same tables of table_len bytes, made on one rank and broadcast, and the
+ * same epoch, one higher in each call; where they differ the run ends, and says so. All messages of a rank are built, and
+ * all that it gets delivered, under one check. */
 void                exchange (MPI_Comm comm, uint32_t epoch,
                               const uint8_t * old_table,
                               const uint8_t * new_table, size_t table_len,

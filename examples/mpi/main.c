@@ -4,6 +4,7 @@
  * each step moves the parts to the table of the new leaf counts. */
 #include "exchange.h"
 
+#include <assert.h>
 #include <stdio.h>
 #include <stdlib.h>
 #include <string.h>
@@ -49,19 +50,26 @@ make_box (uint8_t * mesh)
 }
 
 /* The table for a step's leaf counts: one layer of trees is refined. A solver counts the leaves that it has of each tree
- * and adds the counts over all ranks. */
+ * and adds the counts over all ranks; one whose forest is partitioned already writes that partition's table instead, as
+ * table_of in ../p4est/forest.c. One rank makes the table for all. */
 static void
 make_table (int step, int ranks, uint8_t * table)
 {
   static uint32_t     leaves[TREES];
   uint32_t            k;
+  int                 rank;
 
-  for (k = 0; k < TREES; ++k) {
-    leaves[k] = (int) (k / (SIDE * SIDE)) == step ? 64 : 1;
+  MPI_Comm_rank (MPI_COMM_WORLD, &rank);
+  if (rank == 0) {
+    for (k = 0; k < TREES; ++k) {
+      leaves[k] = (int) (k / (SIDE * SIDE)) == step ? 64 : 1;
+    }
+    must (vejgodat_table_from_leaves ((uint32_t) ranks, leaves, TREES, table,
+                                      VEJGODAT_TABLE_BYTES (ranks)).refusal,
+          "vejgodat_table_from_leaves");
   }
-  must (vejgodat_table_from_leaves ((uint32_t) ranks, leaves, TREES, table,
-                                    VEJGODAT_TABLE_BYTES (ranks)).refusal,
-        "vejgodat_table_from_leaves");
+  MPI_Bcast (table, (int) VEJGODAT_TABLE_BYTES (ranks), MPI_BYTE, 0,
+             MPI_COMM_WORLD);
 }
 
 int
@@ -78,9 +86,9 @@ main (int argc, char **argv)
   MPI_Comm_size (MPI_COMM_WORLD, &ranks);
   MPI_Comm_rank (MPI_COMM_WORLD, &rank);
   table_len = VEJGODAT_TABLE_BYTES (ranks);
-  old_table = malloc (table_len);
-  new_table = malloc (table_len);
-  mesh = malloc (VEJGODAT_MESH_BYTES (TREES));
+  old_table = room (table_len);
+  new_table = room (table_len);
+  mesh = room (VEJGODAT_MESH_BYTES (TREES));
 
   make_box (mesh);
   must_be_sound (vejgodat_mesh_fault (mesh, VEJGODAT_MESH_BYTES (TREES)),
@@ -90,7 +98,8 @@ main (int argc, char **argv)
                                  old_table, table_len, (uint32_t) rank);
   must (length.refusal, "vejgodat_part_length");
   part.length = (size_t) length.length;
-  part.bytes = malloc (part.length);
+  part.bytes = room (part.length);
+  assert (apart (part.bytes, part.length, mesh, VEJGODAT_MESH_BYTES (TREES)));
   length = vejgodat_cut_part (mesh, VEJGODAT_MESH_BYTES (TREES), old_table,
                               table_len, (uint32_t) rank, part.bytes,
                               part.length);

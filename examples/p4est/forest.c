@@ -1,8 +1,10 @@
 /* From p4est to Vejgodat and back, in dimension 2, and in dimension 3 with -DFOREST_3D:
  *
  *  - mesh_of: a connectivity becomes the bytes of a whole mesh;
- *  - leaves_of, and vejgodat_table_from_leaves: a forest's leaf counts become a table;
- *  - table_of: a forest's own partition becomes a table.
+ *  - table_of: a forest's own partition becomes a table, through vejgodat_write_table, which is right however the forest
+ *    rounds;
+ *  - leaves_of, and vejgodat_table_from_leaves: a forest's leaf counts become a table, in general another one than that
+ *    of p4est's partition, see cut_down.
  *
  * In dimension 3, p4est's bricks with their trees renumbered by position are those of vejgodat_write_brick.
  *
@@ -18,6 +20,7 @@
 #endif
 #include "../mpi/exchange.h"
 
+#include <assert.h>
 #include <stdio.h>
 #include <stdlib.h>
 #include <string.h>
@@ -84,7 +87,7 @@ static void
 table_of (p4est_t * forest, uint8_t * table)
 {
   const uint32_t      ranks = (uint32_t) forest->mpisize;
-  uint32_t           *first = malloc (2 * ranks * sizeof *first);
+  uint32_t           *first = room (2 * ranks * sizeof *first);
   uint32_t            mine[2];
 
   /* an empty rank has the trees from -1 to -2 */
@@ -121,7 +124,7 @@ table_by_formula (int64_t (*cut) (int64_t, int, int), const uint32_t * leaves,
                   uint32_t trees, int ranks, uint8_t * table)
 {
   const size_t        P = (size_t) ranks;
-  uint32_t           *first = malloc (2 * P * sizeof *first), k = 0;
+  uint32_t           *first = room (2 * P * sizeof *first), k = 0;
   int64_t             total = 0, before = 0, begin, end;
   int                 p;
 
@@ -169,8 +172,8 @@ run (const char *name, p4est_connectivity_t * conn, uint32_t steps)
 {
   const uint32_t      trees = (uint32_t) conn->num_trees;
   const size_t        mesh_len = VEJGODAT_MESH_BYTES (trees);
-  uint8_t            *mesh = malloc (mesh_len), *tables[4], *cut;
-  uint32_t           *leaves = malloc (trees * sizeof *leaves), step = 0, i;
+  uint8_t            *mesh = room (mesh_len), *tables[4], *cut;
+  uint32_t           *leaves = room (trees * sizeof *leaves), step = 0, i;
   uint32_t            rank;
   size_t              table_len;
   vejgodat_length     length;
@@ -185,12 +188,13 @@ run (const char *name, p4est_connectivity_t * conn, uint32_t steps)
   rank = (uint32_t) forest->mpirank;
   table_len = VEJGODAT_TABLE_BYTES (ranks);
   for (i = 0; i < 4; ++i) {
-    tables[i] = malloc (table_len);
+    tables[i] = room (table_len);
   }
 
   table_of (forest, tables[0]);
-  part.bytes = malloc (VEJGODAT_PART_BYTES (trees, 0));
-  cut = malloc (VEJGODAT_PART_BYTES (trees, 0));
+  part.bytes = room (VEJGODAT_PART_BYTES (trees, 0));
+  cut = room (VEJGODAT_PART_BYTES (trees, 0));
+  assert (apart (part.bytes, VEJGODAT_PART_BYTES (trees, 0), mesh, mesh_len));
   length = vejgodat_cut_part (mesh, mesh_len, tables[0], table_len, rank,
                               part.bytes, VEJGODAT_PART_BYTES (trees, 0));
   must (length.refusal, "vejgodat_cut_part");
@@ -252,9 +256,9 @@ brick_differs (const int extents[3], const int periodic[3])
                                   periodic[0], periodic[1], periodic[2]);
   const uint32_t      trees = (uint32_t) conn->num_trees;
   const size_t        mesh_len = VEJGODAT_MESH_BYTES (trees);
-  uint8_t            *mesh = malloc (mesh_len), *theirs = malloc (mesh_len);
-  uint8_t            *ours = malloc (mesh_len), *record;
-  uint32_t           *number = malloc (trees * sizeof *number), k, face;
+  uint8_t            *mesh = room (mesh_len), *theirs = room (mesh_len);
+  uint8_t            *ours = room (mesh_len), *record;
+  uint32_t           *number = room (trees * sizeof *number), k, face;
   const double       *corner;
   int                 differs;
 

@@ -1,4 +1,4 @@
-# make: the archive, proved and built by rt. make install PREFIX=/where: header, archive and a pkg-config file.
+# make: the archive, proved and built by rt (tools/prove shows how far it is). make install PREFIX=/where: header, archive and a pkg-config file.
 PREFIX = /usr/local
 INSTALL = install
 
@@ -11,7 +11,7 @@ notice := $(wildcard LICENSE LICENCE COPYING NOTICE)
 all: $(archive)
 
 $(archive): $(sources)
-	rt staticlib vejgodat
+	@tools/prove staticlib vejgodat
 	@touch $@
 
 target/vejgodat.pc: include/vejgodat.h Makefile FORCE

@@ -90,7 +90,7 @@ module _ (a : List ℕ) where
   treeSlotSound i =
       cond (dueHeard i) (inForm (areaFirst + i) (treeSlotCore i) && eqb (numberOf (treeSlotCore i)) (areaFirst + i)) (allZero (treeSlot i))
 
-  -- how many tree slots are filled: those of trees due from heard senders
+  -- document 02, C-18: how many tree slots are filled, those of trees due from heard senders
   unfoldable pub filledSlots : ℕ
   filledSlots = countBelow areaCount dueHeard
 

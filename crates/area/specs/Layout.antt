@@ -14,7 +14,7 @@ use Rattle.records.specs.Record.{coreSize, treeSize}
 abbrev pub areaHeader : ℕ
 areaHeader = 32
 
--- how many words of 64 bits hold the heard senders of P ranks: 16 up to 1,024 ranks, 256 above
+-- document 02, C-17: how many words of 64 bits hold the heard senders of P ranks, 16 up to 1,024 ranks, 256 above
 unfoldable pub heardWords : ℕ → ℕ
 heardWords P = cond (leb P 1024) 16 256
 

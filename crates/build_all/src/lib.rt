@@ -13,7 +13,7 @@ pub struct Messages {
     pub length: u64,
 }
 
-// How many messages the sender has for others, and how long they are together (2, 3, 4, 5, 8).
+// How many messages the sender has, one to itself among them where it keeps trees, and how long they are together (2, 3, 4, 5, 8).
 pub fn build_all_length(part: &[u8], old: &[u8], new: &[u8], sender: u32) -> Messages
     ensures { λ r. ⌜ r ≡ buildAllLengthOf (now (part .entry)) (now (old .entry)) (now (new .entry)) sender ⌝ }
 {

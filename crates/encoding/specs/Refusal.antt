@@ -3,7 +3,7 @@ use Prim.Native.Nat.{ℕ}
 use mathlib.Core.Bool.{Bool, cond}
 use mathlib.Core.List.{List, [], _∷_}
 
--- a check of document 01's list: whether it passes, over all inputs of the call, and its number there
+-- a check of document 01's list, in which document 02's requests have their numbers at the places that they name: whether it passes, over all inputs of the call, and its number there
 pub record Check : Type 0 where
   pub passes : Bool
   pub number : ℕ

@@ -23,7 +23,7 @@ leafStart ls k = sumBelow k (λ i. getD ls i 0)
 unfoldable pub leafTotal : List ℕ → ℕ
 leafTotal ls = leafStart ls (length ls)
 
--- where a rank's leaves begin: the share v of w of n leaves, rounded up
+-- where a rank's leaves begin: the share v of w of n leaves, rounded up (document 02, C-15)
 unfoldable pub cut : ℕ → ℕ → ℕ → ℕ
 cut n v w = (n * v + (w - 1)) / w
 
@@ -40,7 +40,7 @@ module _ (ls : List ℕ) (bound : ℕ → ℕ) where
   unfoldable pub leafCount : ℕ → ℕ
   leafCount p = countBelow (length ls) (leafHolds p)
 
--- rank p of P gets leaves ceil(N × p / P) up to, but without, ceil(N × (p + 1) / P)
+-- document 02, C-15: rank p of P gets leaves ceil(N × p / P) up to, but without, ceil(N × (p + 1) / P)
 unfoldable pub equalShares : ℕ → List ℕ → ℕ → ℕ
 equalShares P ls p = cut (leafTotal ls) p P
 

@@ -10,11 +10,11 @@ use Rattle.encoding.specs.Pieces.{piece}
 use Rattle.records.specs.Record.{coreSize, treeSize}
 use Rattle.lookup.specs.declared.Found.{Found}
 
--- record i of the slice has the number; a tail shorter than a record isn't read
+-- record i of the slice has the number
 unfoldable pub hasNumber : ℕ → List ℕ → ℕ → ℕ → Bool
 hasNumber size bs number i = eqb (u32At bs (size * i)) number
 
--- some record has it
+-- some record has it; a tail shorter than a record isn't read
 unfoldable pub found : ℕ → List ℕ → ℕ → Bool
 found size bs number = anyBelow (length bs / size) (hasNumber size bs number)
 

@@ -1,4 +1,4 @@
--- How many ranks and trees there may be.
+-- How many ranks and trees there may be: ranks as document 02, C-17, trees as document 01 has it.
 use Prim.Native.Nat.{ℕ}
 use mathlib.Core.Bool.{Bool, _&&_}
 use lib.Dec.{leb}

@@ -1,4 +1,4 @@
--- f is the partition of the old table, f' that of the new one: who sends tree k to rank q.
+-- f is the partition of the old table, f' that of the new one: who sends tree k to rank q, by the rule of document 02, C-21, in the place of document 01's smallest rank.
 use Prim.Native.Nat.{ℕ, _+_, _-_}
 use mathlib.Core.Path.{_≡_}
 use mathlib.Core.Bool.{Bool, true, cond, not, _&&_, _||_}
@@ -30,7 +30,7 @@ distance p q = (p - q) + (q - p)
 unfoldable pub nearest : List ℕ → ℕ → ℕ → ℕ → Bool
 nearest old k q p = holds old p k && allBelow (ranks old) (λ r. not (holds old r k) || leb (distance p q) (distance r q))
 
--- for k in f'(q), the sender of k to q: the rank with k in f whose number differs least from q, the lower of two; so q if k is in f(q)
+-- C-21: for k in f'(q), the sender of k to q is the rank with k in f whose number differs least from q, the lower of two; so q if k is in f(q)
 unfoldable pub sender : List ℕ → ℕ → ℕ → ℕ
 sender old k q = leastBelow (ranks old) (nearest old k q)
 

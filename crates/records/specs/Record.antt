@@ -48,7 +48,7 @@ faceOf r f = codeOf r f % facesOf r
 unfoldable pub orientationOf : List ℕ → ℕ → ℕ
 orientationOf r f = codeOf r f / facesOf r
 
--- the region, a number of two bytes; 0 for none
+-- document 02, C-22: the region, a number of two bytes; 0 for none
 unfoldable pub regionOf : List ℕ → ℕ
 regionOf r = leAt 2 r 38
 

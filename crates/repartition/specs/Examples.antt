@@ -1,4 +1,4 @@
--- Document 01's examples, on the values in the calls' contracts.
+-- The examples of document 01, and of document 02 where it changes one, on the values in the calls' contracts.
 use Prim.Native.Nat.{ℕ, zero, suc, _+_, _-_, _*_, _^_, _≤_}
 use mathlib.Core.Path.{_≡_}
 use mathlib.Core.List.{List, [], _∷_, _++_, map}
@@ -126,7 +126,7 @@ pub record Examples : Type 0 where
   pub shared-2 : tableRange sharedTable 2 ≡ rangeAnswer 0 2 3
   -- its ranges written again; the first of the empty rank isn't read
   pub shared-written : writeTable 3 (0 ∷ 77 ∷ 2 ∷ []) (3 ∷ 0 ∷ 3 ∷ []) (replicate 40 9) ≡ accepted sharedTable (replicate 8 9)
-  -- leaf counts 4,4 and 1,1 on three ranks
+  -- leaf counts on three ranks: 4,4 as document 01 and 1,1 as document 02, C-15, has it
   pub leaves-4-4 : tableFromLeaves 3 (4 ∷ 4 ∷ []) (replicate 32 9) ≡ accepted (tableBytes (0 ∷ minus 1 ∷ minus 2 ∷ 2 ∷ [])) []
   pub leaves-1-1 : tableFromLeaves 3 (1 ∷ 1 ∷ []) (replicate 32 9) ≡ accepted (tableBytes (0 ∷ 1 ∷ 2 ∷ 2 ∷ [])) []
   -- the meshes are sound; the solids aren't where the prism's orientation differs from the tetrahedron's

@@ -1,4 +1,4 @@
--- The words of heard senders: how many there are, and that equal words mean equal sets, whatever their number.
+-- Document 02, C-17: the words of heard senders, how many there are, and that equal words mean equal sets, whatever their number.
 use Prim.Native.Nat.{ℕ, _*_, _≤_, _<_}
 use mathlib.Core.Bool.{Bool, true}
 use mathlib.Core.Path.{_≡_}

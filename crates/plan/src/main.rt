@@ -1,4 +1,5 @@
 // Reads two offset tables from standard input and writes who sends which trees to whom. The whole output, refusals included, is that of plan_text::plan_output.
+use encoding::answer::Length;
 use libc::STDIN_FILENO;
 use libc::STDOUT_FILENO;
 ghost use mathlib.Core.Path.{_≡_};
@@ -20,7 +21,7 @@ fn output_buffer() -> [u8; 131072]
 
 // The whole output for a text, written to standard output.
 fn answer(text: &[u8], out: &mut [u8]) {
-    let l = plan_text::plan_output(text, out);
+    let l: Length = plan_text::plan_output(text, out);
     let n = l.length;
     if n <= out.len() as u64 {
         let end = n as usize;

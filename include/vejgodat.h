@@ -379,6 +379,18 @@ extern "C" {
 /** The neighbour at a face that the shape doesn't have. */
 #define VEJGODAT_UNUSED 4294967295u
 
+/** The shapes of trees; their faces and corners are above, under Whole
+ * meshes. */
+enum
+{
+  VEJGODAT_QUADRILATERAL = 0,   /**< Dimension 2, 4 faces. */
+  VEJGODAT_TRIANGLE = 1,        /**< Dimension 2, 3 faces. */
+  VEJGODAT_HEXAHEDRON = 2,      /**< Dimension 3, 6 faces. */
+  VEJGODAT_TETRAHEDRON = 3,     /**< Dimension 3, 4 faces. */
+  VEJGODAT_PRISM = 4,           /**< Dimension 3, 5 faces. */
+  VEJGODAT_PYRAMID = 5          /**< Dimension 3, 5 faces. */
+};
+
 /** Bytes of stack that are enough for any call but those that read an element
  * file. */
 #define VEJGODAT_STACK_BYTES 360448
@@ -1143,8 +1155,8 @@ vejgodat_found      vejgodat_lookup (const uint8_t * trees, size_t trees_len,
  * face. With n trees and g ghosts, an index below n is a tree, n + j is ghost j,
  * and a face is below 4 in dimension 2 and below 6 in dimension 3.
  *
- * The tree data of a part may be written at any time, 24 bytes from
- * \ref vejgodat_part_place + 40 on; the part stays sound. A tree on several
+ * The tree data of a part may be written at any time, at
+ * \ref vejgodat_part_writable_data; the part stays sound. A tree on several
  * ranks has its data on each of them, and a message takes its sender's.
  * @{ */
 
@@ -1156,11 +1168,59 @@ vejgodat_number_at (const uint8_t * bytes)
     | (uint32_t) bytes[2] << 16 | (uint32_t) bytes[3] << 24;
 }
 
+/** Write four little-endian bytes at any address. */
+static inline void
+vejgodat_put_number (uint8_t * bytes, uint32_t number)
+{
+  bytes[0] = (uint8_t) (number & 255);
+  bytes[1] = (uint8_t) (number >> 8 & 255);
+  bytes[2] = (uint8_t) (number >> 16 & 255);
+  bytes[3] = (uint8_t) (number >> 24);
+}
+
+/** Read the region of a record, be it one of a mesh, a part or a message: the
+ * two bytes at 38. */
+static inline uint32_t
+vejgodat_region_at (const uint8_t * record)
+{
+  return (uint32_t) record[38] | (uint32_t) record[39] << 8;
+}
+
+/** Write the region of a record. What holds the record stays sound if the
+ * region is below \ref VEJGODAT_REGIONS. */
+static inline void
+vejgodat_put_region (uint8_t * record, uint32_t region)
+{
+  record[38] = (uint8_t) (region & 255);
+  record[39] = (uint8_t) (region >> 8 & 255);
+}
+
 /** The dimension, 2 or 3. */
 static inline uint32_t
 vejgodat_part_dimension (const uint8_t * part)
 {
   return vejgodat_number_at (part);
+}
+
+/** The number of trees of the whole mesh, K. */
+static inline uint32_t
+vejgodat_part_K (const uint8_t * part)
+{
+  return vejgodat_number_at (part + 4);
+}
+
+/** The number of ranks of the table, P. */
+static inline uint32_t
+vejgodat_part_ranks (const uint8_t * part)
+{
+  return vejgodat_number_at (part + 8);
+}
+
+/** The rank whose part it is. */
+static inline uint32_t
+vejgodat_part_rank (const uint8_t * part)
+{
+  return vejgodat_number_at (part + 12);
 }
 
 /** The global number of the part's first tree. */
@@ -1264,6 +1324,144 @@ static inline const uint8_t *
 vejgodat_part_data (const uint8_t * part, uint32_t index)
 {
   return part + vejgodat_part_place (part, index) + 40;
+}
+
+/** The same 24 bytes, to be written: the part stays sound whatever they are. */
+static inline uint8_t *
+vejgodat_part_writable_data (uint8_t * part, uint32_t index)
+{
+  return part + vejgodat_part_place (part, index) + 40;
+}
+
+/** The region of tree or ghost \a index, below \ref VEJGODAT_REGIONS. */
+static inline uint32_t
+vejgodat_part_region (const uint8_t * part, uint32_t index)
+{
+  return vejgodat_region_at (part + vejgodat_part_place (part, index));
+}
+
+/** Write the region of tree or ghost \a index. The part stays sound if it is
+ * below \ref VEJGODAT_REGIONS. Other ranks that hold the tree, as a ghost too,
+ * don't learn of it: set it there as well, or the parts are no longer those of
+ * one mesh. */
+static inline void
+vejgodat_part_set_region (uint8_t * part, uint32_t index, uint32_t region)
+{
+  vejgodat_put_region (part + vejgodat_part_place (part, index), region);
+}
+
+/** @} */
+
+/** \name Reading and making a whole mesh
+ *
+ * A mesh is made in memory of \ref VEJGODAT_MESH_BYTES (K) bytes, which may hold
+ * anything before: first its header (\ref vejgodat_mesh_set_header), then every
+ * tree (\ref vejgodat_mesh_set_tree), then each link once
+ * (\ref vejgodat_mesh_set_link); regions and tree data at any time after their
+ * tree. The record of tree k is at \ref VEJGODAT_MESH_BYTES (k).
+ *
+ * Nothing is checked here. The memory must be there: a tree is below K, and a
+ * face below 6. Whether the mesh is sound is for \ref vejgodat_check_mesh to
+ * say, or for \ref vejgodat_mesh_fault.
+ * @{ */
+
+/** The dimension, 2 or 3, of a mesh of 8 bytes or more. */
+static inline uint32_t
+vejgodat_mesh_dimension (const uint8_t * mesh)
+{
+  return vejgodat_number_at (mesh);
+}
+
+/** The number of trees, K, of a mesh of 8 bytes or more. */
+static inline uint32_t
+vejgodat_mesh_trees (const uint8_t * mesh)
+{
+  return vejgodat_number_at (mesh + 4);
+}
+
+/** The region of a tree, below \ref VEJGODAT_REGIONS in a sound mesh. */
+static inline uint32_t
+vejgodat_mesh_region (const uint8_t * mesh, uint32_t tree)
+{
+  return vejgodat_region_at (mesh + VEJGODAT_MESH_BYTES (tree));
+}
+
+/** The 24 bytes of data of a tree. */
+static inline const uint8_t *
+vejgodat_mesh_data (const uint8_t * mesh, uint32_t tree)
+{
+  return mesh + VEJGODAT_MESH_BYTES (tree) + 40;
+}
+
+/** The same 24 bytes, to be written: a mesh stays sound whatever they are. */
+static inline uint8_t *
+vejgodat_mesh_writable_data (uint8_t * mesh, uint32_t tree)
+{
+  return mesh + VEJGODAT_MESH_BYTES (tree) + 40;
+}
+
+/** Write the header of a mesh: its dimension and its number of trees. */
+static inline void
+vejgodat_mesh_set_header (uint8_t * mesh, uint32_t dimension, uint32_t trees)
+{
+  vejgodat_put_number (mesh, dimension);
+  vejgodat_put_number (mesh + 4, trees);
+}
+
+/** Write the whole record of a tree that meets no other: its number and shape,
+ * the boundary at each face that the shape has (\ref vejgodat_corners knows
+ * which), the mark of an unused face at the others, region 0, tree data zero. */
+static inline void
+vejgodat_mesh_set_tree (uint8_t * mesh, uint32_t tree, uint32_t shape)
+{
+  uint8_t            *record = mesh + VEJGODAT_MESH_BYTES (tree);
+  uint32_t            i, used;
+
+  for (i = 0; i < 64; ++i) {
+    record[i] = 0;
+  }
+  vejgodat_put_number (record, tree);
+  record[4] = (uint8_t) (shape & 255);
+  for (i = 0; i < 6; ++i) {
+    used = vejgodat_corners (shape, i) > 0;
+    vejgodat_put_number (record + 8 + 4 * i, used ? tree : VEJGODAT_UNUSED);
+    record[32 + i] = (uint8_t) (used ? i : 0);
+  }
+}
+
+/** Write the region of a tree, below \ref VEJGODAT_REGIONS. */
+static inline void
+vejgodat_mesh_set_region (uint8_t * mesh, uint32_t tree, uint32_t region)
+{
+  vejgodat_put_region (mesh + VEJGODAT_MESH_BYTES (tree), region);
+}
+
+/** Link a face of one tree with a face of another, or of the same: writes both
+ * ends, with the same orientation. Relies on the dimension in the mesh's header,
+ * which decides the face codes. A third face that was linked with one of these
+ * two still names it, and needs another link or the boundary. */
+static inline void
+vejgodat_mesh_set_link (uint8_t * mesh, uint32_t tree, uint32_t face,
+                        uint32_t neighbour, uint32_t neighbour_face,
+                        uint32_t orientation)
+{
+  const uint32_t      turned =
+    orientation * (vejgodat_mesh_dimension (mesh) == 2 ? 4u : 6u);
+  uint8_t            *one = mesh + VEJGODAT_MESH_BYTES (tree);
+  uint8_t            *other = mesh + VEJGODAT_MESH_BYTES (neighbour);
+
+  vejgodat_put_number (one + 8 + 4 * (size_t) face, neighbour);
+  one[32 + face] = (uint8_t) ((turned + neighbour_face) & 255);
+  vejgodat_put_number (other + 8 + 4 * (size_t) neighbour_face, tree);
+  other[32 + neighbour_face] = (uint8_t) ((turned + face) & 255);
+}
+
+/** Put a face at the boundary. The face that it was linked with, if any, needs
+ * another link or the boundary, too. */
+static inline void
+vejgodat_mesh_set_boundary (uint8_t * mesh, uint32_t tree, uint32_t face)
+{
+  vejgodat_mesh_set_link (mesh, tree, face, tree, face, 0);
 }
 
 /** @} */
@@ -1423,6 +1621,117 @@ vejgodat_many       vejgodat_build_all (const uint8_t * part,
                                         uint32_t epoch,
                                         uint8_t * out, size_t out_len)
   VEJGODAT_USE_RESULT;
+
+/** @} */
+
+/** \name Reading a message's header
+ *
+ * Each of these reads from the first 32 bytes of a message, which must be there,
+ * and checks nothing: it may be asked of any 32 bytes, but the numbers mean what
+ * they say only in a message that \ref vejgodat_build_message or
+ * \ref vejgodat_build_all wrote or \ref vejgodat_check_message accepted.
+ * @{ */
+
+/** The epoch. */
+static inline uint32_t
+vejgodat_message_epoch (const uint8_t * message)
+{
+  return vejgodat_number_at (message);
+}
+
+/** The dimension, 2 or 3. */
+static inline uint32_t
+vejgodat_message_dimension (const uint8_t * message)
+{
+  return vejgodat_number_at (message + 4);
+}
+
+/** The number of trees of the whole mesh, K. */
+static inline uint32_t
+vejgodat_message_K (const uint8_t * message)
+{
+  return vejgodat_number_at (message + 8);
+}
+
+/** The number of ranks of the tables, P. */
+static inline uint32_t
+vejgodat_message_ranks (const uint8_t * message)
+{
+  return vejgodat_number_at (message + 12);
+}
+
+/** The rank that sends it. */
+static inline uint32_t
+vejgodat_message_sender (const uint8_t * message)
+{
+  return vejgodat_number_at (message + 16);
+}
+
+/** The rank that it is for. */
+static inline uint32_t
+vejgodat_message_receiver (const uint8_t * message)
+{
+  return vejgodat_number_at (message + 20);
+}
+
+/** The number of trees in it, n. */
+static inline uint32_t
+vejgodat_message_trees (const uint8_t * message)
+{
+  return vejgodat_number_at (message + 24);
+}
+
+/** The number of ghosts in it, g. */
+static inline uint32_t
+vejgodat_message_ghosts (const uint8_t * message)
+{
+  return vejgodat_number_at (message + 28);
+}
+
+/** How long it is by its header: 32 + 64 n + 40 g bytes. */
+static inline uint64_t
+vejgodat_message_bytes (const uint8_t * message)
+{
+  return 32 + 64 * (uint64_t) vejgodat_message_trees (message)
+    + 40 * (uint64_t) vejgodat_message_ghosts (message);
+}
+
+/** Walk over messages that stand end to end, as \ref vejgodat_build_all writes
+ * them:
+ *
+ *     at = 0;
+ *     while ((message = vejgodat_next_message (all, all_len, &at)) != NULL)
+ *
+ * Any bytes may be walked over: none past their end is read, and each message
+ * given stands in them as long as its header says
+ * (\ref vejgodat_message_bytes). The walk ends at their end, or where what is
+ * left is shorter than a header, or than its header says; \a at then says where,
+ * and is \a messages_len exactly if nothing is left. Whether a message is in
+ * layout isn't checked.
+ *
+ * \param [in] messages     Messages, end to end; any bytes. Not changed.
+ * \param [in] messages_len The number of their bytes.
+ * \param [in,out] at       The byte at which the next message begins, 0 for the
+ *                          first; any number. It becomes the end of the message
+ *                          given; where none is, it stays.
+ * \return                  The next message, or NULL if there is none.
+ */
+static inline const uint8_t *
+vejgodat_next_message (const uint8_t * messages, size_t messages_len,
+                       size_t * at)
+{
+  const uint8_t      *message;
+
+  if (*at > messages_len || messages_len - *at < 32) {
+    return NULL;
+  }
+  message = messages + *at;
+  if (vejgodat_message_bytes (message) > messages_len - *at) {
+    return NULL;
+  }
+  *at += (size_t) vejgodat_message_bytes (message);
+  return message;
+}
 
 /** @} */
 
@@ -1603,6 +1912,22 @@ vejgodat_length     vejgodat_close_area (const uint8_t * area,
                                          size_t area_len,
                                          uint8_t * out, size_t out_len)
   VEJGODAT_USE_RESULT;
+
+/** How long the part of an area is by the area's header: 32 + 64 n + 40 h bytes,
+ * with the ghosts held so far.
+ *
+ * Once all senders are heard, this is what \ref vejgodat_close_area needs as
+ * buffer, without the checks of \ref vejgodat_part_of_area_length, which the
+ * close makes anyway. Before that the close gives 20, however long the buffer
+ * is. It reads from the first 32 bytes of the area, which must be there, and
+ * checks nothing. For a sound area it is at most 32 + (64 + 40 F) n.
+ */
+static inline uint64_t
+vejgodat_area_part_bytes (const uint8_t * area)
+{
+  return 32 + 64 * (uint64_t) vejgodat_number_at (area + 20)
+    + 40 * (uint64_t) vejgodat_number_at (area + 24);
+}
 
 /** @} */
 
@@ -1869,6 +2194,89 @@ typedef struct
                                      0. */
 }
 vejgodat_fault;
+
+/* One character more of a text that has `at` of them, if the buffer has room for
+ * it and the end. Gives the length with it. */
+static inline size_t
+vejgodat_text_character (char *text, size_t text_len, size_t at, char more)
+{
+  if (at + 1 < text_len) {
+    text[at] = more;
+    text[at + 1] = '\0';
+  }
+  return at + 1;
+}
+
+/* The same for each character of a string. */
+static inline size_t
+vejgodat_text_string (char *text, size_t text_len, size_t at,
+                      const char *more)
+{
+  while (*more != '\0') {
+    at = vejgodat_text_character (text, text_len, at, *more++);
+  }
+  return at;
+}
+
+/* The same for each digit of a number. */
+static inline size_t
+vejgodat_text_number (char *text, size_t text_len, size_t at, uint32_t more)
+{
+  uint32_t            unit = 1;
+
+  while (more / unit > 9) {
+    unit *= 10;
+  }
+  for (; unit > 0; unit /= 10) {
+    at = vejgodat_text_character (text, text_len, at,
+                                  (char) ('0' + more / unit % 10));
+  }
+  return at;
+}
+
+/** Write where an object fails and how: `tree 5, face 2: link not answered`.
+ *
+ * The place is a rank of a table (`entry` where K is wrong, which is no rank's),
+ * a tree of a whole mesh or a record of a part; header and length (6) have none.
+ * Of a call that refused it writes the words of the refusal.
+ *
+ * \param [in] fault      What one of the calls below answered; any numbers.
+ * \param [out] text      Gets as many characters as fit before a final '\0',
+ *                        which is there unless \a text_len is 0; NULL will do
+ *                        then.
+ * \param [in] text_len   The number of its characters; 200 are enough.
+ * \return                The length of the whole text without its '\0': the text
+ *                        is cut short if this isn't below \a text_len.
+ */
+static inline size_t
+vejgodat_write_fault (vejgodat_fault fault, char *text, size_t text_len)
+{
+  size_t              at = 0;
+
+  if (text_len > 0) {
+    text[0] = '\0';
+  }
+  if (fault.refusal != VEJGODAT_OK) {
+    return vejgodat_text_string (text, text_len, at,
+                                 vejgodat_refusal_text (fault.refusal));
+  }
+  if (fault.kind != VEJGODAT_FAULT_NONE
+      && fault.kind != VEJGODAT_FAULT_HEADER) {
+    at = vejgodat_text_string (text, text_len, at,
+                               fault.kind == VEJGODAT_FAULT_TREES ? "entry "
+                               : fault.fault == VEJGODAT_TABLE ? "rank "
+                               : fault.fault == VEJGODAT_MESH ? "tree "
+                               : "record ");
+    at = vejgodat_text_number (text, text_len, at, fault.at);
+    if (vejgodat_fault_has_face (fault.kind)) {
+      at = vejgodat_text_string (text, text_len, at, ", face ");
+      at = vejgodat_text_number (text, text_len, at, fault.face);
+    }
+    at = vejgodat_text_string (text, text_len, at, ": ");
+  }
+  return vejgodat_text_string (text, text_len, at,
+                               vejgodat_fault_text (fault.kind));
+}
 
 /** Say where a table fails.
  *

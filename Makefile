@@ -1,8 +1,11 @@
-# make: the archive, proved and built by rt (tools/prove shows how far it is). make install PREFIX=/where: header, archive and a pkg-config file.
+# make: the archive that rt proves and builds (tools/prove shows how far it is), and in it the header's inline functions as
+# symbols. make install PREFIX=/where: header, archive and a pkg-config file.
 PREFIX = /usr/local
 INSTALL = install
+CFLAGS = -O2
 
-archive = target/staticlib/libvejgodat.a
+proved = target/staticlib/libvejgodat.a
+archive = target/lib/libvejgodat.a
 sources := crates.txt $(shell find crates -type f)
 number := $(shell sed -n 's/^\#define VEJGODAT_VERSION //p' include/vejgodat.h)
 version := $(shell echo $$(( $(number) / 10000 )).$$(( $(number) / 100 % 100 )).$$(( $(number) % 100 )))
@@ -10,9 +13,15 @@ notice := $(wildcard LICENSE LICENCE COPYING NOTICE)
 
 all: $(archive)
 
-$(archive): $(sources)
+$(proved): $(sources)
 	@tools/prove staticlib vejgodat
 	@touch $@
+
+$(archive): $(proved) c/symbols.c include/vejgodat.h
+	@mkdir -p target/lib
+	$(CC) -std=c99 $(CFLAGS) -fPIC -Iinclude -c -o target/lib/symbols.o c/symbols.c
+	cp $(proved) $@
+	$(AR) r $@ target/lib/symbols.o
 
 target/vejgodat.pc: include/vejgodat.h Makefile FORCE
 	@mkdir -p target
@@ -30,4 +39,5 @@ ifneq ($(notice),)
 	$(INSTALL) -m 644 $(notice) $(DESTDIR)$(PREFIX)/share/doc/vejgodat
 endif
 
+.DELETE_ON_ERROR:
 .PHONY: all install FORCE

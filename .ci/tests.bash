@@ -4,7 +4,8 @@ export DEBIAN_FRONTEND=noninteractive
 
 passed=0
 failed=0
-archive=target/staticlib/libvejgodat.a
+proved=target/staticlib/libvejgodat.a
+archive=target/lib/libvejgodat.a
 cc=${CC:-cc}
 
 # test_of NAME COMMAND..: one test; it passes where the command's status is 0
@@ -56,15 +57,15 @@ counts() {
 }
 
 # whether the archive is there and newer than every source
-fresh_archive() { [ -f "$archive" ] && [ -z "$(find crates.txt crates -newer "$archive" -print -quit)" ]; }
+fresh_archive() { [ -f "$archive" ] && [ -z "$(find crates.txt crates c include -newer "$archive" -print -quit)" ]; }
 
-# the archive, proved and built from the sources as they stand
+# the archive as make install puts it, proved and built from the sources as they stand
 need_archive() {
     local log
     log=$(mktemp)
-    if ! rt staticlib vejgodat >"$log" 2>&1 || [ ! -f "$archive" ]; then
+    if ! { rt staticlib vejgodat && touch "$proved" && make; } >"$log" 2>&1 || [ ! -f "$archive" ]; then
         cat "$log"
-        printf 'FAILED  rt staticlib vejgodat\n'
+        printf 'FAILED  rt staticlib vejgodat, or make\n'
         failed=$((failed + 1))
     fi
     rm -f "$log"

@@ -5,8 +5,8 @@
  * the part of a mesh that a rank has, the messages between ranks, and the area
  * in which a rank's new part is assembled from them.
  *
- * Link with libvejgodat.a, which `rt staticlib vejgodat` writes to
- * target/staticlib/ and `make install` puts beside this header. The library is
+ * Link with libvejgodat.a, which `make` writes to target/lib/ and
+ * `make install` puts with this header below PREFIX. The library is
  * proved to do what its definitions say for every input. It allocates nothing,
  * keeps no state between calls and always returns; all that it needs is stack,
  * see What a caller must keep. Calls may run on any number of threads at once
@@ -361,6 +361,13 @@ extern "C" {
 #define VEJGODAT_USE_RESULT
 #endif
 
+/** How the functions whose bodies stand in this header are declared. The archive
+ * has each of them as a symbol, too, for languages that can't call an inline
+ * function: c/symbols.c defines this empty. */
+#ifndef VEJGODAT_INLINE
+#define VEJGODAT_INLINE static inline
+#endif
+
 /** The largest number of ranks P. */
 #define VEJGODAT_MAX_RANKS 16384
 
@@ -492,7 +499,7 @@ enum
  * \return                A text that lasts, also for 0, for numbers that no call
  *                        gives yet and for any other.
  */
-static inline const char *
+VEJGODAT_INLINE const char *
 vejgodat_refusal_text (uint32_t refusal)
 {
   switch (refusal) {
@@ -1149,7 +1156,7 @@ vejgodat_found      vejgodat_lookup (const uint8_t * trees, size_t trees_len,
 
 /** \name Reading a sound part
  *
- * Each of these reads one number in constant time and checks nothing: the part
+ * Each of these reads or writes one thing and checks nothing: the part
  * must be one that \ref vejgodat_cut_part or \ref vejgodat_close_area wrote or
  * \ref vejgodat_check_part accepted, which a caller learns once and not at each
  * face. With n trees and g ghosts, an index below n is a tree, n + j is ghost j,
@@ -1161,7 +1168,7 @@ vejgodat_found      vejgodat_lookup (const uint8_t * trees, size_t trees_len,
  * @{ */
 
 /** Read four little-endian bytes at any address. */
-static inline uint32_t
+VEJGODAT_INLINE uint32_t
 vejgodat_number_at (const uint8_t * bytes)
 {
   return (uint32_t) bytes[0] | (uint32_t) bytes[1] << 8
@@ -1169,7 +1176,7 @@ vejgodat_number_at (const uint8_t * bytes)
 }
 
 /** Write four little-endian bytes at any address. */
-static inline void
+VEJGODAT_INLINE void
 vejgodat_put_number (uint8_t * bytes, uint32_t number)
 {
   bytes[0] = (uint8_t) (number & 255);
@@ -1180,7 +1187,7 @@ vejgodat_put_number (uint8_t * bytes, uint32_t number)
 
 /** Read the region of a record, be it one of a mesh, a part or a message: the
  * two bytes at 38. */
-static inline uint32_t
+VEJGODAT_INLINE uint32_t
 vejgodat_region_at (const uint8_t * record)
 {
   return (uint32_t) record[38] | (uint32_t) record[39] << 8;
@@ -1188,7 +1195,7 @@ vejgodat_region_at (const uint8_t * record)
 
 /** Write the region of a record. What holds the record stays sound if the
  * region is below \ref VEJGODAT_REGIONS. */
-static inline void
+VEJGODAT_INLINE void
 vejgodat_put_region (uint8_t * record, uint32_t region)
 {
   record[38] = (uint8_t) (region & 255);
@@ -1196,56 +1203,56 @@ vejgodat_put_region (uint8_t * record, uint32_t region)
 }
 
 /** The dimension, 2 or 3. */
-static inline uint32_t
+VEJGODAT_INLINE uint32_t
 vejgodat_part_dimension (const uint8_t * part)
 {
   return vejgodat_number_at (part);
 }
 
 /** The number of trees of the whole mesh, K. */
-static inline uint32_t
+VEJGODAT_INLINE uint32_t
 vejgodat_part_K (const uint8_t * part)
 {
   return vejgodat_number_at (part + 4);
 }
 
 /** The number of ranks of the table, P. */
-static inline uint32_t
+VEJGODAT_INLINE uint32_t
 vejgodat_part_ranks (const uint8_t * part)
 {
   return vejgodat_number_at (part + 8);
 }
 
 /** The rank whose part it is. */
-static inline uint32_t
+VEJGODAT_INLINE uint32_t
 vejgodat_part_rank (const uint8_t * part)
 {
   return vejgodat_number_at (part + 12);
 }
 
 /** The global number of the part's first tree. */
-static inline uint32_t
+VEJGODAT_INLINE uint32_t
 vejgodat_part_first (const uint8_t * part)
 {
   return vejgodat_number_at (part + 16);
 }
 
 /** The number of trees, n. */
-static inline uint32_t
+VEJGODAT_INLINE uint32_t
 vejgodat_part_trees (const uint8_t * part)
 {
   return vejgodat_number_at (part + 20);
 }
 
 /** The number of ghosts, g. */
-static inline uint32_t
+VEJGODAT_INLINE uint32_t
 vejgodat_part_ghosts (const uint8_t * part)
 {
   return vejgodat_number_at (part + 24);
 }
 
 /** The byte at which the record of tree or ghost \a index begins. */
-static inline size_t
+VEJGODAT_INLINE size_t
 vejgodat_part_place (const uint8_t * part, uint32_t index)
 {
   const uint32_t      n = vejgodat_part_trees (part);
@@ -1255,14 +1262,14 @@ vejgodat_part_place (const uint8_t * part, uint32_t index)
 }
 
 /** The global number of tree or ghost \a index. */
-static inline uint32_t
+VEJGODAT_INLINE uint32_t
 vejgodat_part_number (const uint8_t * part, uint32_t index)
 {
   return vejgodat_number_at (part + vejgodat_part_place (part, index));
 }
 
 /** The shape of tree or ghost \a index, 0 to 5. */
-static inline uint32_t
+VEJGODAT_INLINE uint32_t
 vejgodat_part_shape (const uint8_t * part, uint32_t index)
 {
   return part[vejgodat_part_place (part, index) + 4];
@@ -1273,7 +1280,7 @@ vejgodat_part_shape (const uint8_t * part, uint32_t index)
  * \ref VEJGODAT_UNUSED where the shape doesn't have the face. A tree may also
  * meet itself elsewhere than at the boundary, at another face, so ask
  * \ref vejgodat_part_kind and don't compare with \a index. */
-static inline uint32_t
+VEJGODAT_INLINE uint32_t
 vejgodat_part_neighbour (const uint8_t * part, uint32_t index, uint32_t face)
 {
   return vejgodat_number_at (part + vejgodat_part_place (part, index) + 8
@@ -1281,7 +1288,7 @@ vejgodat_part_neighbour (const uint8_t * part, uint32_t index, uint32_t face)
 }
 
 /** The neighbour's face that face \a face of \a index meets; 0 where unused. */
-static inline uint32_t
+VEJGODAT_INLINE uint32_t
 vejgodat_part_face (const uint8_t * part, uint32_t index, uint32_t face)
 {
   return part[vejgodat_part_place (part, index) + 32 + face]
@@ -1289,7 +1296,7 @@ vejgodat_part_face (const uint8_t * part, uint32_t index, uint32_t face)
 }
 
 /** The orientation at a face; 0 at the boundary and where unused. */
-static inline uint32_t
+VEJGODAT_INLINE uint32_t
 vejgodat_part_orientation (const uint8_t * part, uint32_t index,
                            uint32_t face)
 {
@@ -1306,7 +1313,7 @@ vejgodat_part_orientation (const uint8_t * part, uint32_t index,
  *  - a tree of the part (2) if the neighbour is below n, \a index included: on a
  *    periodic axis of extent 1 a tree meets itself at its opposite face;
  *  - a ghost (3) else. */
-static inline uint32_t
+VEJGODAT_INLINE uint32_t
 vejgodat_part_kind (const uint8_t * part, uint32_t index, uint32_t face)
 {
   const uint32_t      neighbour = vejgodat_part_neighbour (part, index, face);
@@ -1320,21 +1327,21 @@ vejgodat_part_kind (const uint8_t * part, uint32_t index, uint32_t face)
 }
 
 /** The 24 bytes of data of tree \a index, below n: ghosts have none. */
-static inline const uint8_t *
+VEJGODAT_INLINE const uint8_t *
 vejgodat_part_data (const uint8_t * part, uint32_t index)
 {
   return part + vejgodat_part_place (part, index) + 40;
 }
 
 /** The same 24 bytes, to be written: the part stays sound whatever they are. */
-static inline uint8_t *
+VEJGODAT_INLINE uint8_t *
 vejgodat_part_writable_data (uint8_t * part, uint32_t index)
 {
   return part + vejgodat_part_place (part, index) + 40;
 }
 
 /** The region of tree or ghost \a index, below \ref VEJGODAT_REGIONS. */
-static inline uint32_t
+VEJGODAT_INLINE uint32_t
 vejgodat_part_region (const uint8_t * part, uint32_t index)
 {
   return vejgodat_region_at (part + vejgodat_part_place (part, index));
@@ -1344,7 +1351,7 @@ vejgodat_part_region (const uint8_t * part, uint32_t index)
  * below \ref VEJGODAT_REGIONS. Other ranks that hold the tree, as a ghost too,
  * don't learn of it: set it there as well, or the parts are no longer those of
  * one mesh. */
-static inline void
+VEJGODAT_INLINE void
 vejgodat_part_set_region (uint8_t * part, uint32_t index, uint32_t region)
 {
   vejgodat_put_region (part + vejgodat_part_place (part, index), region);
@@ -1366,42 +1373,42 @@ vejgodat_part_set_region (uint8_t * part, uint32_t index, uint32_t region)
  * @{ */
 
 /** The dimension, 2 or 3, of a mesh of 8 bytes or more. */
-static inline uint32_t
+VEJGODAT_INLINE uint32_t
 vejgodat_mesh_dimension (const uint8_t * mesh)
 {
   return vejgodat_number_at (mesh);
 }
 
 /** The number of trees, K, of a mesh of 8 bytes or more. */
-static inline uint32_t
+VEJGODAT_INLINE uint32_t
 vejgodat_mesh_trees (const uint8_t * mesh)
 {
   return vejgodat_number_at (mesh + 4);
 }
 
 /** The region of a tree, below \ref VEJGODAT_REGIONS in a sound mesh. */
-static inline uint32_t
+VEJGODAT_INLINE uint32_t
 vejgodat_mesh_region (const uint8_t * mesh, uint32_t tree)
 {
   return vejgodat_region_at (mesh + VEJGODAT_MESH_BYTES (tree));
 }
 
 /** The 24 bytes of data of a tree. */
-static inline const uint8_t *
+VEJGODAT_INLINE const uint8_t *
 vejgodat_mesh_data (const uint8_t * mesh, uint32_t tree)
 {
   return mesh + VEJGODAT_MESH_BYTES (tree) + 40;
 }
 
 /** The same 24 bytes, to be written: a mesh stays sound whatever they are. */
-static inline uint8_t *
+VEJGODAT_INLINE uint8_t *
 vejgodat_mesh_writable_data (uint8_t * mesh, uint32_t tree)
 {
   return mesh + VEJGODAT_MESH_BYTES (tree) + 40;
 }
 
 /** Write the header of a mesh: its dimension and its number of trees. */
-static inline void
+VEJGODAT_INLINE void
 vejgodat_mesh_set_header (uint8_t * mesh, uint32_t dimension, uint32_t trees)
 {
   vejgodat_put_number (mesh, dimension);
@@ -1411,7 +1418,7 @@ vejgodat_mesh_set_header (uint8_t * mesh, uint32_t dimension, uint32_t trees)
 /** Write the whole record of a tree that meets no other: its number and shape,
  * the boundary at each face that the shape has (\ref vejgodat_corners knows
  * which), the mark of an unused face at the others, region 0, tree data zero. */
-static inline void
+VEJGODAT_INLINE void
 vejgodat_mesh_set_tree (uint8_t * mesh, uint32_t tree, uint32_t shape)
 {
   uint8_t            *record = mesh + VEJGODAT_MESH_BYTES (tree);
@@ -1430,7 +1437,7 @@ vejgodat_mesh_set_tree (uint8_t * mesh, uint32_t tree, uint32_t shape)
 }
 
 /** Write the region of a tree, below \ref VEJGODAT_REGIONS. */
-static inline void
+VEJGODAT_INLINE void
 vejgodat_mesh_set_region (uint8_t * mesh, uint32_t tree, uint32_t region)
 {
   vejgodat_put_region (mesh + VEJGODAT_MESH_BYTES (tree), region);
@@ -1440,7 +1447,7 @@ vejgodat_mesh_set_region (uint8_t * mesh, uint32_t tree, uint32_t region)
  * ends, with the same orientation. Relies on the dimension in the mesh's header,
  * which decides the face codes. A third face that was linked with one of these
  * two still names it, and needs another link or the boundary. */
-static inline void
+VEJGODAT_INLINE void
 vejgodat_mesh_set_link (uint8_t * mesh, uint32_t tree, uint32_t face,
                         uint32_t neighbour, uint32_t neighbour_face,
                         uint32_t orientation)
@@ -1458,7 +1465,7 @@ vejgodat_mesh_set_link (uint8_t * mesh, uint32_t tree, uint32_t face,
 
 /** Put a face at the boundary. The face that it was linked with, if any, needs
  * another link or the boundary, too. */
-static inline void
+VEJGODAT_INLINE void
 vejgodat_mesh_set_boundary (uint8_t * mesh, uint32_t tree, uint32_t face)
 {
   vejgodat_mesh_set_link (mesh, tree, face, tree, face, 0);
@@ -1633,63 +1640,63 @@ vejgodat_many       vejgodat_build_all (const uint8_t * part,
  * @{ */
 
 /** The epoch. */
-static inline uint32_t
+VEJGODAT_INLINE uint32_t
 vejgodat_message_epoch (const uint8_t * message)
 {
   return vejgodat_number_at (message);
 }
 
 /** The dimension, 2 or 3. */
-static inline uint32_t
+VEJGODAT_INLINE uint32_t
 vejgodat_message_dimension (const uint8_t * message)
 {
   return vejgodat_number_at (message + 4);
 }
 
 /** The number of trees of the whole mesh, K. */
-static inline uint32_t
+VEJGODAT_INLINE uint32_t
 vejgodat_message_K (const uint8_t * message)
 {
   return vejgodat_number_at (message + 8);
 }
 
 /** The number of ranks of the tables, P. */
-static inline uint32_t
+VEJGODAT_INLINE uint32_t
 vejgodat_message_ranks (const uint8_t * message)
 {
   return vejgodat_number_at (message + 12);
 }
 
 /** The rank that sends it. */
-static inline uint32_t
+VEJGODAT_INLINE uint32_t
 vejgodat_message_sender (const uint8_t * message)
 {
   return vejgodat_number_at (message + 16);
 }
 
 /** The rank that it is for. */
-static inline uint32_t
+VEJGODAT_INLINE uint32_t
 vejgodat_message_receiver (const uint8_t * message)
 {
   return vejgodat_number_at (message + 20);
 }
 
 /** The number of trees in it, n. */
-static inline uint32_t
+VEJGODAT_INLINE uint32_t
 vejgodat_message_trees (const uint8_t * message)
 {
   return vejgodat_number_at (message + 24);
 }
 
 /** The number of ghosts in it, g. */
-static inline uint32_t
+VEJGODAT_INLINE uint32_t
 vejgodat_message_ghosts (const uint8_t * message)
 {
   return vejgodat_number_at (message + 28);
 }
 
 /** How long it is by its header: 32 + 64 n + 40 g bytes. */
-static inline uint64_t
+VEJGODAT_INLINE uint64_t
 vejgodat_message_bytes (const uint8_t * message)
 {
   return 32 + 64 * (uint64_t) vejgodat_message_trees (message)
@@ -1716,7 +1723,7 @@ vejgodat_message_bytes (const uint8_t * message)
  *                          given; where none is, it stays.
  * \return                  The next message, or NULL if there is none.
  */
-static inline const uint8_t *
+VEJGODAT_INLINE const uint8_t *
 vejgodat_next_message (const uint8_t * messages, size_t messages_len,
                        size_t * at)
 {
@@ -1922,7 +1929,7 @@ vejgodat_length     vejgodat_close_area (const uint8_t * area,
  * is. It reads from the first 32 bytes of the area, which must be there, and
  * checks nothing. For a sound area it is at most 32 + (64 + 40 F) n.
  */
-static inline uint64_t
+VEJGODAT_INLINE uint64_t
 vejgodat_area_part_bytes (const uint8_t * area)
 {
   return 32 + 64 * (uint64_t) vejgodat_number_at (area + 20)
@@ -2121,7 +2128,7 @@ enum
  * \param [in] kind       A result's kind; any number.
  * \return                A text that lasts, also for 0 and for any other number.
  */
-static inline const char *
+VEJGODAT_INLINE const char *
 vejgodat_fault_text (uint32_t kind)
 {
   switch (kind) {
@@ -2171,7 +2178,7 @@ vejgodat_fault_text (uint32_t kind)
  * \param [in] kind       A result's kind; any number.
  * \return                1 if `face` says where, else 0.
  */
-static inline int
+VEJGODAT_INLINE int
 vejgodat_fault_has_face (uint32_t kind)
 {
   return kind == VEJGODAT_FAULT_UNUSED || kind == VEJGODAT_FAULT_BOUNDARY
@@ -2194,6 +2201,8 @@ typedef struct
                                      0. */
 }
 vejgodat_fault;
+
+/* The next three are for vejgodat_write_fault alone, and so no symbols. */
 
 /* One character more of a text that has `at` of them, if the buffer has room for
  * it and the end. Gives the length with it. */
@@ -2248,7 +2257,7 @@ vejgodat_text_number (char *text, size_t text_len, size_t at, uint32_t more)
  * \return                The length of the whole text without its '\0': the text
  *                        is cut short if this isn't below \a text_len.
  */
-static inline size_t
+VEJGODAT_INLINE size_t
 vejgodat_write_fault (vejgodat_fault fault, char *text, size_t text_len)
 {
   size_t              at = 0;

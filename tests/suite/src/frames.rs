@@ -97,7 +97,7 @@ fn overwritten(listing: &str) -> (usize, Vec<String>) {
 }
 
 fn archive(_: &mut Run) {
-    let archive = concat!(env!("CARGO_MANIFEST_DIR"), "/../../target/staticlib/libvejgodat.a");
+    let archive = concat!(env!("CARGO_MANIFEST_DIR"), "/../../target/lib/libvejgodat.a");
     let listing = Command::new("objdump").args(["-d", "--no-show-raw-insn", archive]).output().expect("objdump");
     let (probes, wrong) = overwritten(&String::from_utf8_lossy(&listing.stdout));
     assert!(probes > 0, "the calls with large frames are there");

@@ -69,6 +69,7 @@ groups! {
         nearest
         ranks
         frames
+        symbols
     }
 }
 

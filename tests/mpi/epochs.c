@@ -58,54 +58,19 @@ corners (int shape, int face)
     : shape == 4 ? (face < 3 ? 4 : 3) : (face < 4 ? 3 : 4);
 }
 
-static void
-put_number (uint8_t * bytes, uint32_t number)
-{
-  int                 i;
-
-  for (i = 0; i < 4; ++i) {
-    bytes[i] = (uint8_t) (number >> (8 * i));
-  }
-}
-
-static void
-put_link (uint8_t * mesh, uint32_t dimension, const uint32_t from[2],
-          const uint32_t to[2], uint32_t orientation)
-{
-  uint8_t            *record = mesh + VEJGODAT_MESH_BYTES (from[0]);
-
-  put_number (record + 8 + 4 * from[1], to[0]);
-  record[32 + from[1]] =
-    (uint8_t) (orientation * (dimension == 2 ? 4 : 6) + to[1]);
-}
-
 /* Trees of these shapes that meet nothing, with random data. */
 static void
 make_apart (generator * g, uint8_t * mesh, uint32_t dimension, uint32_t trees,
             const int *shapes)
 {
-  uint32_t            k, end[2];
-  uint8_t            *record;
+  uint32_t            k;
   int                 i;
 
-  memset (mesh, 0, VEJGODAT_MESH_BYTES (trees));
-  put_number (mesh, dimension);
-  put_number (mesh + 4, trees);
+  vejgodat_mesh_set_header (mesh, dimension, trees);
   for (k = 0; k < trees; ++k) {
-    record = mesh + VEJGODAT_MESH_BYTES (k);
-    put_number (record, k);
-    record[4] = (uint8_t) shapes[k];
-    end[0] = k;
-    for (end[1] = 0; end[1] < 6; ++end[1]) {
-      if ((int) end[1] < faces_of[shapes[k]]) {
-        put_link (mesh, dimension, end, end, 0);
-      }
-      else {
-        put_number (record + 8 + 4 * end[1], VEJGODAT_UNUSED);
-      }
-    }
-    for (i = 40; i < 64; ++i) {
-      record[i] = (uint8_t) next (g);
+    vejgodat_mesh_set_tree (mesh, k, (uint32_t) shapes[k]);
+    for (i = 0; i < 24; ++i) {
+      vejgodat_mesh_writable_data (mesh, k)[i] = (uint8_t) next (g);
     }
   }
 }
@@ -145,9 +110,9 @@ make_glued (generator * g, uint8_t * mesh, uint32_t dimension, uint32_t trees,
     }
     for (at = 0; at + 1 < count; at += 2) {
       if (below (g, 16) >= open) {
-        t = below (g, c);
-        put_link (mesh, dimension, ends[at], ends[at + 1], t);
-        put_link (mesh, dimension, ends[at + 1], ends[at], t);
+        vejgodat_mesh_set_link (mesh, ends[at][0], ends[at][1],
+                                ends[at + 1][0], ends[at + 1][1],
+                                below (g, c));
       }
     }
   }
@@ -159,7 +124,7 @@ make_box (generator * g, uint8_t * mesh, uint32_t dimension)
 {
   static int          shapes[MOST_TREES];
   uint32_t            extent[3] = { 1, 1, 1 }, stride[3], periodic[3], trees;
-  uint32_t            k, axis, from[2], to[2], place;
+  uint32_t            k, axis, place;
 
   for (trees = 1, axis = 0; axis < dimension; ++axis) {
     extent[axis] = 1 + below (g, dimension == 2 ? 20 : 7);
@@ -175,13 +140,9 @@ make_box (generator * g, uint8_t * mesh, uint32_t dimension)
     for (axis = 0; axis < dimension; ++axis) {
       place = k / stride[axis] % extent[axis];
       if (place + 1 < extent[axis] || periodic[axis]) {
-        from[0] = k;
-        from[1] = 2 * axis + 1;
-        to[0] = place + 1 < extent[axis] ? k + stride[axis]
-          : k - place * stride[axis];
-        to[1] = 2 * axis;
-        put_link (mesh, dimension, from, to, 0);
-        put_link (mesh, dimension, to, from, 0);
+        vejgodat_mesh_set_link (mesh, k, 2 * axis + 1,
+                                place + 1 < extent[axis] ? k + stride[axis]
+                                : k - place * stride[axis], 2 * axis, 0);
       }
     }
   }

@@ -19,19 +19,16 @@ must (uint32_t refusal, const char *call)
 }
 
 void
-must_be_sound (vejgodat_fault fault, const char *name, const char *place)
+must_be_sound (vejgodat_fault fault, const char *name)
 {
+  char                text[200];
   int                 rank;
 
   must (fault.refusal, name);
   if (fault.fault != VEJGODAT_OK) {
+    vejgodat_write_fault (fault, text, sizeof text);
     MPI_Comm_rank (MPI_COMM_WORLD, &rank);
-    fprintf (stderr, "rank %d: %s: %s %u", rank, name, place,
-             (unsigned) fault.at);
-    if (vejgodat_fault_has_face (fault.kind)) {
-      fprintf (stderr, ", face %u", (unsigned) fault.face);
-    }
-    fprintf (stderr, ": %s\n", vejgodat_fault_text (fault.kind));
+    fprintf (stderr, "rank %d: %s: %s\n", rank, name, text);
     MPI_Abort (MPI_COMM_WORLD, 1);
   }
 }
@@ -135,13 +132,13 @@ open_area (move * it, uint32_t epoch, uint32_t dimension)
   must (length.refusal, "vejgodat_open_area");
 }
 
-/* Build the messages to all ranks of the send set, this rank too where it keeps a tree, in one buffer, and send its
- * pieces: the receiver of each stands at byte 20, its numbers of trees and ghosts at 24 and 28. */
+/* Build the messages to all ranks of the send set, this rank too where it keeps a tree, in one buffer, and send each from
+ * there. */
 static void
 send_all (move * it, uint32_t epoch, const mesh_part * part)
 {
-  uint32_t            i;
-  size_t              at, bytes;
+  const uint8_t      *message;
+  size_t              at = 0;
   vejgodat_many       many;
 
   many = vejgodat_build_all_length (part->bytes, part->length, it->old_table,
@@ -154,15 +151,14 @@ send_all (move * it, uint32_t epoch, const mesh_part * part)
                              it->table_len, it->new_table, it->table_len,
                              it->me, epoch, it->out, (size_t) many.length);
   must (many.refusal, "vejgodat_build_all");
-  it->sends = many.count;
+  it->sends = 0;
   it->requests = room (many.count * sizeof *it->requests);
-  for (at = 0, i = 0; i < many.count; ++i, at += bytes) {
-    bytes = 32 + 64 * (size_t) vejgodat_number_at (it->out + at + 24)
-      + 40 * (size_t) vejgodat_number_at (it->out + at + 28);
+  while ((message = vejgodat_next_message (it->out, (size_t) many.length,
+                                           &at)) != NULL) {
     /* a message has at most 32 + 64 K bytes, which an int holds */
-    MPI_Isend (it->out + at, (int) bytes, MPI_BYTE,
-               (int) vejgodat_number_at (it->out + at + 20), it->tag,
-               it->comm, &it->requests[i]);
+    MPI_Isend (message, (int) vejgodat_message_bytes (message), MPI_BYTE,
+               (int) vejgodat_message_receiver (message), it->tag, it->comm,
+               &it->requests[it->sends++]);
   }
 }
 
@@ -243,17 +239,10 @@ static void
 close_area (move * it, mesh_part * part)
 {
   vejgodat_length     length;
-  vejgodat_progress   progress;
 
-  /* asked once: each of these calls looks at the whole area */
-  progress = vejgodat_progress_of (it->area, it->area_len);
-  must (progress.refusal, "vejgodat_progress_of");
-  must (progress.heard < progress.due ? VEJGODAT_MISSING : VEJGODAT_OK,
-        "exchange");
   free (part->bytes);
-  length = vejgodat_part_of_area_length (it->area, it->area_len);
-  must (length.refusal, "vejgodat_part_of_area_length");
-  part->length = (size_t) length.length;
+  /* the length stands in the area's header; the close checks the area, and says 20 if a sender isn't heard */
+  part->length = (size_t) vejgodat_area_part_bytes (it->area);
   part->bytes = room (part->length);
   assert (apart (part->bytes, part->length, it->area, it->area_len));
   length = vejgodat_close_area (it->area, it->area_len, part->bytes,

@@ -16,9 +16,8 @@ mesh_part;
 /* End the run if a call refused, and say why. */
 void                must (uint32_t refusal, const char *call);
 
-/* End the run if an object isn't sound, and say where: `place` is what its places are called, as "tree". */
-void                must_be_sound (vejgodat_fault fault, const char *name,
-                                   const char *place);
+/* End the run if an object isn't sound, and say where. */
+void                must_be_sound (vejgodat_fault fault, const char *name);
 
 /* malloc that ends the run instead of failing */
 void               *room (size_t bytes);

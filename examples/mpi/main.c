@@ -7,45 +7,32 @@
 #include <assert.h>
 #include <stdio.h>
 #include <stdlib.h>
-#include <string.h>
 
 #define SIDE 8
 #define TREES (SIDE * SIDE * SIDE)
 #define STEPS 5
-
-static void
-put_number (uint8_t * bytes, uint32_t number)
-{
-  int                 i;
-
-  for (i = 0; i < 4; ++i) {
-    bytes[i] = (uint8_t) (number >> (8 * i));
-  }
-}
 
 /* The whole mesh: faces 0 and 1 look along the first axis, 2 and 3 along the second, 4 and 5 along the third. */
 static void
 make_box (uint8_t * mesh)
 {
   static const uint32_t stride[3] = { 1, SIDE, SIDE * SIDE };
-  uint32_t            k, face, place, at_end;
-  uint8_t            *tree;
+  uint32_t            k, axis;
 
-  memset (mesh, 0, VEJGODAT_MESH_BYTES (TREES));
-  put_number (mesh, 3);
-  put_number (mesh + 4, TREES);
+  vejgodat_mesh_set_header (mesh, 3, TREES);
   for (k = 0; k < TREES; ++k) {
-    tree = mesh + VEJGODAT_MESH_BYTES (k);
-    put_number (tree, k);
-    tree[4] = 2;                /* a hexahedron */
-    for (face = 0; face < 6; ++face) {
-      place = k / stride[face / 2] % SIDE;
-      at_end = place == (face % 2 ? SIDE - 1 : 0);
-      put_number (tree + 8 + 4 * face, at_end ? k
-                  : face % 2 ? k + stride[face / 2] : k - stride[face / 2]);
-      tree[32 + face] = (uint8_t) (at_end ? face : face ^ 1);
+    vejgodat_mesh_set_tree (mesh, k, VEJGODAT_HEXAHEDRON);
+    /* tree data: whatever the solver wants to go with its trees */
+    vejgodat_put_number (vejgodat_mesh_writable_data (mesh, k), k);
+  }
+  /* each link once, from the lower tree; what isn't linked stays the boundary */
+  for (k = 0; k < TREES; ++k) {
+    for (axis = 0; axis < 3; ++axis) {
+      if (k / stride[axis] % SIDE < SIDE - 1) {
+        vejgodat_mesh_set_link (mesh, k, 2 * axis + 1, k + stride[axis],
+                                2 * axis, 0);
+      }
     }
-    put_number (tree + 40, k);  /* tree data: whatever the solver wants to go with its trees */
   }
 }
 
@@ -92,7 +79,7 @@ main (int argc, char **argv)
 
   make_box (mesh);
   must_be_sound (vejgodat_mesh_fault (mesh, VEJGODAT_MESH_BYTES (TREES)),
-                 "the box", "tree");
+                 "the box");
   make_table (0, ranks, old_table);
   length = vejgodat_part_length (mesh, VEJGODAT_MESH_BYTES (TREES),
                                  old_table, table_len, (uint32_t) rank);

@@ -27,42 +27,25 @@
 
 #define DEEPEST 4
 
-static void
-put_number (uint8_t * bytes, uint32_t number)
-{
-  int                 i;
-
-  for (i = 0; i < 4; ++i) {
-    bytes[i] = (uint8_t) (number >> (8 * i));
-  }
-}
-
-/* Write the whole mesh of a connectivity, VEJGODAT_MESH_BYTES (num_trees). The face codes are the same: orientation
- * times 2 * P4EST_DIM plus the neighbour's face, and a boundary meets itself. */
+/* Write the whole mesh of a connectivity, VEJGODAT_MESH_BYTES (num_trees). p4est's face codes are the same: orientation
+ * times 2 * P4EST_DIM plus the neighbour's face, and a boundary meets itself. It has each link at both ends. */
 static void
 mesh_of (const p4est_connectivity_t * conn, uint8_t * mesh)
 {
   const uint32_t      trees = (uint32_t) conn->num_trees;
-  uint32_t            k, face;
-  uint8_t            *record;
+  uint32_t            k, face, code;
 
-  memset (mesh, 0, VEJGODAT_MESH_BYTES (trees));
-  put_number (mesh, P4EST_DIM);
-  put_number (mesh + 4, trees);
+  vejgodat_mesh_set_header (mesh, P4EST_DIM, trees);
   for (k = 0; k < trees; ++k) {
-    record = mesh + VEJGODAT_MESH_BYTES (k);
-    put_number (record, k);
-    record[4] = P4EST_DIM == 2 ? 0 : 2;
-    for (face = 0; face < 6; ++face) {
-      if (face < P4EST_FACES) {
-        put_number (record + 8 + 4 * face,
-                    (uint32_t) conn->tree_to_tree[P4EST_FACES * k + face]);
-        record[32 + face] =
-          (uint8_t) conn->tree_to_face[P4EST_FACES * k + face];
-      }
-      else {
-        put_number (record + 8 + 4 * face, VEJGODAT_UNUSED);
-      }
+    vejgodat_mesh_set_tree (mesh, k, P4EST_DIM == 2 ? VEJGODAT_QUADRILATERAL
+                            : VEJGODAT_HEXAHEDRON);
+  }
+  for (k = 0; k < trees; ++k) {
+    for (face = 0; face < P4EST_FACES; ++face) {
+      code = (uint32_t) conn->tree_to_face[P4EST_FACES * k + face];
+      vejgodat_mesh_set_link (mesh, k, face, (uint32_t)
+                              conn->tree_to_tree[P4EST_FACES * k + face],
+                              code % P4EST_FACES, code / P4EST_FACES);
     }
   }
 }
@@ -182,7 +165,7 @@ run (const char *name, p4est_connectivity_t * conn, uint32_t steps)
   int                 ranks, wrong = 0;
 
   mesh_of (conn, mesh);
-  must_be_sound (vejgodat_mesh_fault (mesh, mesh_len), name, "tree");
+  must_be_sound (vejgodat_mesh_fault (mesh, mesh_len), name);
   forest = p4est_new_ext (MPI_COMM_WORLD, conn, 0, 0, 1, 0, NULL, &step);
   ranks = forest->mpisize;
   rank = (uint32_t) forest->mpirank;
@@ -274,10 +257,10 @@ brick_differs (const int extents[3], const int periodic[3])
   for (k = 0; k < trees; ++k) {
     record = theirs + VEJGODAT_MESH_BYTES (number[k]);
     memcpy (record, mesh + VEJGODAT_MESH_BYTES (k), 64);
-    put_number (record, number[k]);
+    vejgodat_put_number (record, number[k]);
     for (face = 0; face < P4EST_FACES; ++face) {
-      put_number (record + 8 + 4 * face,
-                  number[conn->tree_to_tree[P4EST_FACES * k + face]]);
+      vejgodat_put_number (record + 8 + 4 * face,
+                           number[conn->tree_to_tree[P4EST_FACES * k + face]]);
     }
   }
   must (vejgodat_write_brick ((uint32_t) extents[0], (uint32_t) extents[1],

@@ -1596,8 +1596,8 @@ vejgodat_many       vejgodat_build_all_length (const uint8_t * part,
  *
  * They are those of \ref vejgodat_build_message to each rank of the send set,
  * that to the sender itself among them if it keeps a tree, ascending by
- * receiver and end to end. The part is checked once. The receiver of each is
- * the uint32_t at 20, its length 32 + 64 n + 40 g, with n and g at 24 and 28.
+ * receiver and end to end. The part is checked once.
+ * \ref vejgodat_next_message walks over them.
  *
  * Checks, in this order: 2, 3, 4, 5 and 8 as \ref vejgodat_build_all_length;
  * \ref VEJGODAT_BUFFER (22) if \a out_len is below the length of all messages.

@@ -135,7 +135,7 @@
  * length is 8 + 64 K, and of each record
  *
  *  - the number is the record's place, from 0;
- *  - the shape is one of the dimension, the bytes that are to be zero are, and
+ *  - the shape is one of the dimension, its reserved bytes (5 to 7) are zero, and
  *    the region is below 4,096;
  *  - the faces that the shape doesn't have are marked as above;
  *  - every other face has an orientation below the number of its corners, and
@@ -184,9 +184,9 @@
  *    32 + 64 n + 40 g;
  *  - tree i has the number first tree + i; the ghosts' numbers ascend strictly
  *    and are below K and outside f(p);
- *  - each record has a shape of the dimension, its bytes that are to be zero
- *    are, its region is below 4,096, the faces that the shape doesn't have are
- *    marked so, and a face that meets itself has orientation 0;
+ *  - each record has a shape of the dimension, its reserved bytes are zero, its
+ *    region is below 4,096, the faces that the shape doesn't have are marked so,
+ *    and a face that meets itself has orientation 0;
  *  - every face that a tree's shape has meets a tree or a ghost of the part,
  *    and every ghost meets a tree of it: the ghosts are exactly those of p;
  *  - a link between two records of the part, or from one to itself, is as in a
@@ -228,10 +228,10 @@
  * A message is in layout if
  *
  *  - the dimension is 2 or 3 and the length is 32 + 64 n + 40 g;
- *  - each record has a shape of the dimension, its bytes that are to be zero
- *    are, its region is below 4,096, the faces that the shape doesn't have are
- *    marked so, a face that meets itself has orientation 0, and the neighbours
- *    at all faces that the shape has are below the message's K;
+ *  - each record has a shape of the dimension, its reserved bytes are zero, its
+ *    region is below 4,096, the faces that the shape doesn't have are marked so,
+ *    a face that meets itself has orientation 0, and the neighbours at all faces
+ *    that the shape has are below the message's K;
  *  - the numbers of the trees ascend strictly, and so do those of the ghosts.
  *
  * Nothing else plays a part in this: not P, the ranks, the limits of K, whether
@@ -271,9 +271,10 @@
  * where w is 16 for P up to 1,024 and 256 above. So an area has
  * 176 + 16 P + (64 + 40 F) n bytes up to 1,024 ranks and
  * 2,096 + 16 P + (64 + 40 F) n above; the buffer may be longer, and what
- * lies behind the area is never read or written. The first h ghost slots hold
+ * follows the area is never read or written. The first h ghost slots hold
  * the ghosts that have come, ascending by number; every slot without a record
- * is zero. Which senders are heard decides every byte of an area, in whatever
+ * is zero. For messages built from one mesh with the same tables and epoch, the
+ * set of heard senders decides every byte of the area of a rank, in whatever
  * order their messages came.
  *
  * An area is sound if
@@ -287,37 +288,41 @@
  *    heard sender; the ghosts held are in form, below K and outside f'(q),
  *    and ascend strictly; every other ghost slot is zero.
  *
- * A record is in form if its shape is one of the six, its bytes that are to be
- * zero are, its region is below 4,096, the faces that the shape doesn't have are
- * marked so, and a face that meets itself has orientation 0. The area's dimension plays no part in this: F
- * is that of the record's own shape. So a boundary with an orientation makes an
- * area unsound (10), while a slot with a shape of the other dimension doesn't,
- * and the close refuses it (21).
+ * A record is in form if its shape is one of the six, its reserved bytes are
+ * zero, its region is below 4,096, the faces that the shape doesn't have are
+ * marked so, and a face that meets itself has orientation 0. The area's
+ * dimension plays no part in this: F is that of the record's own shape. So a
+ * boundary with an orientation makes an area unsound (10), while a slot with a
+ * shape of the other dimension doesn't, and the close refuses it (21).
  *
- * Neighbours in the slots may be any numbers otherwise. Whether all links fit
- * together is looked at when the area is closed.
+ * Neighbours in the slots may otherwise be any numbers. The close checks whether
+ * all links fit together.
  *
  * ## Refusals
  *
  * Each call checks its input itself and returns a refusal: 0, or the number of
  * the first check that fails. The checks come in the order 26, 27, 28, 29, 2,
  * 30, 3 to 8, 24, 23, 25, 31, 32, 33, 9 to 22, and each is made of all arguments
- * before the next one is made of any: of two tables, a bad length (2) decides before bad entries (3),
- * whichever of the two has them. The numbers of this header's calls are those
- * of \ref VEJGODAT_OK and the names that follow it, and
+ * before the next one is made of any: of two tables, a bad length (2) decides
+ * before bad entries (3), whichever of the two has them. (Only the program plan
+ * gives 1, before all others.) The numbers of this header's calls are those of
+ * \ref VEJGODAT_OK and the names that follow it, and
  * \ref vejgodat_refusal_text has words for them. Only \ref vejgodat_lookup,
  * \ref vejgodat_corners, \ref vejgodat_mesh_fault and \ref vejgodat_version
  * have nothing to refuse.
  *
  * Where a call refuses, every other field of its result is 0 and every buffer
- * has the bytes that it had before. Where it accepts, it writes the beginning
- * of its buffer, as far as the result says, and leaves what lies behind.
+ * has the bytes that it had before. Where it accepts, it writes the first bytes
+ * or entries of its buffer, as many as the result says, and leaves those after
+ * them. Two calls differ: \ref vejgodat_deliver and \ref vejgodat_deliver_all
+ * write into the area, anywhere in it, and \ref vejgodat_region_counts always
+ * writes \ref VEJGODAT_REGIONS entries.
  *
  * ## What a caller must keep
  *
  * No call can check the following, and each relies on it.
  *
- *  - A pointer and the count behind it name memory that may be read (that may
+ *  - A pointer and the count after it name memory that may be read (that may
  *    be written, for `out`). A null pointer goes with a count of 0 only.
  *  - A count of uint8_t is a number of bytes, one of uint32_t a number of
  *    entries and not of bytes. Lists of uint32_t are aligned as uint32_t;
@@ -327,16 +332,16 @@
  *    into its mesh, and none turned into columns in its place. Buffers that a
  *    call only reads may overlap: the same table may be given as old and as new.
  *  - Nobody else writes a buffer of a call while the call runs.
- *  - The thread has stack left. A call that cuts or checks a part, stored by
- *    columns too, or closes an area takes sets of trees there, of 208 KiB at most,
- *    and so does \ref vejgodat_part_length; \ref vejgodat_deliver and
- *    \ref vejgodat_deliver_all take 137 KiB; those that build messages check a
- *    part too, and take 336 KiB at most; every other call takes less than 1 KiB.
- *    \ref VEJGODAT_STACK_BYTES are enough for any. A thread made with a stack
- *    of 128 KiB is too small. Only \ref vejgodat_triangle_length and
- *    \ref vejgodat_import_triangle take more, 1.75 MiB whatever the file is;
- *    \ref VEJGODAT_IMPORT_STACK_BYTES are enough for them. No call can see
- *    this: too little stack breaks the program.
+ *  - The thread has stack left. Calls that measure, cut or check a part (column
+ *    files too) or close an area need up to 208 KiB; \ref vejgodat_deliver and
+ *    \ref vejgodat_deliver_all 137 KiB; calls that build messages up to 336 KiB;
+ *    \ref vejgodat_count_leaves and \ref vejgodat_leaf_counts 5 KiB; every other
+ *    call less than 1 KiB. \ref VEJGODAT_STACK_BYTES are enough for each of
+ *    these; a thread made with a stack of 128 KiB is too small. Only
+ *    \ref vejgodat_triangle_length and \ref vejgodat_import_triangle need more,
+ *    1.75 MiB whatever the file is; \ref VEJGODAT_IMPORT_STACK_BYTES are enough
+ *    for them. No call can see that there is too little stack: it breaks the
+ *    program.
  *  - Tree data are the caller's and may be anything, so no check can see that a
  *    byte of them has changed, in a file, in memory or on the way to another
  *    rank. Where that matters, keep a checksum in them.
@@ -496,8 +501,8 @@ enum
 /** Say what a refusal means, as part of a sentence without its full stop.
  *
  * \param [in] refusal    A result's refusal; any number.
- * \return                A text that lasts, also for 0, for numbers that no call
- *                        gives yet and for any other.
+ * \return                A text that lasts, also for 0, for 19, which is reserved,
+ *                        and for any other number.
  */
 VEJGODAT_INLINE const char *
 vejgodat_refusal_text (uint32_t refusal)
@@ -741,7 +746,7 @@ vejgodat_length     vejgodat_table_length (uint32_t ranks)
  * \param [in] rank       A rank; any number.
  * \return                The first tree of the rank and its count. For an
  *                        empty rank the count is 0, and the first tree is the
- *                        table's entry for the rank (K behind the last tree).
+ *                        table's entry for the rank (K after the last tree).
  */
 vejgodat_range      vejgodat_table_range (const uint8_t * table,
                                           size_t table_len, uint32_t rank)
@@ -768,7 +773,7 @@ vejgodat_range      vejgodat_table_range (const uint8_t * table,
  *                        changed.
  * \param [in] count_len  The number of entries of \a count.
  * \param [out] out       Its first 8 (P + 1) bytes become the table; the bytes
- *                        behind them stay. When refused, all of them stay.
+ *                        after them stay. When refused, all of them stay.
  * \param [in] out_len    The number of bytes of \a out.
  * \return                The bytes written, 8 (P + 1).
  */
@@ -804,7 +809,7 @@ vejgodat_length     vejgodat_write_table (uint32_t ranks,
  *                        changed.
  * \param [in] leaves_len The number of entries, which is K.
  * \param [out] out       Its first 8 (P + 1) bytes become the table; the bytes
- *                        behind them stay. When refused, all of them stay.
+ *                        after them stay. When refused, all of them stay.
  * \param [in] out_len    The number of bytes of \a out.
  * \return                The bytes written, 8 (P + 1).
  */
@@ -837,7 +842,8 @@ vejgodat_length     vejgodat_table_from_leaves (uint32_t ranks,
  *
  * Checks, in this order: 2, 3, 4 as above; 5 if \a tree is not below K or
  * \a receiver not below P.
- * Cost: O(P) for the check of the tables; then O(log P).
+ * Cost: O(P): the check of the tables, then a walk outward from the receiver to
+ * the nearest rank that has the tree.
  *
  * \param [in] old_table  The old table; any bytes. Not changed.
  * \param [in] old_len    The number of its bytes.
@@ -858,7 +864,8 @@ vejgodat_sender     vejgodat_sender_of (const uint8_t * old_table,
  *
  * Checks, in this order: 2, 3, 4 as above; 5 if \a sender or \a receiver is
  * not below P.
- * Cost: O(P) for the check of the tables; then constant.
+ * Cost: O(P): the check of the tables, then a walk from the sender to the nearest
+ * ranks with trees on either side.
  *
  * \param [in] old_table  The old table; any bytes. Not changed.
  * \param [in] old_len    The number of its bytes.
@@ -891,7 +898,7 @@ vejgodat_range      vejgodat_trees_sent (const uint8_t * old_table,
  * \param [in] new_len    The number of its bytes.
  * \param [in] rank       The sending rank p; any number.
  * \param [out] out       Its first entries become the ranks of the set,
- *                        ascending; the entries behind them stay. When
+ *                        ascending; the entries after them stay. When
  *                        refused, all of them stay.
  * \param [in] out_len    The number of entries, not bytes, of \a out.
  * \return                The number of ranks, the smallest and the largest;
@@ -920,7 +927,7 @@ vejgodat_ranks      vejgodat_send_set (const uint8_t * old_table,
  * \param [in] new_len    The number of its bytes.
  * \param [in] rank       The receiving rank q; any number.
  * \param [out] out       Its first entries become the ranks of the set,
- *                        ascending; the entries behind them stay. When
+ *                        ascending; the entries after them stay. When
  *                        refused, all of them stay.
  * \param [in] out_len    The number of entries, not bytes, of \a out.
  * \return                The number of ranks, the smallest and the largest;
@@ -1006,7 +1013,7 @@ vejgodat_length     vejgodat_brick_length (uint32_t a, uint32_t b, uint32_t c)
  *                        number yes.
  * \param [in] periodic_b Whether the second axis is.
  * \param [in] periodic_c Whether the third axis is.
- * \param [out] out       Its first bytes become the mesh; the bytes behind them
+ * \param [out] out       Its first bytes become the mesh; the bytes after them
  *                        stay. When refused, all of them stay.
  * \param [in] out_len    The number of bytes of \a out.
  * \return                The bytes written, 8 + 64 a b c.
@@ -1068,7 +1075,7 @@ vejgodat_length     vejgodat_part_length (const uint8_t * mesh,
  * \param [in] table      Any bytes. Not changed.
  * \param [in] table_len  The number of its bytes.
  * \param [in] rank       A rank; any number.
- * \param [out] out       Its first bytes become the part; the bytes behind them
+ * \param [out] out       Its first bytes become the part; the bytes after them
  *                        stay. When refused, all of them stay.
  * \param [in] out_len    The number of bytes of \a out.
  * \return                The bytes written, 32 + 64 n + 40 g.
@@ -1545,7 +1552,7 @@ vejgodat_length     vejgodat_message_length (const uint8_t * part,
  * \param [in] sender     A rank p; any number.
  * \param [in] receiver   A rank q; any number.
  * \param [in] epoch      Any number, the same for all messages of one move.
- * \param [out] out       Its first bytes become the message; the bytes behind
+ * \param [out] out       Its first bytes become the message; the bytes after
  *                        them stay. When refused, all of them stay.
  * \param [in] out_len    The number of bytes of \a out.
  * \return                The bytes written, 32 + 64 n + 40 g.
@@ -1613,7 +1620,7 @@ vejgodat_many       vejgodat_build_all_length (const uint8_t * part,
  * \param [in] new_len    The number of its bytes.
  * \param [in] sender     A rank p; any number.
  * \param [in] epoch      Any number, the same for all messages of one move.
- * \param [out] out       Its first bytes become the messages; the bytes behind
+ * \param [out] out       Its first bytes become the messages; the bytes after
  *                        them stay. When refused, all of them stay.
  * \param [in] out_len    The number of bytes of \a out.
  * \return                The number of messages, and the bytes written.
@@ -1785,7 +1792,7 @@ vejgodat_length     vejgodat_area_length (const uint8_t * old_table,
  * \param [in] rank       The receiving rank q; any number.
  * \param [in] dimension  The dimension of the mesh; any number.
  * \param [in] epoch      The epoch that the messages must have; any number.
- * \param [out] out       Its first bytes become the area; the bytes behind
+ * \param [out] out       Its first bytes become the area; the bytes after
  *                        them stay. When refused, all of them stay.
  * \param [in] out_len    The number of bytes of \a out.
  * \return                The bytes written, \ref VEJGODAT_AREA_BYTES of P, n
@@ -1819,7 +1826,7 @@ vejgodat_length     vejgodat_open_area (const uint8_t * old_table,
  * of trees are on the stack, of 8 KiB or 128 KiB.
  *
  * \param [in,out] area    An area; any bytes. When refused, all of them stay;
- *                         those behind the area always do.
+ *                         those after the area always do.
  * \param [in] area_len    The number of its bytes.
  * \param [in] message     A message; any bytes. Not changed.
  * \param [in] message_len The number of its bytes.
@@ -1848,13 +1855,13 @@ uint32_t            vejgodat_deliver (uint8_t * area, size_t area_len,
  * are cleared for each message.
  *
  * \param [in,out] area     An area; any bytes. When refused, all of them stay;
- *                          those behind the area always do.
+ *                          those after the area always do.
  * \param [in] area_len     The number of its bytes.
  * \param [in] messages     Messages, end to end; any bytes. Not changed.
  * \param [in] messages_len The number of their bytes.
  * \param [out] answers     Entry i becomes what \ref vejgodat_deliver would
  *                          have answered to message i: 0, or 11 to 18. The
- *                          entries behind the last message stay. When refused,
+ *                          entries after the last message stay. When refused,
  *                          all of them stay.
  * \param [in] answers_len  The number of entries, not bytes, of \a answers.
  * \return                  The number of messages, taken or not.
@@ -1910,7 +1917,7 @@ vejgodat_length     vejgodat_part_of_area_length (const uint8_t * area,
  *
  * \param [in] area       An area; any bytes. Not changed.
  * \param [in] area_len   The number of its bytes.
- * \param [out] out       Its first bytes become the part; the bytes behind
+ * \param [out] out       Its first bytes become the part; the bytes after
  *                        them stay. When refused, all of them stay.
  * \param [in] out_len    The number of bytes of \a out.
  * \return                The bytes written, 32 + 64 n + 40 h.
@@ -2009,7 +2016,7 @@ vejgodat_leaves     vejgodat_count_leaves (uint32_t shape,
  * \param [in] bits        The strings, end to end; any bytes. Not changed.
  * \param [in] bits_len    The number of bytes.
  * \param [out] out        Its first K entries become the leaf counts; the
- *                         entries behind them stay. When refused, all of them
+ *                         entries after them stay. When refused, all of them
  *                         stay.
  * \param [in] out_len     The number of entries, not bytes, of \a out.
  * \return                 The number of counts written, K.
@@ -2055,7 +2062,7 @@ vejgodat_count      vejgodat_leaf_counts (const uint32_t * shapes,
  * \param [in] table_len  The number of its bytes.
  * \param [in] rank       A rank; any number.
  * \param [out] out       Its first \ref VEJGODAT_REGIONS entries become the
- *                        counts by ascending region; the entries behind them
+ *                        counts by ascending region; the entries after them
  *                        stay. When refused, all of them stay.
  * \param [in] out_len    The number of entries of \a out.
  * \return                0, or the refusal.
@@ -2103,8 +2110,8 @@ enum
                                      also if it isn't below K, or in the rank's
                                      own range. */
   VEJGODAT_FAULT_SHAPE = 8,     /**< The shape is none of the six. */
-  VEJGODAT_FAULT_BYTES = 9,     /**< A byte that is to be zero isn't, or the
-                                     region isn't below 4,096. */
+  VEJGODAT_FAULT_BYTES = 9,     /**< A reserved byte isn't zero, or the region
+                                     isn't below 4,096. */
   VEJGODAT_FAULT_UNUSED = 10,   /**< The shape doesn't have this face, and the
                                      face isn't marked so. */
   VEJGODAT_FAULT_BOUNDARY = 11, /**< The face is a boundary, with an
@@ -2120,7 +2127,7 @@ enum
   VEJGODAT_FAULT_BESIDE = 17    /**< The ghost is beside no tree of the part. */
 };
 
-/** Say what a kind of fault means, to stand behind the place.
+/** Say what a kind of fault means, to stand after the place.
  *
  * `tree 5, face 2: link not answered`: the kinds 10, 11 and 13 to 16 have a
  * face, see \ref vejgodat_fault_has_face.
@@ -2386,7 +2393,7 @@ vejgodat_fault      vejgodat_part_fault (const uint8_t * part,
  * \param [in] table_len  The number of its bytes.
  * \param [in] rank       A rank; any number.
  * \param [out] out       Its first \a part_len bytes become the column file;
- *                        the bytes behind them stay. When refused, all of them
+ *                        the bytes after them stay. When refused, all of them
  *                        stay.
  * \param [in] out_len    The number of bytes of \a out.
  * \return                The bytes written, \a part_len.
@@ -2418,7 +2425,7 @@ vejgodat_length     vejgodat_part_to_columns (const uint8_t * part,
  * \param [in] table_len  The number of its bytes.
  * \param [in] rank       A rank; any number.
  * \param [out] out       Its first \a columns_len bytes become the part; the
- *                        bytes behind them stay. When refused, all of them stay.
+ *                        bytes after them stay. When refused, all of them stay.
  * \param [in] out_len    The number of bytes of \a out.
  * \return                The bytes written, \a columns_len.
  */
@@ -2456,7 +2463,7 @@ vejgodat_length     vejgodat_columns_to_part (const uint8_t * columns,
  *                        changed.
  * \param [in] leaves_len The number of entries, which is K.
  * \param [out] out       Its first 8 (P + 1) bytes become the table; the bytes
- *                        behind them stay. When refused, all of them stay.
+ *                        after them stay. When refused, all of them stay.
  * \param [in] out_len    The number of bytes of \a out.
  * \return                The bytes written, 8 (P + 1).
  */
@@ -2498,7 +2505,7 @@ vejgodat_length     vejgodat_table_from_weights (const uint32_t * weights,
  *                        aligned as uint64_t. Not changed.
  * \param [in] sums_len   The number of entries.
  * \param [out] out       Its first 8 (P + 1) bytes become the table; the bytes
- *                        behind them stay. When refused, all of them stay.
+ *                        after them stay. When refused, all of them stay.
  * \param [in] out_len    The number of bytes of \a out.
  * \return                The bytes written, 8 (P + 1).
  */
@@ -2544,7 +2551,7 @@ vejgodat_length     vejgodat_table_from_blocks (uint32_t ranks,
  * \param [in] y          On axis 1; any float.
  * \param [in] z          On axis 2; any float.
  * \param [out] out       Its first entries become the local indices of the
- *                        trees met, ascending; the entries behind them stay.
+ *                        trees met, ascending; the entries after them stay.
  *                        When refused, all of them stay.
  * \param [in] out_len    The number of entries, not bytes, of \a out.
  * \return                How many trees are met.
@@ -2667,7 +2674,7 @@ vejgodat_length     vejgodat_triangle_length (const uint8_t * text,
  * \param [in] text       The text; any bytes. Not changed.
  * \param [in] text_len   The number of bytes.
  * \param [out] out       Its first 8 + 64 n bytes become the mesh; the bytes
- *                        behind them stay. When refused, all of them stay.
+ *                        after them stay. When refused, all of them stay.
  * \param [in] out_len    The number of bytes of \a out.
  * \return                The bytes written, 8 + 64 n.
  */

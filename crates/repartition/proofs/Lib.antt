@@ -1,4 +1,5 @@
 -- Laws and theorems.
+pub mod Checks
 pub mod Canonical
 pub mod Receive
 pub mod Sequences
@@ -16,6 +17,7 @@ pub mod Runs
 pub mod Examples
 pub mod Promises
 pub mod Refusals
+pub mod Lengths
 pub mod Words
 pub mod Deliveries
 pub mod Regions

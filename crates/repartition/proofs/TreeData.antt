@@ -3,7 +3,7 @@ use Prim.Native.Nat.{ℕ, zero, suc, _+_, _-_, _*_, _≤_, _<_}
 use native.Mathlib.Nat.{zero-add, add-zero, le-refl}
 use native.Mathlib.Omega.{arith}
 use mathlib.Core.Path.{_≡_, refl, sym, ap, ap₂, fun-ext, _∙_}
-use mathlib.Core.Bool.{Bool, true, false, cond, not, _&&_, and-false}
+use mathlib.Core.Bool.{Bool, true, false, not, _&&_, and-false}
 use mathlib.Core.List.{List, [], _∷_, _++_}
 use lib.Dec.{leb, ltb, eqb}
 use lib.ListN.{length, getD, take, drop, length-take, length-drop}
@@ -17,7 +17,7 @@ use Rattle.records.specs.Record.{coreSize, treeSize, regionLimit, regionOf}
 use Rattle.records.proofs.Forms.{at-agree}
 use Rattle.records.proofs.Rows.{splice-get}
 use Rattle.encoding.specs.Answer.{lengthAnswer, written, writeAnswer}
-use Rattle.encoding.specs.Refusal.{Check, check, firstFailed}
+use Rattle.encoding.specs.Refusal.{check, firstFailed}
 use Rattle.offsets.specs.Table.{ranks, ranksOk, trees, valid, firstTree, endTree, treeCount, holds}
 use Rattle.pattern.specs.Sender.{Tables, sends}
 use Rattle.pattern.specs.Calls.{tableChecks}
@@ -32,6 +32,7 @@ use Rattle.regions.specs.Counts.{valuesBelow, regionCount, regionCounts}
 use Rattle.regions.specs.Calls.{regionsRefusal, regionCountsOf}
 use Rattle.message.specs.Build.{partMessage}
 use Rattle.message.specs.Calls.{buildChecks, messageLengthOf, buildMessageOf}
+use Rattle.repartition.proofs.Checks.{first-stays, pass-first}
 use Rattle.repartition.proofs.PartMessages.{sent-own, length-cores, message-data}
 use Rattle.encoding.specs.declared.answer.Length.{Length}
 use Rattle.mesh.specs.Mesh.{meshHeader, meshDimension, meshTrees, meshCore, meshRecord}
@@ -120,16 +121,6 @@ module _ (start first n : ℕ) (test : ℕ → Bool) (a b : List ℕ) (same : Sa
 length-where : (refusal n m : ℕ) → (refusal ≡ 0 → n ≡ m) → lengthAnswer refusal n ≡ lengthAnswer refusal m
 unfolding lengthAnswer
 length-where refusal n m same = either (eqb refusal 0) (λ t. rw (same (eqb-true refusal 0 t))) (λ t. rw t)
-
--- where a check failed, no check behind it counts
-first-stays : (cs ds : List Check) → (firstFailed cs ≡ 0 → ⊥) → firstFailed (cs ++ ds) ≡ firstFailed cs
-unfolding firstFailed
-first-stays [] ds declined = absurd (declined refl)
-first-stays (c ∷ cs) ds declined = either (c .passes) (λ t. rw t (first-stays cs ds (λ e. declined (rw t e)))) (λ t. rw t)
-
-pass-first : (b : Bool) (rest n : ℕ) → cond b rest (suc n) ≡ 0 → (b ≡ true) × (rest ≡ 0)
-pass-first true rest n e = (refl, e)
-pass-first false rest n e = absurd (omega arith)
 
 -- what a build call that declines nothing has looked at
 record Passed (part old new : List ℕ) (p q : ℕ) : Type 0 where

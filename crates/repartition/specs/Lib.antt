@@ -8,6 +8,7 @@ pub mod Deliveries
 pub mod Runs
 pub mod Promises
 pub mod Refusals
+pub mod Lengths
 pub mod Examples
 pub mod Regions
 pub mod TreeData

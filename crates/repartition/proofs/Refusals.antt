@@ -1,42 +1,59 @@
 -- What a refused call leaves, what three refusals mean, and that a close writes none but sound parts.
-use Prim.Native.Nat.{ℕ, suc, _+_}
+use Prim.Native.Nat.{ℕ, zero, suc, _+_, _<_}
 use native.Mathlib.Omega.{arith}
-use mathlib.Core.Path.{_≡_, refl, sym, _∙_}
+use mathlib.Core.Path.{_≡_, refl, sym, ap, _∙_}
 use mathlib.Core.Bool.{Bool, true, false, cond, not, _&&_}
-use mathlib.Core.List.{List}
+use mathlib.Core.List.{List, [], _∷_, _++_, append-nil}
 use lib.Dec.{leb, ltb, eqb}
-use lib.ListN.{length, take, drop}
+use lib.ListN.{length, getD, take, drop, List·getD-append}
 use lib.Seq.{take-at}
 use borrow.Author.Tests.{eqb-true, eq-eqb, not-false}
-use Rattle.build_all.specs.Calls.{messagesAnswer, buildAllRefusal, buildAllOf}
+use Rattle.build_all.specs.Calls.{messagesAnswer, buildAllLengthOf, buildAllRefusal, buildAllOf}
+use Rattle.deliver_all.specs.Messages.{messagesIn, areaAfterEach, answersOfEach}
 use Rattle.deliver_all.specs.Calls.{deliverAllRefusal, deliverAllCount, deliverAllArea, deliverAllOf}
 use Rattle.encoding.specs.Answer.{lengthAnswer, countAnswer, written, writeAnswer}
-use Rattle.encoding.specs.Below.{allBelow}
+use Rattle.encoding.specs.Below.{allBelow, anyBelow}
 use Rattle.encoding.specs.Pieces.{splice}
-use Rattle.encoding.specs.Refusal.{firstFailed}
+use Rattle.encoding.specs.Refusal.{Check, check, firstFailed}
 use Rattle.encoding.proofs.Below.{either, clash}
 use Rattle.offsets.specs.Table.{ranks, ranksOk, trees, valid}
-use Rattle.offsets_write.specs.Calls.{writeTable}
+use Rattle.offsets.specs.Calls.{rangeAnswer, tableRange}
+use Rattle.offsets_write.specs.Calls.{tableLengthAnswer, writeTable}
 use Rattle.leaves.specs.Calls.{tableFromLeaves, tableFromWeights, tableFromBlocks}
 use Rattle.plan_text.specs.Plan.{planAnswer, planOutputAnswer}
+use Rattle.refinement.specs.Calls.{leavesAnswer, countLeaves}
 use Rattle.refinement_list.specs.Calls.{leafCounts}
-use Rattle.ele_mesh.specs.Calls.{importTriangle}
+use Rattle.ele_mesh.specs.Calls.{triangleLength, importTriangle}
+use Rattle.faults.specs.declared.answer.Fault.{Fault}
+use Rattle.faults.specs.declared.answer.Wrong.{Wrong}
+use Rattle.faults.specs.Answer.{wrong, isFault, faultAt, firstFault}
+use Rattle.faults.specs.Mesh.{treeWrong}
+use Rattle.faults.specs.Calls.{faultAnswer, meshFaultOf}
+use Rattle.table_fault.specs.Table.{entryWrong}
+use Rattle.table_fault.specs.Calls.{tableFaultOf}
+use Rattle.part_fault.specs.Wrong.{wrongIn}
+use Rattle.part_fault.specs.Calls.{partHeaded, partFaultOf}
 use Rattle.regions.specs.Calls.{regionCountsOf}
 use Rattle.probes.specs.Calls.{treesNear}
 use Rattle.columns.specs.Calls.{partToColumns, columnsToPart}
-use Rattle.brick.specs.Calls.{writeBrickOf}
+use Rattle.brick.specs.Calls.{brickLengthOf, writeBrickOf}
 use Rattle.pattern.specs.Sets.{sendsTo}
-use Rattle.pattern.specs.Calls.{tableChecks, ranksAnswer, setAnswer, sendSetOf, receiveSetOf}
-use Rattle.part.specs.Part.{partSound}
-use Rattle.part_cut.specs.Calls.{cutPartOf}
+use lib.IntN.{pos}
+use Rattle.pattern.specs.Calls.{tableChecks, senderRefusal, senderOf, treesSent, ranksAnswer, setAnswer, sendSetOf, receiveSetOf}
+use Rattle.mesh.specs.Mesh.{meshDimension, meshTrees, meshCore, headerSound}
+use Rattle.part.specs.Part.{partCount, partGhostCount, viewOf, partSound}
+use Rattle.part_cut.specs.Calls.{partLengthOf, cutPartOf}
+use Rattle.part_neighbour.specs.Neighbour.{linkKind, linkAcross, flatAnswer}
+use Rattle.part_neighbour.specs.Calls.{neighbourChecks, neighbourAnswer}
 use Rattle.message.specs.Layout.{messageSender, messageReceiver, messageGhosts, inLayout}
 use Rattle.message.specs.Build.{partMessage}
-use Rattle.message.specs.Calls.{buildChecks, buildMessageOf}
-use Rattle.area.specs.Area.{areaRank, areaGhosts, areaNew, areaBound, heard, areaSound}
-use Rattle.area_open.specs.Calls.{openAreaOf}
+use Rattle.message.specs.Calls.{messageRefusal, readingOf, buildChecks, messageLengthOf, buildMessageOf}
+use Rattle.message_reader.specs.Handing.{beginOf}
+use Rattle.area.specs.Area.{areaRank, areaNew, heard, areaSound}
+use Rattle.area_open.specs.Calls.{areaLengthOf, openAreaOf, progressOf}
 use Rattle.area.specs.Deliver.{sameRun, senderDue, treesDue, ghostDue, ghostNew, deliverChecks, deliverOf}
-use Rattle.area.specs.Close.{allHeard, joinedPart, closeChecks, closeOf}
-use Rattle.repartition.specs.Refusals.{Unchanged, SetUnchanged, RefusedUnchanged, RefusalsMean, ClosesSound}
+use Rattle.area.specs.Close.{allHeard, joinedPart, closeChecks, closeLengthOf, closeOf}
+use Rattle.repartition.specs.Refusals.{Unchanged, SetUnchanged, RefusedUnchanged, LengthZero, RangeZero, FaultZero, NeighbourZero, RefusedZero, RefusalsMean, ClosesSound}
 
 -- ---- what a refused call leaves
 
@@ -119,10 +136,14 @@ refused-unchanged =
 
 -- ---- what a number means
 
--- the refusal of a call that writes
+-- the refusal of a call that measures, and of one that writes
+answer-refusal : (refusal n : ℕ) → lengthAnswer refusal n .refusal ≡ refusal
+unfolding lengthAnswer
+answer-refusal refusal n = either (eqb refusal 0) (λ e. rw e (sym (eqb-true refusal 0 e))) (λ e. rw e)
+
 pub refusal-is : (refusal : ℕ) (object out : List ℕ) → writeAnswer refusal object out .0 .refusal ≡ refusal
-unfolding writeAnswer lengthAnswer
-refusal-is refusal object out = either (eqb refusal 0) (λ e. rw e (sym (eqb-true refusal 0 e))) (λ e. rw e)
+unfolding writeAnswer
+refusal-is refusal object out = answer-refusal refusal (length object)
 
 -- a check with another number passed
 passed : (b : Bool) (rest n m : ℕ) → (n ≡ m → ⊥) → cond b rest n ≡ m → rest ≡ m
@@ -139,16 +160,32 @@ neither : (b : Bool) (rest n m : ℕ) → (rest ≡ m → ⊥) → (n ≡ m → 
 neither true rest n m a c e = a e
 neither false rest n m a c e = c e
 
-not-sent : (part old new : List ℕ) (p q epoch : ℕ) (out : List ℕ) → buildMessageOf part old new p q epoch out .0 .refusal ≡ 9 → sendsTo old new p q ≡ false
-unfolding buildMessageOf buildChecks tableChecks firstFailed
-not-sent part old new p q epoch out e =
-    let e2 = sym (refusal-is _ (partMessage part old new p q epoch) out) ∙ e in
-    let e3 = passed (ranksOk old && ranksOk new) _ 2 9 (λ z. omega arith) e2 in
+-- a list with the checks of a build in front, and none of number 9 after them
+nothing-sent : (part old new : List ℕ) (p q : ℕ) (cs : List Check) → (firstFailed cs ≡ 9 → ⊥) → firstFailed (buildChecks part old new p q ++ cs) ≡ 9 → sendsTo old new p q ≡ false
+unfolding buildChecks tableChecks firstFailed
+nothing-sent part old new p q cs other e =
+    let e3 = passed (ranksOk old && ranksOk new) _ 2 9 (λ z. omega arith) e in
     let e4 = passed (valid old && valid new) _ 3 9 (λ z. omega arith) e3 in
     let e5 = passed (eqb (ranks old) (ranks new) && eqb (trees old) (trees new)) _ 4 9 (λ z. omega arith) e4 in
     let e8 = passed (ltb p (ranks old) && ltb q (ranks old)) _ 5 9 (λ z. omega arith) e5 in
     let e9 = passed (partSound part old p) _ 8 9 (λ z. omega arith) e8 in
-    failed (sendsTo old new p q) _ 9 (neither (leb (length (partMessage part old new p q epoch)) (length out)) 0 22 9 (λ z. omega arith) (λ z. omega arith)) e9
+    failed (sendsTo old new p q) _ 9 other e9
+
+-- the check of the buffer has its own number
+room-other : (b : Bool) (n : ℕ) → (0 ≡ n → ⊥) → (22 ≡ n → ⊥) → firstFailed (check b 22 ∷ []) ≡ n → ⊥
+unfolding firstFailed
+room-other b n none other = neither b 0 22 n none other
+
+not-sent : (part old new : List ℕ) (p q epoch : ℕ) (out : List ℕ) → buildMessageOf part old new p q epoch out .0 .refusal ≡ 9 → sendsTo old new p q ≡ false
+unfolding buildMessageOf
+not-sent part old new p q epoch out e =
+    nothing-sent part old new p q _ (room-other (leb (length (partMessage part old new p q epoch)) (length out)) 9 (λ z. omega arith) (λ z. omega arith))
+    (sym (refusal-is _ (partMessage part old new p q epoch) out) ∙ e)
+
+not-measured : (part old new : List ℕ) (p q : ℕ) → messageLengthOf part old new p q .refusal ≡ 9 → sendsTo old new p q ≡ false
+unfolding messageLengthOf firstFailed
+not-measured part old new p q e =
+    nothing-sent part old new p q [] (λ z. omega arith) (ap firstFailed (append-nil (buildChecks part old new p q)) ∙ sym (answer-refusal _ (length (partMessage part old new p q 0))) ∙ e)
 
 was-heard : (area m : List ℕ) → deliverOf area m .0 ≡ 15 → heard area (messageSender m) ≡ true
 unfolding deliverOf deliverChecks firstFailed
@@ -165,15 +202,61 @@ was-heard area m e =
     (neither (allBelow (messageGhosts m) (ghostNew area m)) 0 18 15 (λ z. omega arith) (λ z. omega arith))
     (λ z. omega arith)) (λ z. omega arith)) e15)
 
+-- entry i of the answers to several deliveries is the delivery of message i to the area after those before it
+entry-is : (ms : List (List ℕ)) (area : List ℕ) (i : ℕ) → i < length ms → getD (answersOfEach area ms) i 0 ≡ deliverOf (areaAfterEach area (take i ms)) (getD ms i []) .0
+unfolding answersOfEach areaAfterEach
+entry-is [] area i h = absurd (omega arith)
+entry-is (m ∷ ms) area zero h = refl
+entry-is (m ∷ ms) area (suc i) h = entry-is ms (deliverOf area m .1) i (omega arith)
+
+answers-long : (ms : List (List ℕ)) (area : List ℕ) → length (answersOfEach area ms) ≡ length ms
+unfolding answersOfEach
+answers-long [] area = refl
+answers-long (m ∷ ms) area = ap suc (answers-long ms (deliverOf area m .1))
+
+-- what stands in a list that an object was written into, as far as the object goes
+front-at : (object out : List ℕ) (i : ℕ) → i < length object → getD (splice out 0 object) i 0 ≡ getD object i 0
+unfolding splice
+front-at object out i h = List·getD-append object (drop (0 + length object) out) 0 i h
+
+was-listed : (area bs answers : List ℕ) (i : ℕ) → i < deliverAllOf area bs answers .0 .count → getD (deliverAllOf area bs answers .1 .1) i 0 ≡ 15
+    → heard (areaAfterEach area (take i (messagesIn bs))) (messageSender (getD (messagesIn bs) i [])) ≡ true
+unfolding deliverAllOf deliverAllCount countAnswer written
+was-listed area bs answers i h e =
+    let ms : List (List ℕ) = messagesIn bs in
+    either (eqb (deliverAllRefusal area bs answers) 0)
+    (λ t.
+    let l : i < length ms = rw t at h in
+    let f : getD (splice answers 0 (answersOfEach area ms)) i 0 ≡ 15 = rw t at e in
+    was-heard (areaAfterEach area (take i ms)) (getD ms i []) (sym (entry-is ms area i l) ∙ sym (front-at (answersOfEach area ms) answers i (omega (arith, answers-long ms area))) ∙ f))
+    (λ t. let l : i < 0 = rw t at h in absurd (omega arith))
+
+-- the checks of a close, and none of number 20 after them
+some-missing : (area : List ℕ) (cs : List Check) → (firstFailed cs ≡ 20 → ⊥) → firstFailed (closeChecks area ++ cs) ≡ 20 → allHeard area ≡ false
+unfolding closeChecks firstFailed
+some-missing area cs other e =
+    let e20 = passed (areaSound area) _ 10 20 (λ z. omega arith) e in
+    failed (allHeard area) _ 20 (neither (partSound (joinedPart area) (areaNew area) (areaRank area)) _ 21 20 other (λ z. omega arith)) e20
+
 some-unheard : (area out : List ℕ) → closeOf area out .0 .refusal ≡ 20 → allHeard area ≡ false
-unfolding closeOf closeChecks firstFailed
+unfolding closeOf
 some-unheard area out e =
-    let e10 = sym (refusal-is _ (joinedPart area) out) ∙ e in
-    let e20 = passed (areaSound area) _ 10 20 (λ z. omega arith) e10 in
-    failed (allHeard area) _ 20 (neither (partSound (joinedPart area) (areaNew area) (areaRank area)) _ 21 20 (neither (leb (length (joinedPart area)) (length out)) 0 22 20 (λ z. omega arith) (λ z. omega arith)) (λ z. omega arith)) e20
+    some-missing area _ (room-other (leb (length (joinedPart area)) (length out)) 20 (λ z. omega arith) (λ z. omega arith)) (sym (refusal-is _ (joinedPart area) out) ∙ e)
+
+some-unmeasured : (area : List ℕ) → closeLengthOf area .refusal ≡ 20 → allHeard area ≡ false
+unfolding closeLengthOf firstFailed
+some-unmeasured area e = some-missing area [] (λ z. omega arith) (ap firstFailed (append-nil (closeChecks area)) ∙ sym (answer-refusal _ (length (joinedPart area))) ∙ e)
 
 pub refusals-mean : RefusalsMean
-refusals-mean = record { nothing-for-you = not-sent; already-heard = was-heard; not-all-heard = some-unheard }
+refusals-mean =
+    record {
+      nothing-for-you = not-sent;
+      nothing-to-measure = not-measured;
+      already-heard = was-heard;
+      already-heard-listed = was-listed;
+      not-all-heard = some-unheard;
+      not-all-heard-to-measure = some-unmeasured;
+    }
 
 -- ---- a close
 
@@ -212,3 +295,90 @@ closed-part area out = written-front _ (joinedPart area) out
 
 pub close-writes-sound : ClosesSound
 close-writes-sound = record { accepted = λ area out e. rw (closed-part area out e) (part-sound area out e); declined = part-unsound }
+
+-- ---- the other fields of a refused call that writes nothing
+
+zero-length : (refusal n : ℕ) → LengthZero (lengthAnswer refusal n)
+unfolding lengthAnswer
+zero-length refusal n declined = either (eqb refusal 0) (λ e. absurd (declined (rw e))) (λ e. rw e)
+
+zero-range : (refusal first count : ℕ) → RangeZero (rangeAnswer refusal first count)
+unfolding rangeAnswer
+zero-range refusal first count declined = either (eqb refusal 0) (λ e. absurd (declined (rw e))) (λ e. rw e (refl, refl))
+
+zero-sender : (old new : List ℕ) (k q : ℕ) → (senderOf old new k q .refusal ≡ 0 → ⊥) → senderOf old new k q .sender ≡ pos 0
+unfolding senderOf
+zero-sender old new k q declined = either (eqb (senderRefusal old new k q) 0) (λ e. absurd (declined (rw e))) (λ e. rw e)
+
+-- a fault that is found is no refusal
+zero-fault : (refusal : ℕ) (fault : Fault) → fault .refusal ≡ 0 → FaultZero (faultAnswer refusal fault)
+unfolding faultAnswer
+zero-fault refusal fault none declined = either (eqb refusal 0) (λ e. absurd (declined (rw e none))) (λ e. rw e (refl, refl, refl, refl))
+
+found-refuses : (fault n : ℕ) (at : ℕ → Wrong) → firstFault fault n at .refusal ≡ 0
+unfolding firstFault
+found-refuses fault n at = either (anyBelow n (λ i. isFault (at i .kind))) (λ e. rw e) (λ e. rw e)
+
+zero-table-fault : (table : List ℕ) → FaultZero (tableFaultOf table)
+unfolding tableFaultOf
+zero-table-fault table = zero-fault _ (firstFault 3 (ranks table + 1) (entryWrong table)) (found-refuses 3 (ranks table + 1) (entryWrong table))
+
+none-mesh-fault : (mesh : List ℕ) → meshFaultOf mesh .refusal ≡ 0
+unfolding meshFaultOf
+none-mesh-fault mesh =
+    either (headerSound mesh) (λ e. rw e (found-refuses 7 (meshTrees mesh) (treeWrong (meshCore mesh) (meshDimension mesh) (meshTrees mesh)))) (λ e. rw e)
+
+zero-part-fault : (part table : List ℕ) (rank : ℕ) → FaultZero (partFaultOf part table rank)
+unfolding partFaultOf
+zero-part-fault part table rank =
+    let found : Fault = firstFault 8 (partCount part + partGhostCount part) (wrongIn (viewOf part)) in
+    zero-fault _ (cond (partHeaded part table rank) found (faultAt 8 0 (wrong 6 0)))
+    (either (partHeaded part table rank) (λ e. rw e (found-refuses 8 (partCount part + partGhostCount part) (wrongIn (viewOf part)))) (λ e. rw e))
+
+zero-neighbour : (part table : List ℕ) (rank i f : ℕ) → NeighbourZero (flatAnswer (neighbourAnswer part table rank i f))
+unfolding neighbourAnswer linkKind linkAcross
+zero-neighbour part table rank i f declined =
+    either (eqb (firstFailed (neighbourChecks part table rank i f)) 0)
+    (λ e. absurd (declined (rw e)))
+    (λ e. rw e (refl, refl, refl, refl, refl))
+
+zero-begin : (m : List ℕ) → (beginOf m .0 .refusal ≡ 0 → ⊥) → (beginOf m .0 .length ≡ 0) × (beginOf m .1 .0 ≡ []) × (beginOf m .1 .1 ≡ 0)
+unfolding beginOf readingOf messageRefusal firstFailed lengthAnswer
+zero-begin m declined = either (inLayout m) (λ e. absurd (declined (rw e))) (λ e. rw e (refl, refl, refl))
+
+zero-messages : (refusal count n : ℕ) → (messagesAnswer refusal count n .refusal ≡ 0 → ⊥) → (messagesAnswer refusal count n .count ≡ 0) × (messagesAnswer refusal count n .length ≡ 0)
+unfolding messagesAnswer
+zero-messages refusal count n declined = either (eqb refusal 0) (λ e. absurd (declined (rw e))) (λ e. rw e (refl, refl))
+
+zero-progress : (area : List ℕ) → (progressOf area .refusal ≡ 0 → ⊥) → (progressOf area .heard ≡ 0) × (progressOf area .due ≡ 0)
+unfolding progressOf
+zero-progress area declined = either (areaSound area) (λ e. absurd (declined (rw e))) (λ e. rw e (refl, refl))
+
+zero-leaves : (refusal u i : ℕ) → (leavesAnswer refusal u i .refusal ≡ 0 → ⊥) → (leavesAnswer refusal u i .upright ≡ 0) × (leavesAnswer refusal u i .inverted ≡ 0) × (leavesAnswer refusal u i .leaves ≡ 0)
+unfolding leavesAnswer
+zero-leaves refusal u i declined = either (eqb refusal 0) (λ e. absurd (declined (rw e))) (λ e. rw e (refl, refl, refl))
+
+pub refused-zero : RefusedZero
+unfolding tableRange tableLengthAnswer treesSent brickLengthOf partLengthOf readingOf messageLengthOf buildAllLengthOf areaLengthOf closeLengthOf countLeaves triangleLength
+refused-zero =
+    record {
+      table-range = λ table p. zero-range _ _ _;
+      table-length = λ P. zero-length _ _;
+      sender-of = zero-sender;
+      trees-sent = λ old new p q. zero-range _ _ _;
+      brick-length = λ a b c. zero-length _ _;
+      part-length = λ mesh table rank. zero-length _ _;
+      table-fault = zero-table-fault;
+      mesh-fault = none-mesh-fault;
+      part-fault = zero-part-fault;
+      neighbour-of = zero-neighbour;
+      begin-reading = λ m. zero-length _ _;
+      begin = zero-begin;
+      message-length = λ part old new p q. zero-length _ _;
+      build-all-length = λ part old new p. zero-messages _ _ _;
+      area-length = λ old new rank dimension. zero-length _ _;
+      progress-of = zero-progress;
+      part-of-area-length = λ area. zero-length _ _;
+      count-leaves = λ shape bits. zero-leaves _ _ _;
+      triangle-length = λ text. zero-length _ _;
+    }

@@ -1,34 +1,46 @@
--- Of demand 1: what a refused call leaves, what three refusals mean, and that a close writes none but sound parts.
-use Prim.Native.Nat.{ℕ}
+-- Of demand 1: what a refused call leaves and answers, what three refusals mean, and that a close writes none but sound parts.
+use Prim.Native.Nat.{ℕ, _<_}
 use mathlib.Core.Path.{_≡_}
 use mathlib.Core.Bool.{true, false}
-use mathlib.Core.List.{List}
-use lib.ListN.{take}
+use mathlib.Core.List.{List, []}
+use lib.ListN.{getD, take}
 use Rattle.encoding.specs.declared.answer.Length.{Length}
-use Rattle.offsets_write.specs.Calls.{writeTable}
+use Rattle.offsets.specs.declared.Range.{Range}
+use Rattle.offsets.specs.Calls.{tableRange}
+use Rattle.offsets_write.specs.Calls.{tableLengthAnswer, writeTable}
 use Rattle.leaves.specs.Calls.{tableFromLeaves, tableFromWeights, tableFromBlocks}
 use Rattle.plan_text.specs.Plan.{planAnswer, planOutputAnswer}
+use Rattle.refinement.specs.Calls.{countLeaves}
 use Rattle.refinement_list.specs.Calls.{leafCounts}
-use Rattle.ele_mesh.specs.Calls.{importTriangle}
+use Rattle.ele_mesh.specs.Calls.{triangleLength, importTriangle}
 use Rattle.regions.specs.Calls.{regionCountsOf}
 use Rattle.probes.specs.declared.Probe.{Probe}
 use Rattle.probes.specs.Calls.{treesNear}
 use Rattle.columns.specs.Calls.{partToColumns, columnsToPart}
-use Rattle.brick.specs.Calls.{writeBrickOf}
+use Rattle.brick.specs.Calls.{brickLengthOf, writeBrickOf}
+use Rattle.faults.specs.declared.answer.Fault.{Fault}
+use Rattle.faults.specs.Calls.{meshFaultOf}
+use Rattle.table_fault.specs.Calls.{tableFaultOf}
+use Rattle.part_fault.specs.Calls.{partFaultOf}
 use Rattle.pattern.specs.declared.Ranks.{Ranks}
 use lib.IntN.{pos}
 use Rattle.pattern.specs.Sets.{sendsTo}
-use Rattle.build_all.specs.Calls.{buildAllOf}
+use Rattle.build_all.specs.Calls.{buildAllLengthOf, buildAllOf}
+use Rattle.deliver_all.specs.Messages.{messagesIn, areaAfterEach}
 use Rattle.deliver_all.specs.Calls.{deliverAllOf}
-use Rattle.pattern.specs.Calls.{sendSetOf, receiveSetOf}
+use Rattle.pattern.specs.Calls.{senderOf, treesSent, sendSetOf, receiveSetOf}
 use Rattle.part.specs.Part.{partSound}
-use Rattle.part_cut.specs.Calls.{cutPartOf}
+use Rattle.part_cut.specs.Calls.{partLengthOf, cutPartOf}
+use Rattle.part_neighbour.specs.declared.link.NeighbourAnswer.{NeighbourAnswer}
+use Rattle.part_neighbour.specs.Neighbour.{flatAnswer}
+use Rattle.part_neighbour.specs.Calls.{neighbourAnswer}
 use Rattle.message.specs.Layout.{messageSender}
-use Rattle.message.specs.Calls.{buildMessageOf}
+use Rattle.message.specs.Calls.{readingOf, messageLengthOf, buildMessageOf}
+use Rattle.message_reader.specs.Handing.{beginOf}
 use Rattle.area.specs.Area.{areaRank, areaNew, heard}
-use Rattle.area_open.specs.Calls.{openAreaOf}
+use Rattle.area_open.specs.Calls.{areaLengthOf, openAreaOf, progressOf}
 use Rattle.area.specs.Deliver.{deliverOf}
-use Rattle.area.specs.Close.{allHeard, joinedPart, closeOf}
+use Rattle.area.specs.Close.{allHeard, joinedPart, closeLengthOf, closeOf}
 
 -- what is refused leaves the lent buffer as it was, and the other field is 0
 abbrev pub Unchanged : Length × List ℕ → List ℕ → Type 0
@@ -38,6 +50,7 @@ Unchanged answer out = (answer .0 .refusal ≡ 0 → ⊥) → (answer .0 .length
 abbrev pub SetUnchanged : Ranks × List ℕ → List ℕ → Type 0
 SetUnchanged answer out = (answer .0 .refusal ≡ 0 → ⊥) → (answer .0 .count ≡ 0) × (answer .0 .smallest ≡ pos 0) × (answer .0 .largest ≡ pos 0) × (answer .1 ≡ out)
 
+-- the calls that write
 pub record RefusedUnchanged : Type 0 where
   pub write-table : (P : ℕ) (first count out : List ℕ) → Unchanged (writeTable P first count out) out
   pub table-from-leaves : (P : ℕ) (ls out : List ℕ) → Unchanged (tableFromLeaves P ls out) out
@@ -64,11 +77,55 @@ pub record RefusedUnchanged : Type 0 where
   pub part-to-columns : (part table : List ℕ) (rank : ℕ) (out : List ℕ) → Unchanged (partToColumns part table rank out) out
   pub columns-to-part : (file table : List ℕ) (rank : ℕ) (out : List ℕ) → Unchanged (columnsToPart file table rank out) out
 
+-- what is refused has zeros in its other fields: a length, a range, a fault, what stands across a face
+abbrev pub LengthZero : Length → Type 0
+LengthZero a = (a .refusal ≡ 0 → ⊥) → a .length ≡ 0
+
+abbrev pub RangeZero : Range → Type 0
+RangeZero a = (a .refusal ≡ 0 → ⊥) → (a .first ≡ 0) × (a .count ≡ 0)
+
+abbrev pub FaultZero : Fault → Type 0
+FaultZero a = (a .refusal ≡ 0 → ⊥) → (a .fault ≡ 0) × (a .kind ≡ 0) × (a .at ≡ 0) × (a .face ≡ 0)
+
+abbrev pub NeighbourZero : NeighbourAnswer → Type 0
+NeighbourZero a = (a .refusal ≡ 0 → ⊥) → (a .shape ≡ 0) × (a .kind ≡ 0) × (a .index ≡ 0) × (a .face ≡ 0) × (a .orientation ≡ 0)
+
+-- the calls that write nothing and answer more than a refusal
+pub record RefusedZero : Type 0 where
+  pub table-range : (table : List ℕ) (p : ℕ) → RangeZero (tableRange table p)
+  pub table-length : (P : ℕ) → LengthZero (tableLengthAnswer P)
+  pub sender-of : (old new : List ℕ) (k q : ℕ) → (senderOf old new k q .refusal ≡ 0 → ⊥) → senderOf old new k q .sender ≡ pos 0
+  pub trees-sent : (old new : List ℕ) (p q : ℕ) → RangeZero (treesSent old new p q)
+  pub brick-length : (a b c : ℕ) → LengthZero (brickLengthOf a b c)
+  pub part-length : (mesh table : List ℕ) (rank : ℕ) → LengthZero (partLengthOf mesh table rank)
+  pub table-fault : (table : List ℕ) → FaultZero (tableFaultOf table)
+  -- this call refuses nothing
+  pub mesh-fault : (mesh : List ℕ) → meshFaultOf mesh .refusal ≡ 0
+  pub part-fault : (part table : List ℕ) (rank : ℕ) → FaultZero (partFaultOf part table rank)
+  pub neighbour-of : (part table : List ℕ) (rank i f : ℕ) → NeighbourZero (flatAnswer (neighbourAnswer part table rank i f))
+  pub begin-reading : (m : List ℕ) → LengthZero (readingOf m)
+  -- the reader then stands over no byte, at place 0
+  pub begin : (m : List ℕ) → (beginOf m .0 .refusal ≡ 0 → ⊥) → (beginOf m .0 .length ≡ 0) × (beginOf m .1 .0 ≡ []) × (beginOf m .1 .1 ≡ 0)
+  pub message-length : (part old new : List ℕ) (p q : ℕ) → LengthZero (messageLengthOf part old new p q)
+  pub build-all-length : (part old new : List ℕ) (p : ℕ) → (buildAllLengthOf part old new p .refusal ≡ 0 → ⊥)
+      → (buildAllLengthOf part old new p .count ≡ 0) × (buildAllLengthOf part old new p .length ≡ 0)
+  pub area-length : (old new : List ℕ) (rank dimension : ℕ) → LengthZero (areaLengthOf old new rank dimension)
+  pub progress-of : (area : List ℕ) → (progressOf area .refusal ≡ 0 → ⊥) → (progressOf area .heard ≡ 0) × (progressOf area .due ≡ 0)
+  pub part-of-area-length : (area : List ℕ) → LengthZero (closeLengthOf area)
+  pub count-leaves : (shape : ℕ) (bits : List ℕ) → (countLeaves shape bits .refusal ≡ 0 → ⊥)
+      → (countLeaves shape bits .upright ≡ 0) × (countLeaves shape bits .inverted ≡ 0) × (countLeaves shape bits .leaves ≡ 0)
+  pub triangle-length : (text : List ℕ) → LengthZero (triangleLength text)
+
 -- "nothing for you", "already heard" and "not all heard" hold only where the tables and bits say so
 pub record RefusalsMean : Type 0 where
   pub nothing-for-you : (part old new : List ℕ) (p q epoch : ℕ) (out : List ℕ) → buildMessageOf part old new p q epoch out .0 .refusal ≡ 9 → sendsTo old new p q ≡ false
+  pub nothing-to-measure : (part old new : List ℕ) (p q : ℕ) → messageLengthOf part old new p q .refusal ≡ 9 → sendsTo old new p q ≡ false
   pub already-heard : (area m : List ℕ) → deliverOf area m .0 ≡ 15 → heard area (messageSender m) ≡ true
+  -- of the list that deliver_all writes: entry i is about message i and the area as the messages before it left it
+  pub already-heard-listed : (area bs answers : List ℕ) (i : ℕ) → i < deliverAllOf area bs answers .0 .count → getD (deliverAllOf area bs answers .1 .1) i 0 ≡ 15
+      → heard (areaAfterEach area (take i (messagesIn bs))) (messageSender (getD (messagesIn bs) i [])) ≡ true
   pub not-all-heard : (area out : List ℕ) → closeOf area out .0 .refusal ≡ 20 → allHeard area ≡ false
+  pub not-all-heard-to-measure : (area : List ℕ) → closeLengthOf area .refusal ≡ 20 → allHeard area ≡ false
 
 -- what an accepted close writes is a part that is sound for the area's new table and its rank; 21 says that the part to write isn't
 pub record ClosesSound : Type 0 where

@@ -2,22 +2,15 @@
 use Prim.Native.Nat.{ℕ, zero, suc, _+_}
 use mathlib.Core.Bool.{Bool, cond, _&&_}
 use mathlib.Core.List.{List, [], _++_}
-use lib.ListN.{replicate}
 use Rattle.encoding.specs.Below.{countBelow}
-use Rattle.offsets.specs.Table.{firstTree}
-use Rattle.pattern.specs.Sender.{sender}
-use Rattle.records.specs.Record.{treeSize}
-use Rattle.mesh.specs.Mesh.{meshDimension, meshTrees, meshCore, meshRecord}
+use Rattle.mesh.specs.Mesh.{meshDimension, meshTrees, meshCore}
 use Rattle.part.specs.Ghosts.{isGhost}
 use Rattle.message.specs.Rule.{ghostSender}
 use Rattle.area.specs.Layout.{areaWith}
 use Rattle.repartition.specs.Run.{Run}
+use Rattle.repartition.specs.Words.{slotHeard}
 
 module _ (run : Run) where
-  -- tree slot i: the mesh's record if its sender is heard, else zero
-  unfoldable pub slotHeard : (ℕ → Bool) → ℕ → List ℕ
-  slotHeard H i = cond (H (sender (run .old) (firstTree (run .new) (run .rank) + i) (run .rank))) (meshRecord (run .mesh) (firstTree (run .new) (run .rank) + i)) (replicate treeSize 0)
-
   -- g is a ghost of the rank under the new table, and its one sender is heard
   unfoldable pub ghostHeard : (ℕ → Bool) → ℕ → Bool
   ghostHeard H g = isGhost (meshCore (run .mesh)) (run .new) (run .rank) g && H (ghostSender (meshCore (run .mesh)) (run .old) (run .new) (run .rank) g)
@@ -30,4 +23,4 @@ module _ (run : Run) where
   -- the area
   unfoldable pub canonical : (ℕ → Bool) → List ℕ
   canonical H =
-      areaWith (run .epoch) (meshDimension (run .mesh)) (run .old) (run .new) (run .rank) H (slotHeard H) (countBelow (meshTrees (run .mesh)) (ghostHeard H)) (ghostsHeard H (meshTrees (run .mesh)))
+      areaWith (run .epoch) (meshDimension (run .mesh)) (run .old) (run .new) (run .rank) H (slotHeard run H) (countBelow (meshTrees (run .mesh)) (ghostHeard H)) (ghostsHeard H (meshTrees (run .mesh)))

@@ -36,7 +36,8 @@ use Rattle.area.specs.Layout.{slotsOf}
 use Rattle.area.specs.Area.{areaDimension, areaRank, areaGhosts, areaOld, areaNew, heard, treeSlot, ghostSlot}
 use Rattle.area.specs.Close.{allHeard, joinIndex, joinedPart, closeChecks, closeOf}
 use Rattle.area_theorems.proofs.Zones.{Reads}
-use Rattle.repartition.proofs.Canonical.{slotHeard, ghostHeard, ghostsHeard, canonical}
+use Rattle.repartition.specs.Words.{slotHeard}
+use Rattle.repartition.proofs.Canonical.{ghostHeard, ghostsHeard, canonical}
 use Rattle.repartition.specs.Run.{Run, Setting}
 use Rattle.repartition.specs.Lists.{allDue}
 use Rattle.repartition.proofs.Receive.{InReceive}

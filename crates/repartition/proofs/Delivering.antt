@@ -32,7 +32,8 @@ use Rattle.area.specs.Layout.{ghostBound, areaWith}
 use Rattle.area.specs.Area.{areaRank, areaGhosts, heard, ghostSlot, areaBound, areaSound}
 use Rattle.area.specs.Deliver.{among, oneOf, sameRun, senderDue, treesDue, besideTrees, ghostDue, ghostNew, deliverChecks, slotAfter, ghostsAfter, delivered, deliverOf}
 use Rattle.area_theorems.proofs.Zones.{Reads, dimension-small, area-same}
-use Rattle.repartition.proofs.Canonical.{slotHeard, ghostHeard, ghostsHeard, canonical}
+use Rattle.repartition.specs.Words.{slotHeard}
+use Rattle.repartition.proofs.Canonical.{ghostHeard, ghostsHeard, canonical}
 use Rattle.repartition.specs.Run.{Run, Setting}
 use Rattle.repartition.specs.Lists.{deliver, Built, hears}
 use Rattle.repartition.proofs.Receive.{InReceive, built-due}

@@ -27,7 +27,8 @@ use Rattle.message.proofs.Ghosts.{tree-one-message, ghost-one-message}
 use Rattle.area_open.specs.Calls.{openChecks, openAreaOf}
 use Rattle.area.specs.Open.{freshArea}
 use Rattle.area_theorems.proofs.Zones.{area-length}
-use Rattle.repartition.proofs.Canonical.{slotHeard, ghostHeard, ghostsHeard, canonical}
+use Rattle.repartition.specs.Words.{slotHeard}
+use Rattle.repartition.proofs.Canonical.{ghostHeard, ghostsHeard, canonical}
 use Rattle.encoding.specs.declared.answer.Length.{Length}
 use Rattle.pattern.specs.Calls.{tableChecks}
 use Rattle.mesh.proofs.Soundness.{header-parts, sound-header}
@@ -110,7 +111,7 @@ module _ (run : Run) (S : Setting run) where
         ap (λ (a : List ℕ). areaAfterAll run a cs) (open-start b long)
         ∙ after-all run S steps cs built none (nobody-receive run) rest
 
-    area-is : take (size run) (bytesAfter run b cs) ≡ canonical run (heardBy run cs)
+    pub area-is : take (size run) (bytesAfter run b cs) ≡ canonical run (heardBy run cs)
     area-is = ap (take (size run)) state-after ∙ take-at (canonical run (heardBy run cs)) rest _ (canonical-long (heardBy run cs))
 
     behind-is : drop (size run) (bytesAfter run b cs) ≡ rest

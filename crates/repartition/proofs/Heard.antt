@@ -32,7 +32,8 @@ use Rattle.area_theorems.proofs.Zones.{Zones, Reads, few-ranks, range-end, area
 use Rattle.area.proofs.Headers.{words-enough}
 use Rattle.area_theorems.proofs.Kept.{ghostAt}
 use Rattle.area_theorems.proofs.Sound.{Held, zeros-zero, area-sound}
-use Rattle.repartition.proofs.Canonical.{slotHeard, ghostHeard, ghostsHeard, canonical}
+use Rattle.repartition.specs.Words.{slotHeard}
+use Rattle.repartition.proofs.Canonical.{ghostHeard, ghostsHeard, canonical}
 use Rattle.repartition.specs.Run.{Run, Setting}
 use Rattle.repartition.specs.Lists.{nobody}
 use Rattle.repartition.proofs.Receive.{InReceive}

@@ -44,7 +44,8 @@ use Rattle.area_theorems.proofs.Joined.{slots-same}
 use Rattle.repartition.specs.Run.{Run, Setting}
 use Rattle.repartition.specs.Lists.{Call, deliver, close, AllBuilt, opened, answersOf, hears, hearsAll, nobody, allDue, due, dueAll, newPart}
 use Rattle.repartition.specs.Demand.{size, heardBy, bytesAfter, closeAfter}
-use Rattle.repartition.proofs.Canonical.{slotHeard, ghostHeard, ghostsHeard, canonical}
+use Rattle.repartition.specs.Words.{slotHeard}
+use Rattle.repartition.proofs.Canonical.{ghostHeard, ghostsHeard, canonical}
 use Rattle.repartition.proofs.Demand.{state-after, answers-are, close-is, demand-3}
 use Rattle.repartition.specs.TreeData.{dataPlace, dataAt, dataOf, SameBut, PartsDiffer, MeshesDiffer, unsent, PieceHidden, UnsentHidden, DataUnread, withMesh, outsideNew, SameAfter, OutsideHidden}
 

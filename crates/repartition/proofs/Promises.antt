@@ -46,7 +46,7 @@ use Rattle.message_reader.specs.Handing.{beginOf, begunSeen}
 use Rattle.message_reader.specs.declared.Begun.{Begun}
 use Rattle.message_reader.proofs.Whole.{reads-records, reads-bytes, reads-remains, reads-end, reads-refused, reads-nothing}
 use Rattle.repartition.specs.Lists.{Built}
-use Rattle.repartition.specs.Promises.{BecomesTable, OneTable, OnlyValid, TableAgain, SharedFirst, LeafTables, Received, SetsAscend, CutParts, Messages, BuiltInLayout, ReadsMessages, TreeOneMessage, GhostOneMessage, Demand2}
+use Rattle.repartition.specs.Promises.{BecomesTable, OneTable, OnlyValid, TableAgain, SharedFirst, LeafTables, Received, SetsAscend, SetsEnd, CutParts, Messages, BuiltInLayout, ReadsMessages, TreeOneMessage, GhostOneMessage, Demand2}
 use Rattle.repartition.proofs.Building.{own-record, build-answer}
 use Rattle.repartition.proofs.PartMessages.{part-in-layout}
 use Rattle.repartition.proofs.RuleMessages.{trees-in, goes-in, follows-rule}
@@ -166,6 +166,9 @@ received old new T q l =
 pub sets-ascend : SetsAscend
 sets-ascend old new rank = ((λ i j. send-ascends old new rank i j 0), (λ i j. receive-ascends old new rank i j 0))
 
+pub sets-end : SetsEnd
+sets-end old new rank = (send-ends old new rank, receive-ends old new rank)
+
 -- ---- parts
 
 mesh-passes : (mesh : List ℕ) → meshRefusal mesh ≡ 0 → meshSound mesh ≡ true
@@ -264,7 +267,7 @@ demand-2 =
       one-range = one-range;
       received = received;
       sets-ascend = sets-ascend;
-      sets-end = λ old new rank. (send-ends old new rank, receive-ends old new rank);
+      sets-end = sets-end;
       plan-texts = plan-texts;
       plan-moves = moves-printed;
       cut-parts = cut-parts;

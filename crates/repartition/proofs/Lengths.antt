@@ -118,11 +118,11 @@ module _ (part old new : List ℕ) (p : ℕ) where
   unfolding allMessages
   all-epochs e f = joined-epochs (sendSet old new p) e f
 
-  all-numbered : numbered (buildAllChecks part old new p) ≡ true
+  pub all-numbered : numbered (buildAllChecks part old new p) ≡ true
   unfolding numbered buildAllChecks tableChecks
   all-numbered = refl
 
-messages-refusal : (r c n : ℕ) → messagesAnswer r c n .refusal ≡ r
+pub messages-refusal : (r c n : ℕ) → messagesAnswer r c n .refusal ≡ r
 unfolding messagesAnswer
 messages-refusal r c n = either (eqb r 0) (λ t. rw t (sym (eqb-true r 0 t))) (λ t. rw t)
 

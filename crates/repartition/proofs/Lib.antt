@@ -21,4 +21,5 @@ pub mod Lengths
 pub mod Words
 pub mod Deliveries
 pub mod Regions
+pub mod AllMessages
 pub mod TreeData

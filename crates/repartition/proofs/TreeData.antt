@@ -3,40 +3,57 @@ use Prim.Native.Nat.{ℕ, zero, suc, _+_, _-_, _*_, _≤_, _<_}
 use native.Mathlib.Nat.{zero-add, add-zero, le-refl}
 use native.Mathlib.Omega.{arith}
 use mathlib.Core.Path.{_≡_, refl, sym, ap, ap₂, fun-ext, _∙_}
-use mathlib.Core.Bool.{Bool, true, false, not, _&&_, and-false}
+use mathlib.Core.Bool.{Bool, true, false, cond, not, _&&_, and-false}
 use mathlib.Core.List.{List, [], _∷_, _++_}
 use lib.Dec.{leb, ltb, eqb}
-use lib.ListN.{length, getD, take, drop, length-take, length-drop}
+use lib.ListN.{length, getD, take, drop, length-append, length-take, length-drop}
 use lib.Seq.{ext-getD}
 use borrow.Author.Tests.{ltb-true, leb-true, eqb-true, ne-eqb, eq-eqb, le-leb, lt-ltb}
 use Rattle.encoding.specs.Pieces.{piece, splice, Bytes}
-use Rattle.encoding.proofs.Below.{either, clash, and-fst, and-snd, and-intro, any-intro, any-none, count-same}
+use Rattle.encoding.proofs.Below.{either, clash, and-fst, and-snd, and-intro, any-intro, any-none, sum-same, count-same}
 use Rattle.encoding.specs.Numbers.{leAt}
 use Rattle.encoding.proofs.Pieces.{piece-most, piece-at, length-splice}
+use Rattle.records.specs.Shape.{facesIn}
 use Rattle.records.specs.Record.{coreSize, treeSize, regionLimit, regionOf}
 use Rattle.records.proofs.Forms.{at-agree}
 use Rattle.records.proofs.Rows.{splice-get}
 use Rattle.encoding.specs.Answer.{lengthAnswer, written, writeAnswer}
 use Rattle.encoding.specs.Refusal.{check, firstFailed}
 use Rattle.offsets.specs.Table.{ranks, ranksOk, trees, valid, firstTree, endTree, treeCount, holds}
-use Rattle.pattern.specs.Sender.{Tables, sends}
+use Rattle.pattern.specs.Sender.{Tables}
+use Rattle.pattern.specs.Sets.{sendsTo}
 use Rattle.pattern.specs.Calls.{tableChecks}
 use Rattle.pattern.proofs.Answers.{tables-agree}
 use Rattle.part.specs.Layout.{partHeader, treePlace, ghostPlace}
-use Rattle.part.specs.Part.{partFirst, partCount, storedTree, storedGhost, partSound}
+use Rattle.part.specs.View.{View}
+use Rattle.part.specs.Part.{partDimension, partK, partFirst, partCount, partGhostCount, storedTree, storedGhost, globalTree, viewOf, partHeaderSound, partSound}
+use Rattle.part.specs.Checks.{rankChecks}
+use Rattle.faults.specs.Answer.{wrong, faultAt, firstFault}
+use Rattle.faults.specs.Calls.{faultAnswer}
+use Rattle.part_fault.specs.Wrong.{wrongIn}
+use Rattle.part_fault.specs.Calls.{partHeaded, partFaultOf}
+use Rattle.columns_read.specs.Columns.{partColumns}
+use Rattle.columns_check.proofs.Turned.{columns-length}
+use Rattle.columns.specs.Calls.{toColumnsRefusal, partToColumns}
 use Rattle.part_check.specs.Calls.{partRefusal}
 use Rattle.part_neighbour.specs.Neighbour.{linkOf}
 use Rattle.part_neighbour.specs.Calls.{neighbourChecks, neighbourAnswer}
-use Rattle.part_theorems.proofs.SoundParts.{part-header, part-cores, first-same}
+use Rattle.part_theorems.proofs.SoundParts.{part-header, dimension-same, first-same, index-same, part-cores}
 use Rattle.regions.specs.Counts.{valuesBelow, regionCount, regionCounts}
 use Rattle.regions.specs.Calls.{regionsRefusal, regionCountsOf}
 use Rattle.message.specs.Build.{partMessage}
 use Rattle.message.specs.Calls.{buildChecks, messageLengthOf, buildMessageOf}
+use Rattle.build_all.specs.Messages.{allMessages}
+use Rattle.build_all.specs.Means.{messageTo, messagesBelow}
+use Rattle.build_all.specs.Calls.{buildAllChecks, messagesAnswer, buildAllLengthOf, buildAllRefusal, buildAllOf}
+use Rattle.build_all.proofs.Rows.{messages-are}
 use Rattle.repartition.proofs.Checks.{first-stays, pass-first}
+use Rattle.repartition.proofs.Lengths.{messages-refusal}
+use Rattle.repartition.proofs.AllMessages.{piece-is-message}
 use Rattle.repartition.proofs.PartMessages.{sent-own, length-cores, message-data}
 use Rattle.encoding.specs.declared.answer.Length.{Length}
 use Rattle.mesh.specs.Mesh.{meshHeader, meshDimension, meshTrees, meshCore, meshRecord}
-use Rattle.part.specs.Cut.{localIndex, partTree, partTrees, partGhosts, ghostCount, cutPart}
+use Rattle.part.specs.Cut.{renamed, localIndex, partTree, partTrees, partGhosts, ghostCount, cutPart}
 use Rattle.part_theorems.proofs.CutSound.{holds-range}
 use Rattle.area.specs.Layout.{areaWith}
 use Rattle.area_open.specs.Calls.{openAreaOf}
@@ -47,7 +64,7 @@ use Rattle.repartition.specs.Demand.{size, heardBy, bytesAfter, closeAft
 use Rattle.repartition.specs.Words.{slotHeard}
 use Rattle.repartition.proofs.Canonical.{ghostHeard, ghostsHeard, canonical}
 use Rattle.repartition.proofs.Demand.{state-after, answers-are, close-is, demand-3}
-use Rattle.repartition.specs.TreeData.{dataPlace, dataAt, dataOf, SameBut, PartsDiffer, MeshesDiffer, unsent, PieceHidden, UnsentHidden, DataUnread, withMesh, outsideNew, SameAfter, OutsideHidden}
+use Rattle.repartition.specs.TreeData.{dataPlace, dataAt, dataOf, SameBut, PartsDiffer, MeshesDiffer, unsent, placeTo, pieceTo, SameAnswers, DataUnread, UnsentHidden, withMesh, outsideNew, OutsideHidden}
 
 -- ---- bytes that may differ
 
@@ -145,6 +162,44 @@ checks-passed part old new p q bo bn e =
       sound = c8 .0;
     }
 
+checks-sent : (part old new : List ℕ) (p q : ℕ) → firstFailed (buildChecks part old new p q) ≡ 0 → sendsTo old new p q ≡ true
+unfolding buildChecks tableChecks firstFailed
+checks-sent part old new p q e =
+    let c2 = pass-first (ranksOk old && ranksOk new) _ 1 e in
+    let c3 = pass-first (valid old && valid new) _ 2 (c2 .1) in
+    let c4 = pass-first (eqb (ranks old) (ranks new) && eqb (trees old) (trees new)) _ 3 (c3 .1) in
+    let c5 = pass-first (ltb p (ranks old) && ltb q (ranks old)) _ 4 (c4 .1) in
+    let c8 = pass-first (partSound part old p) _ 7 (c5 .1) in
+    pass-first (sendsTo old new p q) 0 8 (c8 .1) .0
+
+none-measured : (part old new : List ℕ) (p q : ℕ) → (firstFailed (buildChecks part old new p q) ≡ 0 → ⊥) → messageLengthOf part old new p q .length ≡ 0
+unfolding messageLengthOf lengthAnswer
+none-measured part old new p q z = rw (ne-eqb _ 0 z)
+
+-- and what a build_all that declines nothing has
+record AllPassed (part old new : List ℕ) (p : ℕ) : Type 0 where
+  tables : Tables old new
+  sender-below : p < ranks old
+  sound : partSound part old p ≡ true
+
+all-checks-passed : (part old new : List ℕ) (p : ℕ) → Bytes old → Bytes new → firstFailed (buildAllChecks part old new p) ≡ 0 → AllPassed part old new p
+unfolding buildAllChecks tableChecks firstFailed
+all-checks-passed part old new p bo bn e =
+    let c2 = pass-first (ranksOk old && ranksOk new) _ 1 e in
+    let c3 = pass-first (valid old && valid new) _ 2 (c2 .1) in
+    let c4 = pass-first (eqb (ranks old) (ranks new) && eqb (trees old) (trees new)) _ 3 (c3 .1) in
+    let c5 = pass-first (ltb p (ranks old)) _ 4 (c4 .1) in
+    let c8 = pass-first (partSound part old p) _ 7 (c5 .1) in
+    record {
+      tables = tables-agree old new (firstFailed (tableChecks old new)) refl bo bn (rw (c2 .0, c3 .0, c4 .0));
+      sender-below = ltb-true _ _ (c5 .0);
+      sound = c8 .0;
+    }
+
+messages-where : (refusal count n m : ℕ) → (refusal ≡ 0 → n ≡ m) → messagesAnswer refusal count n ≡ messagesAnswer refusal count m
+unfolding messagesAnswer
+messages-where refusal count n m same = either (eqb refusal 0) (λ t. rw (same (eqb-true refusal 0 t))) (λ t. rw t)
+
 module _ (a b : List ℕ) (test : ℕ → Bool) (same : PartsDiffer test a b) where
   header-same : piece a 0 partHeader ≡ piece b 0 partHeader
   header-same = front-same partHeader (partFirst a) (partCount a) test a b same 0 partHeader (omega arith)
@@ -187,6 +242,58 @@ module _ (a b : List ℕ) (test : ℕ → Bool) (same : PartsDiffer test a b) wh
   region-counts-same : (table : List ℕ) (rank : ℕ) (out : List ℕ) → regionCountsOf a table rank out ≡ regionCountsOf b table rank out
   unfolding regionCountsOf regionsRefusal
   region-counts-same table rank out = rw (sound-same table rank, regions-same)
+
+  -- ---- the first fault
+
+  ghosts-is : partGhostCount a ≡ partGhostCount b
+  unfolding partGhostCount
+  ghosts-is = word-same partHeader (partFirst a) (partCount a) test a b same 4 24 (omega arith)
+
+  global-same : (t : ℕ) → globalTree a t ≡ globalTree b t
+  unfolding globalTree
+  global-same t =
+      rw (dimension-same a b header-same, tree-same t)
+      (ap (λ (rename : ℕ → ℕ). renamed rename (facesIn (partDimension b)) (storedTree b t)) (fun-ext (index-same a b header-same (λ i h. tree-same i) (λ j h. ghost-same j))))
+
+  -- the two parts say the same
+  view-same : viewOf a ≡ viewOf b
+  unfolding partK
+  view-same = λ i.
+      record {
+        dimension = dimension-same a b header-same i;
+        K = word-same partHeader (partFirst a) (partCount a) test a b same 4 4 (omega arith) i;
+        first = first-same a b header-same i;
+        n = count-is i;
+        g = ghosts-is i;
+        stored = fun-ext tree-same i;
+        tree = fun-ext global-same i;
+        ghost = fun-ext ghost-same i;
+      }
+
+  headed-same : (table : List ℕ) (rank : ℕ) → partHeaded a table rank ≡ partHeaded b table rank
+  unfolding partHeaderSound partK
+  headed-same table rank =
+      let w : (off : ℕ) → off + 4 ≤ partHeader → leAt 4 a off ≡ leAt 4 b off = word-same partHeader (partFirst a) (partCount a) test a b same 4 in
+      rw (dimension-same a b header-same, w 4 (omega arith), w 8 (omega arith), w 12 (omega arith), first-same a b header-same, count-is, w 28 (omega arith), same .same-length, ghosts-is)
+
+  fault-same : (table : List ℕ) (rank : ℕ) → partFaultOf a table rank ≡ partFaultOf b table rank
+  unfolding partFaultOf
+  fault-same table rank =
+      ap₂ (λ (h : Bool) (v : View). faultAnswer (firstFailed (rankChecks table rank)) (cond h (firstFault 8 (v .n + v .g) (wrongIn v)) (faultAt 8 0 (wrong 6 0))))
+      (headed-same table rank) view-same
+
+  -- ---- columns
+
+  columns-long : length (partColumns a) ≡ length (partColumns b)
+  unfolding partColumns
+  columns-long =
+      simp (length-append, columns-length, piece-long a b (same .same-length) 0 partHeader, count-is, ghosts-is)
+
+  columns-same : (table : List ℕ) (rank : ℕ) (out : List ℕ) → partToColumns a table rank out .0 ≡ partToColumns b table rank out .0
+  unfolding partToColumns toColumnsRefusal writeAnswer
+  columns-same table rank out = rw (sound-same table rank, same .same-length, columns-long)
+
+  -- ---- messages
 
   module _ (old new : List ℕ) (p q : ℕ) (bo : Bytes old) (bn : Bytes new) where
     checks-same : buildChecks a old new p q ≡ buildChecks b old new p q
@@ -257,18 +364,89 @@ module _ (a b : List ℕ) (test : ℕ → Bool) (same : PartsDiffer test a b) wh
           (λ t. build-a ∙ ap (λ (m : List ℕ). writeAnswer (refusal m) m out) (equal (eqb-true refused 0 t)) ∙ build-b)
           (λ t. build-a ∙ refused-same (λ e. clash (eq-eqb refused 0 e) t) ∙ build-b)
 
-pub data-unread : DataUnread
-data-unread a b same =
-    let test : ℕ → Bool = λ k. true in
-    record {
-      check-part = check-same a b test same;
-      neighbour-of = neighbour-same a b test same;
-      region-counts = region-counts-same a b test same;
-      message-length = λ old new p q bo bn. message-length-same a b test same old new p q bo bn;
-      build-message = λ old new p q epoch out bo bn. answer-same a b test same old new p q bo bn epoch out;
-    }
+  -- ---- the messages to all receivers
 
-pub piece-hidden : PieceHidden
+  module _ (old new : List ℕ) (p : ℕ) (bo : Bytes old) (bn : Bytes new) where
+    all-checks-same : buildAllChecks a old new p ≡ buildAllChecks b old new p
+    unfolding buildAllChecks
+    all-checks-same = rw (sound-same old p)
+
+    abbrev refusedAll : ℕ
+    refusedAll = firstFailed (buildAllChecks b old new p)
+
+    module _ (epoch : ℕ) (ok : refusedAll ≡ 0) where
+      to-same : (q : ℕ) → q < ranks old → length (messageTo a old new p epoch q) ≡ length (messageTo b old new p epoch q)
+      unfolding messageTo
+      to-same q h =
+          let w = all-checks-passed b old new p bo bn ok in
+          either (sendsTo old new p q)
+          (λ t. rw t (length-cores a b old new p q (w .tables) (w .sender-below) h (sound-same old p ∙ w .sound) (w .sound) header-same (λ t h. tree-same t) (λ j h. ghost-same j) epoch))
+          (λ t. rw t)
+
+      below-long : (q : ℕ) → q ≤ ranks old → length (messagesBelow a old new p epoch q) ≡ length (messagesBelow b old new p epoch q)
+      unfolding messagesBelow
+      below-long zero h = refl
+      below-long (suc q) h =
+          length-append (messagesBelow a old new p epoch q) _ ∙ (ap₂ _+_ (below-long q (omega arith)) (to-same q (omega arith)) ∙ sym (length-append (messagesBelow b old new p epoch q) _))
+
+      all-long : length (allMessages a old new p epoch) ≡ length (allMessages b old new p epoch)
+      all-long = ap length (sym (messages-are a old new p epoch)) ∙ (below-long (ranks old) (le-refl _) ∙ ap length (messages-are b old new p epoch))
+
+    all-length-same : buildAllLengthOf a old new p ≡ buildAllLengthOf b old new p
+    unfolding buildAllLengthOf
+    all-length-same = rw all-checks-same (messages-where refusedAll _ _ _ (all-long 0))
+
+    module _ (epoch : ℕ) (out : List ℕ) where
+      abbrev refusalAll : List ℕ → ℕ
+      refusalAll m = firstFailed (buildAllChecks b old new p ++ (check (leb (length m) (length out)) 22 ∷ []))
+
+      abbrev all-a : List ℕ
+      all-a = allMessages a old new p epoch
+
+      abbrev all-b : List ℕ
+      all-b = allMessages b old new p epoch
+
+      refusal-is-a : buildAllRefusal a old new p epoch out ≡ refusalAll all-a
+      unfolding buildAllRefusal
+      refusal-is-a = rw all-checks-same
+
+      refusal-all : buildAllRefusal a old new p epoch out ≡ buildAllRefusal b old new p epoch out
+      unfolding buildAllRefusal
+      refusal-all =
+          refusal-is-a
+          ∙ either (eqb refusedAll 0)
+          (λ t. rw (all-long epoch (eqb-true refusedAll 0 t)))
+          (λ t. let z : refusedAll ≡ 0 → ⊥ = λ e. clash (eq-eqb refusedAll 0 e) t in first-stays (buildAllChecks b old new p) _ z ∙ sym (first-stays (buildAllChecks b old new p) _ z))
+
+      -- where it is accepted, none of the checks before 22 declined
+      accepted-all : buildAllRefusal b old new p epoch out ≡ 0 → refusedAll ≡ 0
+      unfolding buildAllRefusal
+      accepted-all e = either (eqb refusedAll 0) (λ t. eqb-true refusedAll 0 t) (λ t. let z : refusedAll ≡ 0 → ⊥ = λ e. clash (eq-eqb refusedAll 0 e) t in sym (first-stays (buildAllChecks b old new p) _ z) ∙ e)
+
+      all-same : buildAllOf a old new p epoch out .0 ≡ buildAllOf b old new p epoch out .0
+      unfolding buildAllOf
+      all-same = rw refusal-all (messages-where (buildAllRefusal b old new p epoch out) _ _ _ (λ e. all-long epoch (accepted-all e)))
+
+  answers-same : SameAnswers a b
+  answers-same =
+      record {
+        check-part = check-same;
+        part-fault = fault-same;
+        neighbour-of = neighbour-same;
+        region-counts = region-counts-same;
+        part-to-columns = columns-same;
+        message-length = message-length-same;
+        build-message = λ old new p q epoch out bo bn. answer-same old new p q bo bn epoch out;
+        build-all-length = all-length-same;
+        build-all = λ old new p epoch out bo bn. all-same old new p bo bn epoch out;
+      }
+
+pub data-unread : DataUnread
+data-unread a b same = answers-same a b (λ k. true) same
+
+-- the message's bytes, where it is built
+piece-hidden : (a b old new : List ℕ) (p q epoch : ℕ) → Bytes old → Bytes new → PartsDiffer (unsent old new p q) a b
+    → firstFailed (buildChecks b old new p q) ≡ 0 → partMessage a old new p q epoch ≡ partMessage b old new p q epoch
 unfolding unsent
 piece-hidden a b old new p q epoch bo bn same e =
     let test : ℕ → Bool = unsent old new p q in
@@ -285,12 +463,64 @@ piece-hidden a b old new p q epoch bo bn same e =
     ∙ ap (λ (n : ℕ). piece b (treePlace (k - n) + coreSize) 24) (first-same a b header))
     epoch
 
+-- the bytes for q in what build_all writes
+module _ (a b old new : List ℕ) (p q : ℕ) (bo : Bytes old) (bn : Bytes new) (same : PartsDiffer (unsent old new p q) a b) where
+  abbrev test : ℕ → Bool
+  test = unsent old new p q
+
+  lengths-to : (r : ℕ) → messageLengthOf a old new p r .length ≡ messageLengthOf b old new p r .length
+  lengths-to r = ap (λ (x : Length). x .length) (message-length-same a b test same old new p r bo bn)
+
+  place-same : placeTo a old new p q ≡ placeTo b old new p q
+  unfolding placeTo
+  place-same = sum-same q (λ r. messageLengthOf a old new p r .length) (λ r. messageLengthOf b old new p r .length) (λ r h. lengths-to r)
+
+  module _ (epoch : ℕ) (out : List ℕ) where
+    -- the same bytes, where both have the same buffer
+    same-buffer : buildAllOf a old new p epoch out .1 ≡ buildAllOf b old new p epoch out .1 → pieceTo a old new p q (buildAllOf a old new p epoch out .1) ≡ pieceTo b old new p q (buildAllOf b old new p epoch out .1)
+    unfolding pieceTo
+    same-buffer e = rw (e, place-same, lengths-to q)
+
+    -- refused, both leave the buffer
+    both-refused : (buildAllRefusal b old new p epoch out ≡ 0 → ⊥) → buildAllOf a old new p epoch out .1 ≡ buildAllOf b old new p epoch out .1
+    unfolding buildAllOf written
+    both-refused z = rw (refusal-all a b test same old new p bo bn epoch out, ne-eqb (buildAllRefusal b old new p epoch out) 0 z)
+
+    -- accepted, with no message for q, there are none
+    none-to : messageLengthOf b old new p q .length ≡ 0 → pieceTo a old new p q (buildAllOf a old new p epoch out .1) ≡ pieceTo b old new p q (buildAllOf b old new p epoch out .1)
+    unfolding pieceTo piece
+    none-to z = rw (lengths-to q, z)
+
+    accepted-of : (part : List ℕ) → buildAllRefusal part old new p epoch out ≡ 0 → buildAllOf part old new p epoch out .0 .refusal ≡ 0
+    unfolding buildAllOf
+    accepted-of part e = messages-refusal _ _ _ ∙ e
+
+    pieces-same : pieceTo a old new p q (buildAllOf a old new p epoch out .1) ≡ pieceTo b old new p q (buildAllOf b old new p epoch out .1)
+    pieces-same =
+        let R : ℕ = buildAllRefusal b old new p epoch out in
+        let r : ℕ = firstFailed (buildChecks b old new p q) in
+        either (eqb R 0)
+        (λ t.
+        let ok : R ≡ 0 = eqb-true R 0 t in
+        either (eqb r 0)
+        (λ u.
+        let built : r ≡ 0 = eqb-true r 0 u in
+        let w = checks-passed b old new p q bo bn built in
+        let sends = checks-sent b old new p q built in
+        piece-is-message a old new p q epoch out (accepted-of a (refusal-all a b test same old new p bo bn epoch out ∙ ok)) (w .receiver-below) sends
+        ∙ (piece-hidden a b old new p q epoch bo bn same built ∙ sym (piece-is-message b old new p q epoch out (accepted-of b ok) (w .receiver-below) sends)))
+        (λ u. none-to (none-measured b old new p q (λ e. clash (eq-eqb r 0 e) u))))
+        (λ t. same-buffer (both-refused (λ e. clash (eq-eqb R 0 e) t)))
+
 pub unsent-hidden : UnsentHidden
 unsent-hidden a b old new p q bo bn same =
-    let test : ℕ → Bool = unsent old new p q in (
-      message-length-same a b test same old new p q bo bn,
-      λ epoch out. build-same a b test same old new p q bo bn epoch out (piece-hidden a b old new p q epoch bo bn same),
-    )
+    let test : ℕ → Bool = unsent old new p q in
+    record {
+      build-message = λ epoch out. build-same a b test same old new p q bo bn epoch out (piece-hidden a b old new p q epoch bo bn same);
+      place = place-same a b old new p q bo bn same;
+      piece-for-q = pieces-same a b old new p q bo bn same;
+      answers = answers-same a b test same;
+    }
 
 -- ---- areas
 

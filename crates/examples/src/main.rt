@@ -253,8 +253,8 @@ fn show_found(f: lookup::Found) {
 }
 
 fn read_call(message: &[u8], place: u64) {
-    show_record(message_reader::read(message, place));
-    let f = message_reader::after(message, place);
+    show_record(message_reader::place::read(message, place));
+    let f = message_reader::place::after(message, place);
     word(f.remain);
     word(f.at);
 }
@@ -290,7 +290,7 @@ fn ask(op: u64, a: &[u8], b: &[u8], x: u32, y: u32, z: u32, place: u64) {
     } else if op == 20 {
         show_length(message::begin_reading(a));
     } else if op == 21 {
-        show_record(message::record_at(a, place));
+        show_record(message::place::record_at(a, place));
     } else if op == 22 {
         read_call(a, place);
     } else {

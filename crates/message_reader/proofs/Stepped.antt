@@ -26,7 +26,7 @@ use denote.Triple.Spec.{tripleOf}
 use denote.Triple.Clauses.{ensured, lasts}
 use Rattle.message.specs.Reading.{recordAt}
 use Rattle.message_reader.specs.Handing.{nextOf, stepSeen, followingOf}
-use Rattle.message_reader.specs.declared.Following.{Following}
+use Rattle.message_reader.specs.declared.place.Following.{Following}
 use Rattle.message_reader.specs.declared.Reader.{Reader}
 use Rattle.message_reader.specs.declared.Step.{Step}
 use Rattle.message_reader.proofs.Reader as T

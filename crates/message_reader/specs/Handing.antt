@@ -10,7 +10,7 @@ use Rattle.records.specs.Record.{treeSize}
 use Rattle.message.specs.Layout.{messageTreePlace, messageTrees, messageGhosts, messageGhost, inLayout}
 use Rattle.message.specs.Reading.{recordCount, recordAt, remainAfter}
 use Rattle.message.specs.Calls.{readingOf}
-use Rattle.message_reader.specs.declared.Following.{Following}
+use Rattle.message_reader.specs.declared.place.Following.{Following}
 use Rattle.message_reader.specs.declared.Begun.{Begun}
 use Rattle.message_reader.specs.declared.Reader.{Reader}
 use Rattle.message_reader.specs.declared.Step.{Step}

@@ -6,7 +6,7 @@ ghost use Rattle.message_reader.specs.Handing.{placeAfter, lentUnless};
 pub fn place_after(message: &[u8], i: u64) -> u64
     ensures { λ r. ⌜ r ≡ placeAfter (now (message .entry)) i ⌝ }
 {
-    if message::record_at(message, i).len() == 0 {
+    if message::place::record_at(message, i).len() == 0 {
         return i;
     }
     i + 1

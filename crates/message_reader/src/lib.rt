@@ -1,16 +1,16 @@
 // A reader over a lent message: it hands out the records one by one, trees first, then ghosts.
 // The borrow checker covers no function over such a struct: each takes it apart, calls functions that are covered, and is proved by a walk of its MIR.
 ghost use mathlib.Core.Path.{_≡_};
-ghost use Rattle.message.specs.Reading.{recordAt};
-ghost use Rattle.message_reader.specs.Handing.{beginOf, begunSeen, nextOf, stepSeen, followingOf};
+ghost use Rattle.message_reader.specs.Handing.{beginOf, begunSeen, nextOf, stepSeen};
 use encoding::answer::Length;
 
 mod cursor;
+pub mod place;
 
-// The lent message and the place of the next record.
+// The lent message and the place of the next record. Its fields are private, so that every reader of a caller comes from `begin`, over a message in layout or over no byte.
 pub struct Reader<'a> {
-    pub message: &'a [u8],
-    pub at: u64,
+    message: &'a [u8],
+    at: u64,
 }
 
 // A reader, and how many records it has or why the message is refused.
@@ -24,12 +24,6 @@ pub struct Step<'a> {
     pub piece: &'a [u8],
     pub remain: u64,
     pub reader: Reader<'a>,
-}
-
-// What follows a record: how many remain, and the next place.
-pub struct Following {
-    pub remain: u64,
-    pub at: u64,
 }
 
 // Make a reader (11).
@@ -53,8 +47,8 @@ pub fn next<'a>(reader: Reader<'a>) -> Step<'a>
 {
     let message = reader.message;
     let at = reader.at;
-    let piece = message::record_at(message, at);
-    let remain = message::remain_after(message, at);
+    let piece = message::place::record_at(message, at);
+    let remain = message::place::remain_after(message, at);
     let onward = cursor::place_after(message, at);
     Step {
         piece,
@@ -63,24 +57,5 @@ pub fn next<'a>(reader: Reader<'a>) -> Step<'a>
             message,
             at: onward,
         },
-    }
-}
-
-// The record at a place, for callers that hold no reader.
-pub fn read<'a>(message: &'a [u8], at: u64) -> &'a [u8]
-    ensures { λ r. ⌜ now r ≡ recordAt (now (message .entry)) at ⌝ }
-{
-    let step = next(Reader { message, at });
-    step.piece
-}
-
-// What follows it, for the same callers.
-pub fn after(message: &[u8], at: u64) -> Following
-    ensures { λ r. ⌜ r ≡ followingOf (now (message .entry)) at ⌝ }
-{
-    let step = next(Reader { message, at });
-    Following {
-        remain: step.remain,
-        at: step.reader.at,
     }
 }

@@ -43,14 +43,14 @@ use denote.Triple.Walked.{says, Stays, stay-none, walkOf, goes-none, Walks, ends
 use denote.Exit.{yes}
 use denote.Triple.Clauses.{ensured, lasts}
 use Rattle.message.specs.Reading.{recordAt, remainAfter}
-use Rattle.message.proofs.record_at as piece-of
-use Rattle.message.proofs.record_at.Symbol as piece-def
-use Rattle.message.proofs.record_at.Symbol.{name as #message·record-at}
-use Rattle.message.proofs.record_at.Met as piece-thm
-use Rattle.message.proofs.remain_after as remain
-use Rattle.message.proofs.remain_after.Symbol as remain-def
-use Rattle.message.proofs.remain_after.Symbol.{name as #message·remain-after}
-use Rattle.message.proofs.remain_after.Met as remain-thm
+use Rattle.message.proofs.place.record_at as piece-of
+use Rattle.message.proofs.place.record_at.Symbol as piece-def
+use Rattle.message.proofs.place.record_at.Symbol.{name as #message·place·record-at}
+use Rattle.message.proofs.place.record_at.Met as piece-thm
+use Rattle.message.proofs.place.remain_after as remain
+use Rattle.message.proofs.place.remain_after.Symbol as remain-def
+use Rattle.message.proofs.place.remain_after.Symbol.{name as #message·place·remain-after}
+use Rattle.message.proofs.place.remain_after.Met as remain-thm
 use Rattle.message_reader.specs.Handing.{placeAfter, nextOf, stepSeen}
 use Rattle.message_reader.specs.declared.Reader.{Reader}
 use Rattle.message_reader.specs.declared.Step.{Step}
@@ -173,7 +173,7 @@ module _ {M : Type 1} (𝓤 : URA M) (H : Heap 𝓤) (A : Atoms 𝓤) (W : Given
       nothing ! $ move ! (1 ∷ 0 ∷ []) $ fjoin ! $ owned ! u64 (Is u64) (uint-makes 𝓤 H A W w64) n _ (refl, n-fits) $ fjoin ! $ move ! (1 ∷ 0 ∷ []) $ fjoin ! $
       by ! (own-shut 𝓤 H A W (S.the-type (namedLft 1 0 tt (κ, tt))) (S′.the-laws (namedLft 1 0 tt (κ, tt))) (p, (n, (made d p n k .reader, tt))))
 
-  module _ (C : Calls 𝓤 H) (Λ : Loops 𝓤 H) (fm : FmC 𝓤 H (W .laws) C) (known-piece : Triple 𝓤 (C #message·record-at) (RecordAt 𝓤 H A mem run)) (known-remain : Triple 𝓤 (C #message·remain-after) (RemainAfter 𝓤 H A mem run)) (known-place : Triple 𝓤 (C #message-reader·cursor·place-after) (PlaceAfter 𝓤 H A mem run)) where
+  module _ (C : Calls 𝓤 H) (Λ : Loops 𝓤 H) (fm : FmC 𝓤 H (W .laws) C) (known-piece : Triple 𝓤 (C #message·place·record-at) (RecordAt 𝓤 H A mem run)) (known-remain : Triple 𝓤 (C #message·place·remain-after) (RemainAfter 𝓤 H A mem run)) (known-place : Triple 𝓤 (C #message-reader·cursor·place-after) (PlaceAfter 𝓤 H A mem run)) where
     walk : Holds (hasTy (T′.mir (named 0)) mach) × WT mach → ent 𝓤 (onEntry 𝓤 H A next.signature (κ, tt) (q, tt) (d, tt) (mach ∷ [], tt)) (WpFn 𝓤 H C Λ code.function (mach ∷ []) Post)
     walk wt =
         qed W (raw (onEntry 𝓤 H A next.signature (κ, tt) (q, tt) (d, tt) (mach ∷ [], tt)) ∷ []) ∵ enter ! C Λ code.function (mach ∷ []) _ $
@@ -213,13 +213,13 @@ module _ {M : Type 1} (𝓤 : URA M) (H : Heap 𝓤) (A : Atoms 𝓤) (W : Given
         by ! (exits r n k (is₂ .1) (is₃ .1) (step-is d r n k e f g))))))))))))))))))))))
 
 module _ {M : Type 1} (𝓤 : URA M) (H : Heap 𝓤) (A : Atoms 𝓤) (W : Given 𝓤 H A) (mem : Memory → SProp 𝓤) (run : Routine → Fun 𝓤) where
-  next-walks : (C : Calls 𝓤 H) (Λ : Loops 𝓤 H) → FmC 𝓤 H (W .laws) C → Triple 𝓤 (C #message·record-at) (RecordAt 𝓤 H A mem run) → Triple 𝓤 (C #message·remain-after) (RemainAfter 𝓤 H A mem run) → Triple 𝓤 (C #message-reader·cursor·place-after) (PlaceAfter 𝓤 H A mem run)
+  next-walks : (C : Calls 𝓤 H) (Λ : Loops 𝓤 H) → FmC 𝓤 H (W .laws) C → Triple 𝓤 (C #message·place·record-at) (RecordAt 𝓤 H A mem run) → Triple 𝓤 (C #message·place·remain-after) (RemainAfter 𝓤 H A mem run) → Triple 𝓤 (C #message-reader·cursor·place-after) (PlaceAfter 𝓤 H A mem run)
       → Walks 𝓤 H A next.ended stayed (WpFn 𝓤 H C Λ code.function) (next.clauses 𝓤 H A mem run)
   next-walks C Λ fm known-piece known-remain known-place = walked 𝓤 H A next.ended stayed (next.clauses 𝓤 H A mem run) (WpFn 𝓤 H C Λ code.function) (λ κs. (LL.vals (T.the-type (namedLft 1 0 tt κs)) (T′.the-laws (namedLft 1 0 tt κs)), tt)) (λ κs. (LL.tells (T.the-type (namedLft 1 0 tt κs)) (T′.the-laws (namedLft 1 0 tt κs)), tt))
       (λ κs qs bounds a g are. via 𝓤 _ (fst∗ 𝓤 _ (emp 𝓤)) (walk 𝓤 H A W mem run (κs .0) (qs .0) (a .0) C Λ fm known-piece known-remain known-place (LL.lawful (T.the-type (namedLft 1 0 tt κs)) (T′.the-laws (namedLft 1 0 tt κs)) 𝓤 H A W .typed (a .0) _ (are .0) .0)))
 
 next-meets : {M : Type 1} (𝓤 : URA M) (H : Heap 𝓤) (A : Atoms 𝓤) (W : Given 𝓤 H A) (mem : Memory → SProp 𝓤) (run : Routine → Fun 𝓤) (𝓣 : Tables 𝓤 H)
-    → Triple 𝓤 (𝓣 .C #message·record-at) (RecordAt 𝓤 H A mem run) → Triple 𝓤 (𝓣 .C #message·remain-after) (RemainAfter 𝓤 H A mem run) → Triple 𝓤 (𝓣 .C #message-reader·cursor·place-after) (PlaceAfter 𝓤 H A mem run)
+    → Triple 𝓤 (𝓣 .C #message·place·record-at) (RecordAt 𝓤 H A mem run) → Triple 𝓤 (𝓣 .C #message·place·remain-after) (RemainAfter 𝓤 H A mem run) → Triple 𝓤 (𝓣 .C #message-reader·cursor·place-after) (PlaceAfter 𝓤 H A mem run)
     → Meets 𝓤 H A next.signature (WpFn 𝓤 H (𝓣 .C) (𝓣 .Λ) code.function) (next.spec 𝓤 H A mem run)
 next-meets 𝓤 H A W mem run 𝓣 known-piece known-remain known-place = walk-meets 𝓤 H A next.ended stayed W (goes-none 𝓤 H A W 1 B yes (λ κs x f. refl), tt) (next.clauses 𝓤 H A mem run) (WpFn 𝓤 H (𝓣 .C) (𝓣 .Λ) code.function) (WpFn-mono 𝓤 H (W .laws) 𝓣 code.function)
     (next-walks 𝓤 H A W mem run (𝓣 .C) (𝓣 .Λ) (fmOf 𝓤 H (W .laws) 𝓣) known-piece known-remain known-place)
@@ -230,6 +230,6 @@ next-spec 𝓤 H 𝓜 𝓖 𝓡 =
     entered 𝓤 H (tripleOf 𝓤 H (𝓖 .A) next.signature (next.spec 𝓤 H (𝓖 .A) (𝓜 .mem) (𝓡 .run)))
     (tables 𝓤 H 𝓜 𝓡 code.env .C) (tables 𝓤 H 𝓜 𝓡 code.env .Λ) #message-reader·next code.function (code.unfolded 𝓤 H 𝓜 𝓡)
     (next-meets 𝓤 H (𝓖 .A) (givenOf 𝓤 H 𝓜 𝓖) (𝓜 .mem) (𝓡 .run) (tablesOf 𝓤 H 𝓜 (tables 𝓤 H 𝓜 𝓡 code.env))
-    (cited 𝓤 H (RecordAt 𝓤 H (𝓖 .A) (𝓜 .mem) (𝓡 .run)) 𝓜 𝓡 code.env #message·record-at piece-def.routine code.calls-message·record-at (piece-thm.met 𝓤 H 𝓜 𝓖 𝓡))
-    (cited 𝓤 H (RemainAfter 𝓤 H (𝓖 .A) (𝓜 .mem) (𝓡 .run)) 𝓜 𝓡 code.env #message·remain-after remain-def.routine code.calls-message·remain-after (remain-thm.met 𝓤 H 𝓜 𝓖 𝓡))
+    (cited 𝓤 H (RecordAt 𝓤 H (𝓖 .A) (𝓜 .mem) (𝓡 .run)) 𝓜 𝓡 code.env #message·place·record-at piece-def.routine code.calls-message·place·record-at (piece-thm.met 𝓤 H 𝓜 𝓖 𝓡))
+    (cited 𝓤 H (RemainAfter 𝓤 H (𝓖 .A) (𝓜 .mem) (𝓡 .run)) 𝓜 𝓡 code.env #message·place·remain-after remain-def.routine code.calls-message·place·remain-after (remain-thm.met 𝓤 H 𝓜 𝓖 𝓡))
     (cited 𝓤 H (PlaceAfter 𝓤 H (𝓖 .A) (𝓜 .mem) (𝓡 .run)) 𝓜 𝓡 code.env #message-reader·cursor·place-after place-def.routine code.calls-message-reader·cursor·place-after (place-thm.met 𝓤 H 𝓜 𝓖 𝓡)))

@@ -38,10 +38,10 @@ use denote.Triple.Walked.{says, Stays, stay-none, stay-none-slice, walkOf, goes-
 use denote.Exit.{yes}
 use denote.Triple.Clauses.{ensured}
 use Rattle.message_reader.specs.Handing.{nextOf, stepSeen, followingOf}
-use Rattle.message_reader.specs.declared.Following.{Following}
+use Rattle.message_reader.specs.declared.place.Following.{Following}
 use Rattle.message_reader.specs.declared.Step.{Step}
-use Rattle.message_reader.proofs.Following as F
-use Rattle.message_reader.proofs.Following.Laws as F′
+use Rattle.message_reader.proofs.place.Following as F
+use Rattle.message_reader.proofs.place.Following.Laws as F′
 use Rattle.message_reader.proofs.Reader as T
 use Rattle.message_reader.proofs.Reader.Laws as T′
 use Rattle.message_reader.proofs.Step as S
@@ -51,10 +51,10 @@ use Rattle.message_reader.proofs.next as next
 use Rattle.message_reader.proofs.next.Symbol as next-def
 use Rattle.message_reader.proofs.next.Symbol.{name as #message-reader·next}
 use Rattle.message_reader.proofs.next.Met as next-thm
-use Rattle.message_reader.proofs.after.Key.{name as #message-reader·after}
-use Rattle.message_reader.proofs.after as after
-use Rattle.message_reader.proofs.after.Statement as stated
-use Rattle.message_reader.proofs.after.Code as code
+use Rattle.message_reader.proofs.place.after.Key.{name as #message-reader·place·after}
+use Rattle.message_reader.proofs.place.after as after
+use Rattle.message_reader.proofs.place.after.Statement as stated
+use Rattle.message_reader.proofs.place.after.Code as code
 
 abbrev stayed : Stays (after.ended .signature .params) (after.ended .kept)
 stayed = (stay-none-slice (0 ∷ []) tt (plain (λ _. u8)) yes, (stay-none (λ _. u64) yes, tt))
@@ -133,6 +133,6 @@ pub after-spec : {M : Type 1} → stated.statement M
 unfolding code.routine tablesOf
 after-spec 𝓤 H 𝓜 𝓖 𝓡 =
     entered 𝓤 H (tripleOf 𝓤 H (𝓖 .A) after.signature (after.spec 𝓤 H (𝓖 .A) (𝓜 .mem) (𝓡 .run)))
-    (tables 𝓤 H 𝓜 𝓡 code.env .C) (tables 𝓤 H 𝓜 𝓡 code.env .Λ) #message-reader·after code.function (code.unfolded 𝓤 H 𝓜 𝓡)
+    (tables 𝓤 H 𝓜 𝓡 code.env .C) (tables 𝓤 H 𝓜 𝓡 code.env .Λ) #message-reader·place·after code.function (code.unfolded 𝓤 H 𝓜 𝓡)
     (after-meets 𝓤 H (𝓖 .A) (givenOf 𝓤 H 𝓜 𝓖) (𝓜 .mem) (𝓡 .run) (tablesOf 𝓤 H 𝓜 (tables 𝓤 H 𝓜 𝓡 code.env))
     (cited 𝓤 H (Next 𝓤 H (𝓖 .A) (𝓜 .mem) (𝓡 .run)) 𝓜 𝓡 code.env #message-reader·next next-def.routine code.calls-message-reader·next (next-thm.met 𝓤 H 𝓜 𝓖 𝓡)))

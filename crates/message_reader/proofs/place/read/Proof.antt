@@ -48,10 +48,10 @@ use Rattle.message_reader.proofs.next as next
 use Rattle.message_reader.proofs.next.Symbol as next-def
 use Rattle.message_reader.proofs.next.Symbol.{name as #message-reader·next}
 use Rattle.message_reader.proofs.next.Met as next-thm
-use Rattle.message_reader.proofs.read.Key.{name as #message-reader·read}
-use Rattle.message_reader.proofs.read as read
-use Rattle.message_reader.proofs.read.Statement as stated
-use Rattle.message_reader.proofs.read.Code as code
+use Rattle.message_reader.proofs.place.read.Key.{name as #message-reader·place·read}
+use Rattle.message_reader.proofs.place.read as read
+use Rattle.message_reader.proofs.place.read.Statement as stated
+use Rattle.message_reader.proofs.place.read.Code as code
 
 abbrev stayed : Stays (read.ended .signature .params) (read.ended .kept)
 stayed = (stay-none-slice (0 ∷ []) tt (plain (λ _. u8)) yes, (stay-none (λ _. u64) yes, tt))
@@ -130,6 +130,6 @@ pub read-spec : {M : Type 1} → stated.statement M
 unfolding code.routine tablesOf
 read-spec 𝓤 H 𝓜 𝓖 𝓡 =
     entered 𝓤 H (tripleOf 𝓤 H (𝓖 .A) read.signature (read.spec 𝓤 H (𝓖 .A) (𝓜 .mem) (𝓡 .run)))
-    (tables 𝓤 H 𝓜 𝓡 code.env .C) (tables 𝓤 H 𝓜 𝓡 code.env .Λ) #message-reader·read code.function (code.unfolded 𝓤 H 𝓜 𝓡)
+    (tables 𝓤 H 𝓜 𝓡 code.env .C) (tables 𝓤 H 𝓜 𝓡 code.env .Λ) #message-reader·place·read code.function (code.unfolded 𝓤 H 𝓜 𝓡)
     (read-meets 𝓤 H (𝓖 .A) (givenOf 𝓤 H 𝓜 𝓖) (𝓜 .mem) (𝓡 .run) (tablesOf 𝓤 H 𝓜 (tables 𝓤 H 𝓜 𝓡 code.env))
     (cited 𝓤 H (Next 𝓤 H (𝓖 .A) (𝓜 .mem) (𝓡 .run)) 𝓜 𝓡 code.env #message-reader·next next-def.routine code.calls-message-reader·next (next-thm.met 𝓤 H 𝓜 𝓖 𝓡)))

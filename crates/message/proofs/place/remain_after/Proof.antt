@@ -4,8 +4,8 @@ use borrow.Author.Tests.{not-true, not-false}
 use native.Mathlib.Omega.{arith}
 use mathlib.Core.Path.{sym, _∙_}
 use borrow.Author.Needs.{needs}
-use Rattle.message.proofs.remain_after.Statement.{statement}
-use Rattle.message.proofs.remain_after.Tie as tie
+use Rattle.message.proofs.place.remain_after.Statement.{statement}
+use Rattle.message.proofs.place.remain_after.Tie as tie
 
 size-laid-requires : tie.Need-size-laid-requires
 size-laid-requires c κs = search needs

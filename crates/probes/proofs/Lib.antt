@@ -4,3 +4,4 @@ pub mod Corners
 pub mod Listing
 pub mod Answers
 pub mod Theorems
+pub mod Zeros

@@ -1,15 +1,13 @@
--- What the list of an accepted call holds, that n entries suffice, and that both zeros are compared alike.
-use Prim.Native.Nat.{ℕ, zero, _+_, _*_, _≤_, _<_}
+-- What the list of an accepted call holds, and that n entries suffice.
+use Prim.Native.Nat.{ℕ, _+_, _≤_, _<_}
 use native.Mathlib.Omega.{arith}
 use mathlib.Core.Path.{_≡_, refl, sym, ap, _∙_}
-use mathlib.Core.Bool.{Bool, true, false, cond, _&&_, _||_}
+use mathlib.Core.Bool.{Bool, true, false, cond, _&&_}
 use mathlib.Core.List.{List}
 use lib.Dec.{ltb, leb, eqb}
-use lib.IntN.{pos}
-use lib.Ieee.{Float, nan, inf, fin, up, down, below, level, binary32, le, lt, eq, ofBits, ofFields, odd}
 use lib.ListN.{length, getD, take}
 use lib.Seq.{getD-take}
-use borrow.Author.Tests.{eqb-true, leb-true, le-leb, le-ltb}
+use borrow.Author.Tests.{eqb-true, leb-true, le-leb}
 use Rattle.encoding.specs.Answer.{written, countAnswer}
 use Rattle.encoding.specs.Below.{member}
 use Rattle.encoding.specs.Pieces.{splice}
@@ -23,7 +21,7 @@ use Rattle.part_theorems.proofs.SoundParts.{part-header}
 use Rattle.probes.specs.declared.Probe.{Probe}
 use Rattle.probes.specs.Probes.{boxesOk, probeOk, meets, treesMet}
 use Rattle.probes.specs.Calls.{nearRefusal, treesNear}
-use Rattle.probes.specs.Theorems.{Lists, ListsTreesMet, EnoughEntries, ZerosAlike}
+use Rattle.probes.specs.Theorems.{Lists, ListsTreesMet, EnoughEntries}
 
 -- ---- the checks of an accepted call, and of one whose list is too short
 
@@ -124,37 +122,3 @@ pub enough-entries : EnoughEntries
 enough-entries part table rank probe out h e =
     let s = short part table rank probe out (sym (refusal-is part table rank probe out) ∙ e) in
     clash (le-leb (length (treesMet part probe)) (length out) (omega (arith, met-most part table rank probe out (s .0)))) (s .1)
-
--- ---- the zeros
-
-zero-is : ofBits binary32 0 ≡ fin false 0 (pos 0)
-unfolding ofBits ofFields odd
-zero-is = refl
-
-minus-zero-is : ofBits binary32 2147483648 ≡ fin true 0 (pos 0)
-unfolding ofBits ofFields odd
-minus-zero-is = refl
-
--- the sign of a zero on the left, and on the right
-zero-left : (t : Bool) (z b : ℕ) → z ≡ 0 → (below true z t b || level true z t b) ≡ (below false z t b || level false z t b)
-zero-left false z b e = let n : z + b ≡ b = omega arith in rw (n, e)
-zero-left true z b e = rw (e, le-ltb b 0 (omega arith))
-
-zero-right : (t : Bool) (a z : ℕ) → z ≡ 0 → (below t a true z || level t a true z) ≡ (below t a false z || level t a false z)
-zero-right false a z e = rw (e, le-ltb a 0 (omega arith)) (either (eqb a 0) (λ p. rw p) (λ p. rw p))
-zero-right true a z e = let n : a + z ≡ a = omega arith in rw (n, e) (either (eqb a 0) (λ p. rw p) (λ p. rw p))
-
-zero-below : (x : Float) → le (fin true 0 (pos 0)) x ≡ le (fin false 0 (pos 0)) x
-unfolding le lt eq
-zero-below nan = refl
-zero-below (inf s) = refl
-zero-below (fin t n d) = zero-left t (0 * down d) (n * up d * 1) (omega arith)
-
-zero-above : (x : Float) → le x (fin true 0 (pos 0)) ≡ le x (fin false 0 (pos 0))
-unfolding le lt eq
-zero-above nan = refl
-zero-above (inf s) = refl
-zero-above (fin t n d) = zero-right t (n * up d * 1) (0 * down d) (omega arith)
-
-pub zeros-alike : ZerosAlike
-zeros-alike x = rw (zero-is, minus-zero-is) (zero-below x, zero-above x)

@@ -2081,7 +2081,8 @@ uint32_t            vejgodat_region_counts (const uint8_t * part,
  * A check says that a table (3), a whole mesh (7) or a part (8) fails; these
  * calls say where. The answer is the first fault: the least rank, tree or
  * record at which something is wrong, and of what is wrong there the first.
- * Nothing before it is wrong. Mend it and ask again.
+ * Nothing before it is wrong, but for links between ghosts of a part whose
+ * numbers are out of order, see \ref vejgodat_part_fault. Mend it and ask again.
  *
  * An object is sound only if \a refusal and \a fault are both 0. A call that
  * refuses has looked at nothing, and \a fault is 0 as every field then is: a
@@ -2340,7 +2341,10 @@ vejgodat_fault      vejgodat_mesh_fault (const uint8_t * mesh,
  * count on from n. In a record the order is that of \ref vejgodat_mesh_fault,
  * with 17 last. A tree's link is followed by its local index. A ghost's link is
  * followed to a tree of the rank's range by its place, and to another ghost by
- * its number, among the ghosts before the first whose number is out of order.
+ * its number, among the ghosts before the first whose number is out of order; a
+ * link to any other ghost is taken for one to a tree that is not held. So every
+ * tree before the fault is right, and every ghost before it but for such links:
+ * a part that is mended at this place may show a fault at an earlier ghost.
  *
  * Checks, in this order: those of \ref vejgodat_check_table (2, 3);
  * \ref VEJGODAT_INDEX (5) if \a rank is not below P.

@@ -2,5 +2,6 @@
 pub mod Found
 pub mod Finding
 pub mod Right
+pub mod Clauses
 pub mod Passing
 pub mod Theorems

@@ -140,7 +140,7 @@ module _ (v : View) where
       ∙ ap (λ (x : Bool). x && (inForm (numberOf r) r && d && b && l)) (order-same j)
 
   -- all ghosts are found where all are in order
-  found-all : allBelow (v .g) order ≡ true → foundIn v ≡ v .g
+  pub found-all : allBelow (v .g) order ≡ true → foundIn v ≡ v .g
   unfolding foundIn
   found-all e =
       least-none (v .g) (λ j. not (ghostOrderIn v j)) (any-none (v .g) (λ j. not (ghostOrderIn v j)) (λ j h. rw (order-same j, all-at (v .g) order e j h)))

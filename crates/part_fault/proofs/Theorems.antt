@@ -1,11 +1,12 @@
--- The fault of a part is what the check answers, and nothing before it is wrong.
+-- The fault of a part is what the check answers, and the records before it are right as far as they are looked at.
 use Prim.Native.Nat.{ℕ, _+_, _-_, _<_}
 use native.Mathlib.Omega.{arith}
-use mathlib.Core.Path.{_≡_, refl, sym, ap, _∙_}
+use native.Mathlib.Nat.{add-sub-cancel-left}
+use mathlib.Core.Path.{_≡_, refl, ap, _∙_}
 use mathlib.Core.Bool.{Bool, true, false, cond}
 use mathlib.Core.List.{List}
 use lib.Dec.{eqb, ltb}
-use borrow.Author.Tests.{eq-eqb, ne-eqb}
+use borrow.Author.Tests.{eq-eqb, ne-eqb, lt-ltb, le-ltb}
 use Rattle.encoding.specs.Pieces.{Bytes}
 use Rattle.encoding.specs.Refusal.{firstFailed}
 use Rattle.encoding.proofs.Below.{either}
@@ -23,10 +24,11 @@ use Rattle.faults.specs.Calls.{faultAnswer}
 use Rattle.faults.specs.Record.{recordKind, firstFace, recordWrong}
 use Rattle.faults.specs.Theorems.{AsChecked}
 use Rattle.faults.proofs.Theorems.{first-checked, first-first, Found, faces-before}
-use Rattle.part_fault.specs.Wrong.{treeOrderIn, treeFaceIn, treeWrongIn, ghostOrderIn, ghostFaceIn, ghostBesideIn, ghostWrongIn, faceIn, wrongIn}
+use Rattle.part_fault.specs.Wrong.{treeOrderIn, treeFaceIn, treeWrongIn, ghostOrderIn, foundIn, ghostFaceIn, ghostBesideIn, ghostWrongIn, faceIn, wrongIn}
 use Rattle.part_fault.specs.Calls.{partHeaded, partFaultOf}
-use Rattle.part_fault.specs.Theorems.{PartAsChecked, FirstRecord, PartFirst}
+use Rattle.part_fault.specs.Theorems.{PartAsChecked, TreeRight, GhostRight, FirstRecord, PartFirst}
 use Rattle.part_fault.proofs.Right.{part-right}
+use Rattle.part_fault.proofs.Clauses.{quiet-tree, quiet-ghost, looked-all}
 
 -- ---- the answer, for the call
 
@@ -73,6 +75,15 @@ module _ (v : View) where
       (λ z. let l : 0 ≡ w .face = ap (λ (y : Wrong). y .face) (rw z at q) in absurd (omega arith))
       (λ z. faces-before kind (ghostFaceIn v j) (rw z at q) f h)))
 
+  -- a record before it
+  tree-before : (i : ℕ) → i < v .n → wrongIn v i .kind ≡ 0 → TreeRight v i
+  unfolding wrongIn
+  tree-before i h e = quiet-tree v i (rw (lt-ltb i (v .n) h) at e)
+
+  ghost-before : (j : ℕ) → wrongIn v (v .n + j) .kind ≡ 0 → GhostRight v (foundIn v) j
+  unfolding wrongIn
+  ghost-before j e = quiet-ghost v j (rw (le-ltb (v .n + j) (v .n) (omega arith), add-sub-cancel-left (v .n) j) at e)
+
 module _ (part table : List ℕ) (rank : ℕ) where
   first-record : partHeaded part table rank ≡ true → partFaultOf part table rank .fault ≡ 8 → FirstRecord part (partFaultOf part table rank)
   unfolding partFaultOf faultAnswer
@@ -87,6 +98,9 @@ module _ (part table : List ℕ) (rank : ℕ) where
         here = f .here;
         before = f .before;
         faces = faces-of (viewOf part) (firstFault 8 n (wrongIn (viewOf part)) .at) (f .here);
+        trees-before = λ i l t. tree-before (viewOf part) i t (f .before i l);
+        ghosts-before = λ j l. ghost-before (viewOf part) j (f .before (partCount part + j) l);
+        ghosts-right = λ all j l. rw (looked-all (viewOf part) all) at (ghost-before (viewOf part) j (f .before (partCount part + j) l));
       }))
       (λ z. absurd (omega (arith, rw z at e)))
 

@@ -280,6 +280,22 @@ fn part_by_hand(run: &mut Run) {
     part.extend(&mesh[place(3)..place(3) + GHOST]);
     put(&mut part, 24, 1);
     assert_eq!(calls.part_fault(&part, &case.table, 0), fault(8, 17, 2, 0));
+    // ghosts 5, 9, 7: the link of 5 to 7, which isn't answered, isn't followed until they are in order
+    let mut mesh = meshes::apart(&[1; 10], 0);
+    for (face, ghost) in [5, 7, 9].into_iter().enumerate() {
+        meshes::join(&mut mesh, (0, face), (ghost, 0), 0);
+    }
+    meshes::join(&mut mesh, (5, 1), (7, 1), 0);
+    let case = Case::new(&mesh, &bytes_of(&[0, 1, 10]), 0);
+    let mut part = case.part.clone();
+    let ghost = |j: usize| HEADER + TREE + GHOST * j;
+    part[ghost(0) + 33] = 2;
+    assert_eq!(calls.part_fault(&part, &case.table, 0), fault(8, 16, 1, 1));
+    let swapped = [&part[ghost(2)..], &part[ghost(1)..ghost(2)]].concat();
+    part[ghost(1)..].copy_from_slice(&swapped);
+    put(&mut part, HEADER + 12, 3);
+    put(&mut part, HEADER + 16, 2);
+    assert_eq!(calls.part_fault(&part, &case.table, 0), fault(8, 7, 3, 0));
 }
 
 fn part_bytes(run: &mut Run) {

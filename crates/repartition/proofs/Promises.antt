@@ -35,6 +35,7 @@ use Rattle.part.specs.Checks.{rankChecks}
 use Rattle.part_cut.specs.Calls.{cutChecks, cutPartOf}
 use Rattle.part_check.specs.Calls.{partRefusal}
 use Rattle.part_cut.proofs.Cutting.{Cuttable}
+use Rattle.part_neighbour.specs.Neighbour.{flatAnswer}
 use Rattle.part_theorems.proofs.CutLinks.{cut-answer}
 use Rattle.part_theorems.proofs.CutSound.{cut-holds, held-below, cut-core, cut-sound}
 use Rattle.message.specs.Layout.{messageTrees, messageGhosts, inLayout}
@@ -200,6 +201,7 @@ cut-parts mesh table rank mb tb passes below sound same =
       cores = cut-core mesh table rank ok mb tb;
       records = own-record mesh table rank ok mb tb;
       links = λ i f h l. cut-answer mesh table rank ok mb tb i h f l;
+      link-numbers = λ i f h l. ap flatAnswer (cut-answer mesh table rank ok mb tb i h f l);
     }
 
 -- ---- messages

@@ -26,7 +26,7 @@ use Rattle.mesh.specs.Mesh.{meshDimension, meshTrees, meshCore, meshRecord, mes
 use Rattle.part.specs.Ghosts.{isGhost}
 use Rattle.part.specs.Cut.{cutPart}
 use Rattle.part.specs.Part.{partHolds, partCore}
-use Rattle.part_neighbour.specs.Neighbour.{meshLink}
+use Rattle.part_neighbour.specs.Neighbour.{linkKind, linkAcross, meshLink, flatAnswer}
 use Rattle.part_cut.specs.Calls.{cutPartOf}
 use Rattle.part_check.specs.Calls.{partRefusal}
 use Rattle.part_neighbour.specs.Calls.{neighbourAnswer}
@@ -138,6 +138,17 @@ pub record PartOf (mesh table : List ℕ) (rank : ℕ) (part : List ℕ) : Type 
   -- for a local index and a face, the neighbour call answers with the mesh's link
   pub links : (i f : ℕ) → i < treeCount table rank → f < 6
       → neighbourAnswer part table rank i f ≡ record { refusal = 0; shape = shapeOf (meshCore mesh (firstTree table rank + i)); link = meshLink mesh table rank i f }
+  -- as numbers: the number of the link's case, and its values
+  pub link-numbers : (i f : ℕ) → i < treeCount table rank → f < 6
+      → flatAnswer (neighbourAnswer part table rank i f)
+      ≡ record {
+        refusal = 0;
+        shape = shapeOf (meshCore mesh (firstTree table rank + i));
+        kind = linkKind (meshLink mesh table rank i f);
+        index = linkAcross (meshLink mesh table rank i f) .index .0;
+        face = linkAcross (meshLink mesh table rank i f) .face;
+        orientation = linkAcross (meshLink mesh table rank i f) .orientation;
+      }
 
 abbrev pub CutParts : Type 0
 CutParts =

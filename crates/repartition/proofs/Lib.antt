@@ -22,4 +22,6 @@ pub mod Words
 pub mod Deliveries
 pub mod Regions
 pub mod AllMessages
+pub mod RegionChecks
+pub mod RegionsFree
 pub mod TreeData

@@ -16,7 +16,8 @@ use Rattle.pattern.proofs.Senders.{sender-lt, sender-holds, sends-true, sends-i
 use Rattle.pattern.proofs.Sets.{new-below}
 use Rattle.mesh.specs.Mesh.{meshTrees, meshCore, meshRecord}
 use Rattle.part.specs.Ghosts.{isGhost}
-use Rattle.message.specs.Rule.{sendsBeside, considers, sendsGhost, ghostSender, ghostGoes}
+use Rattle.message.specs.Rule.{sendsBeside, considers, sendsGhost, ghostGoes}
+use Rattle.message.specs.Means.{ghostSender}
 
 -- ---- trees
 

@@ -29,7 +29,7 @@ use Rattle.mesh.proofs.Soundness.{header-parts, sound-header, sound-fits, sound
 use Rattle.part.specs.Ghosts.{isGhost}
 use Rattle.message.specs.Layout.{messageTreePlace, messageSize, messageHeaderBytes, messageEpoch, messageDimension, messageK, messageP, messageSender, messageReceiver, messageTrees, messageGhosts, messageTree, messageGhost, recordLaid, sizeLaid, afterLast, recordsLaid, inLayout}
 use Rattle.message.specs.Rule.{sendsBeside, considers, sendsGhost, treesFrom, ghostGoes, ghostsGoing, ruleMessage}
-use Rattle.message.specs.Build.{meshMessage}
+use Rattle.message.specs.Means.{meshMessage}
 use Rattle.message.proofs.Ghosts.{sends-considers, considers-held}
 
 -- ---- pieces of two lists

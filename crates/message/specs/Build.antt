@@ -1,11 +1,9 @@
--- The message from rank p's part, and the one that the rule names for a whole mesh.
+-- The message from rank p's part.
 use Prim.Native.Nat.{ℕ, _-_}
 use mathlib.Core.List.{List}
-use lib.Dec.{ltb}
 use Rattle.encoding.specs.Pieces.{piece}
 use Rattle.records.specs.Shape.{facesIn}
 use Rattle.records.specs.Record.{treeSize}
-use Rattle.mesh.specs.Mesh.{meshDimension, meshTrees, meshCore, meshRecord}
 use Rattle.part.specs.Layout.{treePlace}
 use Rattle.part.specs.Cut.{renamed}
 use Rattle.part.specs.Part.{partDimension, partFirst, globalNumber, partHolds, partCore}
@@ -18,8 +16,3 @@ partRecord part k = renamed (globalNumber part) (facesIn (partDimension part)) (
 -- the message from p's part to q
 unfoldable pub partMessage : List ℕ → List ℕ → List ℕ → ℕ → ℕ → ℕ → List ℕ
 partMessage part old new p q epoch = ruleMessage (partCore part) old new (partHolds part) (partRecord part) p q epoch (partDimension part)
-
--- the rule applied to a whole mesh
-unfoldable pub meshMessage : List ℕ → List ℕ → List ℕ → ℕ → ℕ → ℕ → List ℕ
-meshMessage mesh old new p q epoch =
-    ruleMessage (meshCore mesh) old new (λ k. ltb k (meshTrees mesh)) (meshRecord mesh) p q epoch (meshDimension mesh)

@@ -25,10 +25,6 @@ module _ (core : ℕ → List ℕ) (old new : List ℕ) where
   sendsGhost p q g =
       considers p q g && (eqb p q || (not (considers q q g) && eqb p (leastBelow (ranks old) (λ r. considers r q g))))
 
-  -- the one sender of ghost g to q: among the senders of g's neighbours in f'(q), q if it is one, else the least
-  unfoldable pub ghostSender : ℕ → ℕ → ℕ
-  ghostSender q g = cond (sendsBeside q q g) q (leastBelow (ranks old) (λ r. sendsBeside r q g))
-
   -- the message from p to q: record k is tree k's record with its data, and only records at hand are looked at
   module _ (hand : ℕ → Bool) (treeRecord : ℕ → List ℕ) (p q : ℕ) where
     -- the records of the first n trees from k on

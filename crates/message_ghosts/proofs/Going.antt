@@ -19,7 +19,8 @@ use Rattle.part.specs.Ghosts.{isGhost}
 use Rattle.part.specs.Part.{partHolds, partCore}
 use Rattle.part_theorems.proofs.SoundParts.{part-tree, part-held, part-answered, part-there}
 use Rattle.message.specs.Build.{partRecord}
-use Rattle.message.specs.Rule.{sendsBeside, considers, sendsGhost, ghostSender, ghostGoes}
+use Rattle.message.specs.Rule.{sendsBeside, considers, sendsGhost, ghostGoes}
+use Rattle.message.specs.Means.{ghostSender}
 use Rattle.message.proofs.Ghosts.{beside-at, beside-in, no-ghost-sender, one-ghost-sender, sends-considers}
 use Rattle.message_ghosts.specs.Means.{Sending, sentBefore, besideBefore, goes, goesAcross, goesBeside, goesFrom}
 

@@ -16,7 +16,8 @@ use Rattle.message.specs.Reading.{recordCount, recordAt}
 use Rattle.message.specs.Calls.{readingOf}
 use Rattle.message.proofs.Layouts.{size-length}
 use Rattle.message.proofs.Reading.{record-past, record-tree, record-ghost, count-all, count-none, reading-refused, reading-begins}
-use Rattle.message_reader.specs.Handing.{placeAfter, lentUnless, beginOf}
+use Rattle.message_reader.specs.Handing.{placeAfter, beginOf}
+use Rattle.message_reader.specs.Means.{lentUnless}
 
 -- ---- how long a record is
 

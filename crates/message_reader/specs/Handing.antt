@@ -2,7 +2,7 @@
 use Prim.Native.Nat.{ℕ, zero, suc, _+_}
 use mathlib.Core.Bool.{cond}
 use mathlib.Core.List.{List, [], _∷_}
-use lib.Dec.{ltb, eqb}
+use lib.Dec.{ltb}
 use denote.Ref.{now}
 use Rattle.encoding.specs.Pieces.{piece}
 use Rattle.encoding.specs.declared.answer.Length.{Length}
@@ -18,10 +18,6 @@ use Rattle.message_reader.specs.declared.Step.{Step}
 -- the place after place i: the next record's, and after the last the same
 unfoldable pub placeAfter : List ℕ → ℕ → ℕ
 placeAfter m i = cond {A = ℕ} (ltb i (recordCount m)) (i + 1) i
-
--- what is lent of a message: all of it, and nothing where it is refused
-unfoldable pub lentUnless : ℕ → List ℕ → List ℕ
-lentUnless refusal m = cond (eqb refusal 0) m []
 
 -- begin: how many records there are, or 11 out of layout, and a reader at the first place; over a refused message it has no records
 unfoldable pub beginOf : List ℕ → Length × (List ℕ × ℕ)

@@ -1,6 +1,7 @@
 // What a reader lends of its message, and how its place moves on.
 ghost use mathlib.Core.Path.{_≡_};
-ghost use Rattle.message_reader.specs.Handing.{placeAfter, lentUnless};
+ghost use Rattle.message_reader.specs.Handing.{placeAfter};
+ghost use Rattle.message_reader.specs.Means.{lentUnless};
 
 // The place after place i: after the last it stays.
 pub fn place_after(message: &[u8], i: u64) -> u64

@@ -13,7 +13,8 @@ use Rattle.records.specs.Shape.{faceCount}
 use Rattle.records.specs.Record.{shapeOf, neighbourOf}
 use Rattle.mesh.specs.Mesh.{meshTrees, meshCore, meshSound, faceNeighbour}
 use Rattle.mesh.proofs.Soundness.{neighbour-below, neighbours-both}
-use Rattle.part.specs.Ghosts.{isGhost, ghostsOf, ghostPosition, besideRank}
+use Rattle.part.specs.Ghosts.{isGhost, ghostsOf, ghostPosition}
+use Rattle.part.specs.Means.{besideRank}
 use Rattle.part.specs.Cut.{coresOf, partGhosts}
 
 -- ---- the cores of the ghosts, made from their list

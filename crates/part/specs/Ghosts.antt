@@ -6,7 +6,6 @@ use Rattle.encoding.specs.Below.{anyBelow, countBelow, keptBelow}
 use Rattle.offsets.specs.Table.{holds}
 use Rattle.records.specs.Shape.{faceCount}
 use Rattle.records.specs.Record.{shapeOf, neighbourOf}
-use Rattle.mesh.specs.Mesh.{faceNeighbour}
 
 module _ (core : ℕ → List ℕ) (table : List ℕ) (rank : ℕ) where
   -- a ghost of the rank is a tree outside f(rank) with a face neighbour in f(rank)
@@ -20,7 +19,3 @@ module _ (core : ℕ → List ℕ) (table : List ℕ) (rank : ℕ) where
   -- the position of ghost k among them, and how many there are
   unfoldable pub ghostPosition : ℕ → ℕ
   ghostPosition k = countBelow k isGhost
-
-  -- of the K trees, some tree of f(rank) has k as a face neighbour
-  unfoldable pub besideRank : ℕ → ℕ → Bool
-  besideRank K k = anyBelow K (λ n. holds table rank n && faceNeighbour core n k)

@@ -8,10 +8,11 @@ use lib.ListN.{length, getD}
 use Rattle.encoding.specs.Numbers.{u32At}
 use Rattle.encoding.specs.Pieces.{piece}
 use Rattle.encoding.specs.Below.{allBelow, anyBelow, countBelow, leastBelow}
-use Rattle.offsets.specs.Table.{ranks, ranksOk, valid}
+use Rattle.offsets.specs.Table.{ranks, ranksOk, valid, holds}
 use Rattle.records.specs.Shape.{dimensionOf, faceCount}
 use Rattle.records.specs.Record.{coreSize, numberOf, shapeOf, neighbourOf, inForm}
 use Rattle.mesh.specs.Link.{orientationOk, linkOk}
+use Rattle.mesh.specs.Mesh.{faceNeighbour}
 use Rattle.part.specs.Layout.{treePlace, ghostPlace, partSize}
 use Rattle.part.specs.Part.{partDimension, partK, partFirst, partCount, partGhostCount, storedGhost, globalTree, partHeaderSound}
 
@@ -26,6 +27,10 @@ neighbourIn first end r f = inRange first end (neighbourOf r f)
 -- tree k is a ghost
 unfoldable pub ghostIn : (ℕ → List ℕ) → ℕ → ℕ → ℕ → Bool
 ghostIn core first end k = not (inRange first end k) && anyBelow (faceCount (shapeOf (core k))) (neighbourIn first end (core k))
+
+-- of the K trees, some tree of f(rank) has k as a face neighbour
+unfoldable pub besideRank : (ℕ → List ℕ) → List ℕ → ℕ → ℕ → ℕ → Bool
+besideRank core table rank K k = anyBelow K (λ n. holds table rank n && faceNeighbour core n k)
 
 -- the number of core record i of those from byte at
 unfoldable pub numberAt : List ℕ → ℕ → ℕ → ℕ

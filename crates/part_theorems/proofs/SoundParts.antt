@@ -22,9 +22,8 @@ use Rattle.mesh.specs.Link.{orientationOk, linkOk}
 use Rattle.mesh.specs.Mesh.{dimensionOk, faceNeighbour}
 use Rattle.mesh.proofs.Soundness.{link-there, link-answered}
 use Rattle.part.specs.Layout.{partHeader, treePlace, ghostPlace, partSize}
-use Rattle.part.specs.Ghosts.{besideRank}
 use Rattle.part.specs.Cut.{renamed}
-use Rattle.part.specs.Means.{isLocal, ghostIs, held, heldCore, viewSound, partLinked}
+use Rattle.part.specs.Means.{besideRank, isLocal, ghostIs, held, heldCore, viewSound, partLinked}
 use Rattle.part.proofs.Sound.{sound-linked}
 use Rattle.part.proofs.Same.{records-same}
 use Rattle.part.specs.Part.{partDimension, partK, partFirst, partCount, partGhostCount, storedTree, storedGhost, globalNumber, globalTree, viewOf, partHolds, partCore, partHeaderSound, partSound}

@@ -30,7 +30,8 @@ use Rattle.part_cut.proofs.Cutting.{Cuttable}
 use Rattle.part.proofs.Records.{links-length, rows-length, rows-core}
 use Rattle.part_theorems.proofs.CutRead.{cut-dimension, cut-first, cut-end, cut-record, cut-stored, cut-data}
 use Rattle.part_theorems.proofs.CutSound.{holds-range, local-below, cut-global, cut-holds, cut-core, cut-sound}
-use Rattle.message.specs.Build.{partRecord, partMessage, meshMessage}
+use Rattle.message.specs.Build.{partRecord, partMessage}
+use Rattle.message.specs.Means.{meshMessage}
 use Rattle.message.specs.Calls.{buildChecks, buildMessageOf}
 use Rattle.message.proofs.Messages.{HasPart, rule-from-part}
 use Rattle.repartition.specs.Run.{Run, Setting}

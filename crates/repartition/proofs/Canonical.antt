@@ -5,7 +5,7 @@ use mathlib.Core.List.{List, [], _++_}
 use Rattle.encoding.specs.Below.{countBelow}
 use Rattle.mesh.specs.Mesh.{meshDimension, meshTrees, meshCore}
 use Rattle.part.specs.Ghosts.{isGhost}
-use Rattle.message.specs.Rule.{ghostSender}
+use Rattle.message.specs.Means.{ghostSender}
 use Rattle.area.specs.Layout.{areaWith}
 use Rattle.repartition.specs.Run.{Run}
 use Rattle.repartition.specs.Words.{slotHeard}

@@ -30,7 +30,7 @@ use Rattle.part.specs.Part.{partSound}
 use Rattle.part.proofs.Ghosts.{ghosts-none, ghosts-next}
 use Rattle.part_cut.proofs.Cutting.{Cuttable, cores-length}
 use Rattle.part_theorems.proofs.CutSound.{neighbour-cases, range-local, cut-sound}
-use Rattle.message.specs.Rule.{ghostSender}
+use Rattle.message.specs.Means.{ghostSender}
 use Rattle.message.proofs.Ghosts.{sender-below, sends-some, ghost-sender-lt, ghost-sender-sends}
 use Rattle.area.specs.Layout.{slotsOf}
 use Rattle.area.specs.Area.{areaDimension, areaRank, areaGhosts, areaOld, areaNew, heard, treeSlot, ghostSlot}

@@ -20,7 +20,8 @@ use Rattle.pattern.proofs.Senders.{holds-true, sends-true}
 use Rattle.mesh.specs.Mesh.{meshDimension, meshTrees, meshCore, meshSound, faceNeighbour}
 use Rattle.mesh.proofs.Soundness.{sound-shape, neighbour-below, neighbours-both}
 use Rattle.part.specs.Ghosts.{isGhost}
-use Rattle.message.specs.Rule.{sendsBeside, considers, sendsGhost, ghostSender}
+use Rattle.message.specs.Rule.{sendsBeside, considers, sendsGhost}
+use Rattle.message.specs.Means.{ghostSender}
 use Rattle.message.proofs.Ghosts.{one-ghost-sender}
 use Rattle.area.specs.Layout.{ghostBound}
 use Rattle.area_theorems.proofs.Zones.{range-end}

@@ -24,8 +24,8 @@ use Rattle.mesh.specs.Mesh.{meshDimension, meshTrees, meshCore, meshRecord}
 use Rattle.mesh.proofs.Soundness.{header-parts, sound-header, sound-number}
 use Rattle.part.specs.Ghosts.{isGhost}
 use Rattle.message.specs.Layout.{messageTreePlace, messageEpoch, messageDimension, messageK, messageP, messageSender, messageReceiver, messageTrees, messageGhosts, messageTree, messageGhost, inLayout}
-use Rattle.message.specs.Rule.{sendsBeside, considers, sendsGhost, ghostSender, ghostGoes}
-use Rattle.message.specs.Build.{meshMessage}
+use Rattle.message.specs.Rule.{sendsBeside, considers, sendsGhost, ghostGoes}
+use Rattle.message.specs.Means.{ghostSender, meshMessage}
 use Rattle.message.proofs.Ghosts.{beside-at, no-ghost-sender, one-ghost-sender, sends-considers, considers-ghost}
 use Rattle.message.proofs.Messages.{RecordsLong, mesh-records-long, mesh-in-layout, message-epoch, message-dimension, message-K, message-P, message-sender, message-receiver, message-trees, message-ghosts, message-record, message-tree, message-ghost}
 use Rattle.area.specs.Layout.{ghostBound, areaWith}

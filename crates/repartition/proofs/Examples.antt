@@ -35,7 +35,7 @@ use Rattle.part.specs.Checks.{rankChecks}
 use Rattle.part_cut.specs.Calls.{cutChecks, cutPartOf}
 use Rattle.message.specs.Layout.{messageHeaderBytes}
 use Rattle.message.specs.Rule.{sendsBeside, considers, sendsGhost, treesFrom, ghostGoes, ghostsGoing, ruleMessage}
-use Rattle.message.specs.Build.{meshMessage}
+use Rattle.message.specs.Means.{meshMessage}
 use Rattle.area.specs.Layout.{heardWords, ghostBound, newPlace, wordsPlace, slotsPlace, ghostSlotsPlace, areaSize}
 use Rattle.repartition.specs.Run.{Setting}
 use Rattle.repartition.specs.Demand.{size, heardBy, TwoLists}

@@ -17,7 +17,7 @@ use Rattle.records.specs.Record.{numberOf}
 use Rattle.mesh.specs.Mesh.{meshTrees, meshCore, meshRecord}
 use Rattle.message.specs.Layout.{messageTrees, messageTree, messageGhosts, messageGhost}
 use Rattle.message.specs.Rule.{sendsGhost, ghostGoes}
-use Rattle.message.specs.Build.{meshMessage}
+use Rattle.message.specs.Means.{meshMessage}
 use Rattle.area.specs.Deliver.{among}
 use Rattle.repartition.specs.Run.{Run, Setting}
 use Rattle.repartition.specs.Lists.{treeIn, ghostWith, Built, messageOf}

@@ -46,7 +46,8 @@ use Rattle.message.proofs.begin_reading as answer
 use Rattle.message.proofs.begin_reading.Symbol as answer-def
 use Rattle.message.proofs.begin_reading.Symbol.{name as #message·begin-reading}
 use Rattle.message.proofs.begin_reading.Met as answer-thm
-use Rattle.message_reader.specs.Handing.{lentUnless, beginOf, begunSeen}
+use Rattle.message_reader.specs.Handing.{beginOf, begunSeen}
+use Rattle.message_reader.specs.Means.{lentUnless}
 use Rattle.message_reader.specs.declared.Begun.{Begun}
 use Rattle.message_reader.proofs.Begun as S
 use Rattle.message_reader.proofs.Begun.Laws as S′

@@ -1,6 +1,6 @@
 use borrow.Author.Needs.{needs}
 use borrow.Author.Tests.{eq-eqb, ne-eqb}
-use Rattle.message_reader.specs.Handing.{lentUnless}
+use Rattle.message_reader.specs.Means.{lentUnless}
 use Rattle.message_reader.proofs.cursor.lent_unless.Statement.{statement}
 use Rattle.message_reader.proofs.cursor.lent_unless.Tie as tie
 

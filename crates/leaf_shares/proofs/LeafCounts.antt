@@ -18,10 +18,10 @@ use Rattle.encoding.proofs.Numbers.{length-put}
 use Rattle.offsets.specs.Limits.{maxTrees, rankCountOk, treeCountOk}
 use Rattle.leaf_shares.specs.Leaves.{maxLeaves, leavesOk, leafStart, leafTotal, cut, leafHolds, leafFirst, leafCount, equalShares, leafTable}
 use Rattle.leaf_shares.specs.Means.{treesBefore, sharedEntry, leafEntry, Walking}
-use Rattle.offsets_write.specs.Partition.{nonEmpty, onRank, lastTree, coversAll, coversOnly, ascending, validPartition, endBelow, entryOf, entriesBelow, tableOf, IsTable}
-use Rattle.offsets.specs.Table.{tableLength, holds}
+use Rattle.offsets_write.specs.Partition.{nonEmpty, onRank, lastTree, coversAll, coversOnly, ascending, validPartition, endBelow, entryOf, entriesBelow, tableOf}
+use Rattle.offsets.specs.Table.{tableLength}
 use Rattle.offsets.proofs.Tables.{ranks-within}
-use Rattle.offsets_write.proofs.Partitions.{table-length, entries-put, table-put, table-of, table-holds}
+use Rattle.offsets_write.proofs.Partitions.{table-length, entries-put, table-put}
 
 -- ---- the cut
 
@@ -447,10 +447,6 @@ pub share-is : (P : ℕ) (ls : List ℕ) (p : ℕ) {n r : ℕ} → n ≡ leafTot
 unfolding equalShares
 share-is P ls p e q = q ∙ ap (λ m. cut m p P) e
 
--- what the table from leaf counts is written from is a valid partition
-pub leaf-table-partition : (P : ℕ) (ls : List ℕ) → rankCountOk P ≡ true → leavesOk ls ≡ true → validPartition (leafFirst ls (equalShares P ls)) (leafCount ls (equalShares P ls)) P (length ls) ≡ true
-leaf-table-partition P ls h ok = leaf-partition ls ok P (equalShares P ls) (shares-none P ls) (shares-all P ls (ranks-within P h .0)) (shares-mono P ls)
-
 -- ---- the table, written entry by entry
 
 -- bounds that ascend from no leaf to all leaves
@@ -515,18 +511,3 @@ module _ {ls : List ℕ} {P : ℕ} {bound : ℕ → ℕ} {out₀ : List ℕ} (cu
 pub leaf-table-length : (P : ℕ) (ls : List ℕ) → length (leafTable P ls) ≡ tableLength P
 unfolding leafTable
 leaf-table-length P ls = table-length (leafFirst ls (equalShares P ls)) (leafCount ls (equalShares P ls)) P
-
--- ---- the table from leaf counts
-
-module _ (P : ℕ) (ls : List ℕ) (ro : rankCountOk P ≡ true) (ok : leavesOk ls ≡ true) where
-  -- it is the table of that partition
-  pub leaf-table-is : IsTable (leafFirst ls (equalShares P ls)) (leafCount ls (equalShares P ls)) P (length ls) (leafTable P ls)
-  unfolding leafTable leavesOk
-  leaf-table-is =
-      table-of (leafFirst ls (equalShares P ls)) (leafCount ls (equalShares P ls)) P (length ls) ro (and-fst (treeCountOk (length ls)) _ ok) (leaf-table-partition P ls ro ok)
-
-  -- tree k is in f(p) exactly when a leaf of rank p is in k
-  pub leaf-table-holds : (p k : ℕ) → p < P → k < length ls → holds (leafTable P ls) p k ≡ leafHolds ls (equalShares P ls) p k
-  leaf-table-holds p k h l =
-      table-holds (leafFirst ls (equalShares P ls)) (leafCount ls (equalShares P ls)) P ro (length ls) (leafTable P ls) leaf-table-is p k h
-      ∙ leaf-on-rank ls ok P (equalShares P ls) (shares-none P ls) (shares-all P ls (ranks-within P ro .0)) (shares-mono P ls) p k h l

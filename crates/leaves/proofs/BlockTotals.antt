@@ -13,8 +13,9 @@ use Rattle.encoding.specs.Below.{allBelow, sumBelow}
 use Rattle.encoding.proofs.Below.{tests, either, and-fst, and-snd, all-at, sum-add}
 use Rattle.offsets_write.specs.Partition.{tableOf}
 use Rattle.leaf_shares.specs.Leaves.{leavesOk, leafStart, leafTotal, cut, leafFirst, leafCount, equalShares, leafTable}
-use Rattle.leaves.specs.Blocks.{blockCount, blockSum, sumsOk, pairs, rounds, pairTotal, blockShares, blockTable, PairsAdd, BlocksAgree}
-use Rattle.leaves.specs.Calls.{leavesRefusal, blocksRefusal, tableFromLeaves, tableFromBlocks, BlocksAnswer}
+use Rattle.leaves.specs.Blocks.{blockCount, blockSum, sumsOk, pairs, rounds, pairTotal, blockShares, blockTable}
+use Rattle.leaves.specs.Calls.{leavesRefusal, blocksRefusal, tableFromLeaves, tableFromBlocks}
+use Rattle.leaves.specs.Promises.{PairsAdd, BlocksAgree, BlocksAnswer}
 use Rattle.leaves.specs.Means.{blockEnd, Adding, AllSums}
 use Rattle.leaf_shares.proofs.LeafCounts.{start-zero, start-more, start-total, start-mono, start-bound, trees-fit}
 

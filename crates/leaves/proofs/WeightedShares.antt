@@ -1,6 +1,6 @@
 -- Laws of weights and of the shares that they give.
 use Prim.Native.Nat.{ℕ, zero, suc, _+_, _-_, _*_, _/_, _^_, _≤_, _<_}
-use native.Mathlib.Nat.{le-refl, div-eq-of-lt, div-lt-iff-lt-mul, lt-div-mul-add, mul-add-div-right, le-div-iff-mul-le, div-mul-le-self, div-div-eq-div-mul}
+use native.Mathlib.Nat.{le-refl, mul-le-mul-right, div-eq-of-lt, div-lt-iff-lt-mul, lt-div-mul-add, mul-add-div-right, le-div-iff-mul-le, div-mul-le-self, div-div-eq-div-mul}
 use native.Mathlib.Numerals.{add-one}
 use native.Mathlib.Omega.{arith}
 use mathlib.Core.Path.{_≡_, refl, sym, ap, ap₂, _∙_}
@@ -9,17 +9,22 @@ use mathlib.Core.Bool.{true, false, _&&_, and-false}
 use mathlib.Core.List.{List}
 use lib.Dec.{leb, ltb}
 use lib.ListN.{length, getD}
-use borrow.Author.Tests.{ltb-true, leb-true}
+use borrow.Author.Tests.{ltb-true, leb-true, lt-ltb, le-leb}
+use Rattle.encoding.specs.Answer.{writeAnswer}
+use Rattle.encoding.specs.Refusal.{firstFailed}
 use Rattle.encoding.specs.Below.{allBelow, anyBelow, countBelow, leastBelow, sumBelow}
-use Rattle.encoding.proofs.Below.{tests, either, and-fst, and-snd, all-at, any-none, sum-more, sum-mono, sum-le}
-use Rattle.offsets.specs.Limits.{rankCountOk, treeCountOk}
-use Rattle.offsets.specs.Table.{tableLength, holds}
+use Rattle.encoding.proofs.Below.{tests, either, clash, and-fst, and-snd, and-intro, all-at, all-intro, any-none, sum-more, sum-mono, sum-le}
+use Rattle.offsets.specs.Limits.{rankCountOk}
+use Rattle.offsets.specs.Table.{tableLength, firstTree, endTree, treeCount, holds}
 use Rattle.offsets.proofs.Tables.{ranks-within}
 use Rattle.offsets_write.specs.Partition.{tableOf}
-use Rattle.offsets_write.proofs.Partitions.{table-length, table-of, table-holds, same-ranges}
+use Rattle.offsets_write.proofs.Partitions.{table-length, same-ranges}
 use Rattle.leaf_shares.specs.Leaves.{leavesOk, leafStart, leafTotal, cut, leafHolds, leafFirst, leafCount, equalShares, leafTable}
-use Rattle.leaves.specs.Weighted.{maxWeight, weightBefore, weightTotal, weightsOk, weightedShares, weightedTable, shareOf, WeightedHolds, SharesRounded, WeightlessEmpty, EqualWeights}
-use Rattle.leaf_shares.proofs.LeafCounts.{cut-none, cut-all, cut-mono, Cuts, leaf-partition, leaf-on-rank, out-range}
+use Rattle.leaf_shares.proofs.LeafCounts.{cut-none, cut-all, cut-mono, Cuts, out-range}
+use Rattle.leaves.specs.Weighted.{maxWeight, weightBefore, weightTotal, weightsOk, weightedShares, shareOf, weightedTable}
+use Rattle.leaves.specs.Calls.{leavesRefusal, tableFromLeaves, weightsRefusal, tableFromWeights}
+use Rattle.leaves.specs.Promises.{HoldsLeaves, WeightedHolds, SharesRounded, WeightlessEmpty, EqualWeights}
+use Rattle.leaves.proofs.LeafTables.{cuts-table}
 
 -- ---- sums of weights
 
@@ -85,17 +90,17 @@ pub weighted-length : (ws ls : List ℕ) → length (weightedTable ws ls) ≡ ta
 unfolding weightedTable
 weighted-length ws ls = table-length (leafFirst ls (weightedShares ws ls)) (leafCount ls (weightedShares ws ls)) (length ws)
 
--- the table of any ascending bounds gives each rank the trees with a leaf of it
-cuts-hold : (ls : List ℕ) (P : ℕ) (bound : ℕ → ℕ) → rankCountOk P ≡ true → Cuts ls P bound → (p k : ℕ) → p < P → k < length ls → holds (tableOf (leafFirst ls bound) (leafCount ls bound) P) p k ≡ leafHolds ls bound p k
-unfolding leavesOk
-cuts-hold ls P bound ro cuts p k h l =
-    table-holds (leafFirst ls bound) (leafCount ls bound) P ro (length ls) (tableOf (leafFirst ls bound) (leafCount ls bound) P)
-    (table-of (leafFirst ls bound) (leafCount ls bound) P (length ls) ro (and-fst (treeCountOk (length ls)) _ (cuts .ok)) (leaf-partition ls (cuts .ok) P bound (cuts .from) (cuts .to) (cuts .mono))) p k h
-    ∙ leaf-on-rank ls (cuts .ok) P bound (cuts .from) (cuts .to) (cuts .mono) p k h l
+module _ (ws ls : List ℕ) (ro : rankCountOk (length ws) ≡ true) (wo : weightsOk ws ≡ true) (ok : leavesOk ls ≡ true) where
+  weights-written : (out : List ℕ) → tableLength (length ws) ≤ length out → tableFromWeights ws ls out ≡ writeAnswer 0 (weightedTable ws ls) out
+  unfolding tableFromWeights weightsRefusal firstFailed
+  weights-written out room = rw (ro, wo, ok, le-leb (tableLength (length ws)) (length out) room)
+
+  weighted-held : HoldsLeaves (length ws) ls (weightedShares ws ls) (weightedTable ws ls)
+  unfolding weightedTable
+  weighted-held = cuts-table ls (length ws) (weightedShares ws ls) ro (weighted-cuts ws ls wo ok)
 
 pub weighted-holds : WeightedHolds
-unfolding weightedTable
-weighted-holds ws ls ro wo ok p k h l = cuts-hold ls (length ws) (weightedShares ws ls) ro (weighted-cuts ws ls wo ok) p k h l
+weighted-holds ws ls ro wo ok = (weights-written ws ls ro wo ok, weighted-held ws ls ro wo ok)
 
 -- ---- a share is rounded down or up
 
@@ -155,11 +160,20 @@ no-leaf ls bound p k e =
     any-none (leafTotal ls) (λ l. (leb (leafStart ls k) l && ltb l (leafStart ls (k + 1))) && (leb (bound p) l && ltb l (bound (p + 1))))
     (λ l h. let f : (leb (bound p) l && ltb l (bound (p + 1))) ≡ false = rw e (out-range (bound p) l (bound p) (λ q. q)) in rw (f, and-false))
 
+-- a range that holds nothing is empty
+none-held : (t : List ℕ) (p : ℕ) → ((k : ℕ) → holds t p k ≡ false) → treeCount t p ≡ 0
+unfolding holds treeCount
+none-held t p none =
+    either (ltb (firstTree t p) (endTree t p))
+    (λ e. clash (rw (le-leb (firstTree t p) (firstTree t p) (le-refl (firstTree t p))) e) (none (firstTree t p)))
+    (λ e. omega tests)
+
 pub weightless-empty : WeightlessEmpty
 weightless-empty ws ls ro wo ok p h z =
     let q : weightBefore ws (p + 1) ≡ weightBefore ws p = omega (arith, weight-more ws p) in
     let e : weightedShares ws ls (p + 1) ≡ weightedShares ws ls p = same-share ws ls (p + 1) p q in
-    (none-left ws ls p e, λ k l. weighted-holds ws ls ro wo ok p k h l ∙ no-leaf ls (weightedShares ws ls) p k e)
+    let none : (k : ℕ) → holds (weightedTable ws ls) p k ≡ false = λ k. weighted-held ws ls ro wo ok .held p k h ∙ no-leaf ls (weightedShares ws ls) p k e in
+    (none-left ws ls p e, none-held (weightedTable ws ls) p none, none)
 
 -- ---- equal weights
 
@@ -216,9 +230,28 @@ equal-bounds ws ls c h k all p l =
 no-ranks : (ls : List ℕ) (b d : ℕ → ℕ) (P : ℕ) → P ≡ 0 → tableOf (leafFirst ls b) (leafCount ls b) P ≡ tableOf (leafFirst ls d) (leafCount ls d) P
 no-ranks ls b d P e = same-ranges (leafFirst ls b) (leafCount ls b) (leafFirst ls d) (leafCount ls d) P (λ p l. absurd (omega arith))
 
+module _ (ws ls : List ℕ) (c : ℕ) (h : 0 < c) (all : (p : ℕ) → p < length ws → getD ws p 0 ≡ c) where
+  same-table : weightedTable ws ls ≡ leafTable (length ws) ls
+  unfolding weightedTable leafTable
+  same-table =
+      either (ltb 0 (length ws))
+      (λ e. same-bounds ls (length ws) (weightedShares ws ls) (equalShares (length ws) ls) (equal-bounds ws ls c h (omega tests) all))
+      (λ e. no-ranks ls (weightedShares ws ls) (equalShares (length ws) ls) (length ws) (omega tests))
+
+  -- such weights pass their check where there are ranks
+  equal-pass : c ≤ maxWeight → 0 < length ws → weightsOk ws ≡ true
+  unfolding weightsOk weightTotal
+  equal-pass m k =
+      and-intro (allBelow (length ws) (λ p. leb (getD ws p 0) maxWeight)) (ltb 0 (weightBefore ws (length ws)))
+      (all-intro (length ws) (λ p. leb (getD ws p 0) maxWeight) (λ p l. rw (all p l) (le-leb c maxWeight m)))
+      (lt-ltb 0 (weightBefore ws (length ws)) (rw (weight-equal ws c all (length ws) (le-refl (length ws))) (omega (arith, mul-le-mul-right c k))))
+
+  same-answer : c ≤ maxWeight → (out : List ℕ) → tableFromWeights ws ls out ≡ tableFromLeaves (length ws) ls out
+  unfolding tableFromWeights weightsRefusal tableFromLeaves leavesRefusal firstFailed
+  same-answer m out =
+      either (rankCountOk (length ws))
+      (λ e. rw (same-table, e, equal-pass m (ranks-within (length ws) e .0)))
+      (λ e. rw (same-table, e))
+
 pub equal-weights : EqualWeights
-unfolding weightedTable leafTable
-equal-weights ws ls c h all =
-    either (ltb 0 (length ws))
-    (λ e. same-bounds ls (length ws) (weightedShares ws ls) (equalShares (length ws) ls) (equal-bounds ws ls c h (omega tests) all))
-    (λ e. no-ranks ls (weightedShares ws ls) (equalShares (length ws) ls) (length ws) (omega tests))
+equal-weights ws ls c h all = (same-table ws ls c h all, same-answer ws ls c h all)

@@ -1,13 +1,12 @@
 -- Document 02, C-19: leaf totals by blocks of 256 trees, each with a sum that the caller gives.
 use Prim.Native.Nat.{ℕ, zero, suc, _+_, _*_, _/_}
-use mathlib.Core.Path.{_≡_}
-use mathlib.Core.Bool.{Bool, true, _&&_}
+use mathlib.Core.Bool.{Bool, _&&_}
 use mathlib.Core.List.{List, [], _∷_}
 use lib.Dec.{eqb}
 use lib.ListN.{length, getD}
 use Rattle.encoding.specs.Below.{allBelow, sumBelow}
 use Rattle.offsets_write.specs.Partition.{tableOf}
-use Rattle.leaf_shares.specs.Leaves.{leafTotal, cut, leafFirst, leafCount, equalShares, leafTable}
+use Rattle.leaf_shares.specs.Leaves.{cut, leafFirst, leafCount}
 
 -- the number of blocks of K trees
 unfoldable pub blockCount : ℕ → ℕ
@@ -42,15 +41,3 @@ blockShares P sums p = cut (pairTotal sums) p P
 
 unfoldable pub blockTable : ℕ → List ℕ → List ℕ → List ℕ
 blockTable P ls sums = tableOf (leafFirst ls (blockShares P sums)) (leafCount ls (blockShares P sums)) P
-
--- ---- what is shown of them, for any number of trees
-
--- the total is that of adding tree by tree
-abbrev pub PairsAdd : Type 0
-PairsAdd = (ls sums : List ℕ) → sumsOk ls sums ≡ true → pairTotal sums ≡ leafTotal ls
-
--- so is every cut, and every table
-abbrev pub BlocksAgree : Type 0
-BlocksAgree =
-    (P : ℕ) (ls sums : List ℕ) → sumsOk ls sums ≡ true
-    → ((p : ℕ) → blockShares P sums p ≡ equalShares P ls p) × (blockTable P ls sums ≡ leafTable P ls)

@@ -1,8 +1,7 @@
 -- What the public calls answer, refusals included, and what they leave in the lent buffer.
 use Prim.Native.Nat.{ℕ}
 use mathlib.Core.List.{List, [], _∷_}
-use mathlib.Core.Path.{_≡_}
-use mathlib.Core.Bool.{true, _&&_}
+use mathlib.Core.Bool.{_&&_}
 use lib.Dec.{leb}
 use lib.ListN.{length}
 use Rattle.encoding.specs.Refusal.{check, firstFailed}
@@ -37,7 +36,3 @@ blocksRefusal P ls sums out =
 
 unfoldable pub tableFromBlocks : ℕ → List ℕ → List ℕ → List ℕ → Length × List ℕ
 tableFromBlocks P ls sums out = writeAnswer (blocksRefusal P ls sums out) (blockTable P ls sums) out
-
--- with the right sums, the answer and the buffer are those of the call without sums
-abbrev pub BlocksAnswer : Type 0
-BlocksAnswer = (P : ℕ) (ls sums out : List ℕ) → sumsOk ls sums ≡ true → tableFromBlocks P ls sums out ≡ tableFromLeaves P ls out

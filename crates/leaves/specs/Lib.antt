@@ -2,4 +2,5 @@
 pub mod Weighted
 pub mod Blocks
 pub mod Calls
+pub mod Promises
 pub mod Means

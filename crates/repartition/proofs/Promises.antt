@@ -17,14 +17,12 @@ use Rattle.encoding.specs.declared.answer.Length.{Length}
 use Rattle.encoding.proofs.Below.{either, and-fst, and-snd, and-intro}
 use Rattle.offsets.specs.Limits.{rankCountOk, treeCountOk}
 use Rattle.offsets.specs.Table.{tableLength, ranks, ranksOk, trees, firstTree, treeCount, entriesWithin, countsOk, valid, entry}
-use Rattle.offsets_write.specs.Partition.{validPartition, rangesFit, tableOf, IsTable}
-use Rattle.leaf_shares.specs.Leaves.{leavesOk, leafTable}
+use Rattle.offsets_write.specs.Partition.{validPartition, endBelow, rangesFit, tableOf, IsTable}
 use Rattle.offsets.specs.Calls.{tableRefusal, rangeRefusal, rangeAnswer, tableRange}
 use Rattle.offsets_write.specs.Calls.{each, partitionOk, writeRefusal, writeTable}
-use Rattle.leaves.specs.Calls.{leavesRefusal, tableFromLeaves}
 use Rattle.offsets.proofs.Tables.{size}
-use Rattle.offsets_write.proofs.Partitions.{trees-are, table-of, table-unique, table-fits, shared-means}
-use Rattle.leaf_shares.proofs.LeafCounts.{leaf-table-holds}
+use Rattle.offsets_write.proofs.Partitions.{trees-are, Agree, same-end, same-ranges, same-partition, table-of, table-unique, table-fits, shared-means}
+use Rattle.leaves.proofs.LeafTables.{ranks-counted, ranks-fit, leaf-tables}
 use Rattle.pattern.specs.Sender.{sentFirst, sentCount}
 use Rattle.pattern.proofs.Counting.{range-true, range-in}
 use Rattle.pattern.proofs.Sets.{send-ascends, receive-ascends, symmetric, one-sender, one-range, received-disjoint, received-covers, received-only, send-ends, receive-ends}
@@ -47,7 +45,7 @@ use Rattle.message_reader.specs.Handing.{beginOf, begunSeen}
 use Rattle.message_reader.specs.declared.Begun.{Begun}
 use Rattle.message_reader.proofs.Whole.{reads-records, reads-bytes, reads-remains, reads-end, reads-refused, reads-nothing}
 use Rattle.repartition.specs.Lists.{Built}
-use Rattle.repartition.specs.Promises.{BecomesTable, OneTable, OnlyValid, TableAgain, SharedFirst, LeafTables, Received, SetsAscend, SetsEnd, CutParts, Messages, BuiltInLayout, ReadsMessages, TreeOneMessage, GhostOneMessage, Demand2}
+use Rattle.repartition.specs.Promises.{BecomesTable, OneTable, OnlyValid, TableAgain, FirstUnread, SharedFirst, Received, SetsAscend, SetsEnd, CutParts, Messages, BuiltInLayout, ReadsMessages, TreeOneMessage, GhostOneMessage, Demand2}
 use Rattle.repartition.proofs.Building.{own-record, build-answer}
 use Rattle.repartition.proofs.PartMessages.{part-in-layout}
 use Rattle.repartition.proofs.RuleMessages.{trees-in, goes-in, follows-rule}
@@ -83,15 +81,6 @@ ranges-fit : (first count : ℕ → ℕ) (P K : ℕ) → treeCountOk K ≡ true 
 unfolding rangesFit
 ranges-fit first count P K ko v = rw (← trees-are first count P K v) (and-intro (treeCountOk K) (validPartition first count P K) ko v)
 
--- a table's bytes say how many ranks it has
-ranks-are : (first count : ℕ → ℕ) (P K : ℕ) (t : List ℕ) → IsTable first count P K t → ranks t ≡ P
-unfolding ranks
-ranks-are first count P K t i = rw (i .size) (omega arith)
-
-ranks-fine : (first count : ℕ → ℕ) (P K : ℕ) (t : List ℕ) → rankCountOk P ≡ true → IsTable first count P K t → ranksOk t ≡ true
-unfolding ranksOk
-ranks-fine first count P K t ro i = rw (ranks-are first count P K t i, i .size, eq-eqb (tableLength P) (tableLength P) refl) ro
-
 module _ (P K : ℕ) (first count : List ℕ) (ro : rankCountOk P ≡ true) (ko : treeCountOk K ≡ true) (lf : length first ≡ P) (lc : length count ≡ P) where
   -- the call writes the table of a valid partition
   writes-table : validPartition (each first) (each count) P K ≡ true → (out : List ℕ) → tableLength P ≤ length out
@@ -104,8 +93,8 @@ module _ (P K : ℕ) (first count : List ℕ) (ro : rankCountOk P ≡ true) (ko 
   becomes v =
       let t : List ℕ = tableOf (each first) (each count) P in
       let i : IsTable (each first) (each count) P K t = table-of (each first) (each count) P K ro ko v in
-      let ok : ranksOk t ≡ true = ranks-fine (each first) (each count) P K t ro i in
-      let r : ranks t ≡ P = ranks-are (each first) (each count) P K t i in
+      let ok : ranksOk t ≡ true = ranks-fit (each first) (each count) P K t i ro in
+      let r : ranks t ≡ P = ranks-counted (each first) (each count) P K t i in
       record {
         is-table = i;
         no-other = table-unique (each first) (each count) P ro K;
@@ -140,12 +129,26 @@ table-written-again t b passes first count lf lc agree out room =
 pub shared-first : SharedFirst
 shared-first t b passes = let k = table-passes t passes in shared-means t b (k .0) (k .1)
 
-leaves-written : (P : ℕ) (ls : List ℕ) → rankCountOk P ≡ true → leavesOk ls ≡ true → (out : List ℕ) → tableLength P ≤ length out → tableFromLeaves P ls out ≡ writeAnswer 0 (leafTable P ls) out
-unfolding tableFromLeaves leavesRefusal firstFailed
-leaves-written P ls ro ok out room = rw (ro, ok, le-leb (tableLength P) (length out) room)
+-- what the write call asks of two lists of firsts that agree wherever there are trees
+module _ (P : ℕ) (first other count : List ℕ) (many : length first ≡ length other) (agree : (p : ℕ) → p < P → 0 < each count p → each first p ≡ each other p) where
+  alike : Agree (each first) (each count) (each other) (each count) P
+  alike p h = (refl, agree p h)
 
-pub leaf-tables : LeafTables
-leaf-tables P ls ro ok = (leaves-written P ls ro ok, leaf-table-holds P ls ro ok)
+  same-checked : partitionOk P first count ≡ partitionOk P other count
+  unfolding partitionOk rangesFit
+  same-checked =
+      rw (
+        many,
+        same-end (each first) (each count) (each other) (each count) P alike,
+        same-partition (each first) (each count) (each other) (each count) P (endBelow (each other) (each count) P) alike,
+      )
+
+  same-written : (out : List ℕ) → writeTable P first count out ≡ writeTable P other count out
+  unfolding writeTable writeRefusal
+  same-written out = rw (same-checked, same-ranges (each first) (each count) (each other) (each count) P alike)
+
+pub first-unread : FirstUnread
+first-unread P first other count out many agree = same-written P first other count many agree out
 
 -- ---- who sends
 
@@ -260,6 +263,7 @@ demand-2 =
       one-table = one-table-written;
       only-valid = only-valid;
       table-again = table-written-again;
+      first-unread = first-unread;
       six-means = six-means;
       table-written = table-written;
       shared-first = shared-first;

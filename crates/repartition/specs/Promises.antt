@@ -12,10 +12,9 @@ use Rattle.offsets.specs.Limits.{rankCountOk, treeCountOk}
 use Rattle.offsets.specs.Table.{tableLength, ranks, trees, entry, negative, firstTree, treeCount, holds}
 use Rattle.offsets_write.specs.Partition.{validPartition, IsTable}
 use Rattle.offsets_write.specs.Sharing.{sharesWithLower}
-use Rattle.leaf_shares.specs.Leaves.{leavesOk, leafHolds, equalShares, leafTable}
 use Rattle.offsets.specs.Calls.{tableRefusal, tableRange}
 use Rattle.offsets_write.specs.Calls.{each, writeTable}
-use Rattle.leaves.specs.Calls.{tableFromLeaves}
+use Rattle.leaves.specs.Promises.{LeafTables}
 use Rattle.pattern.specs.Sender.{Tables, sends, sentFirst, sentCount}
 use Rattle.pattern.specs.Sets.{sendsTo, sendSet, receiveSet, Ends}
 use Rattle.offsets_write.specs.Promises.{SixMeans, TableWritten}
@@ -68,16 +67,15 @@ TableAgain =
     → ((p : ℕ) → p < ranks t → (each first p ≡ tableRange t p .first) × (each count p ≡ tableRange t p .count))
     → (out : List ℕ) → length t ≤ length out → writeTable (ranks t) first count out ≡ writeAnswer 0 t out
 
+-- the first of a rank with count 0 isn't read: for two lists of firsts that agree wherever the count is above 0, the call answers and writes the same, refusals included
+abbrev pub FirstUnread : Type 0
+FirstUnread =
+    (P : ℕ) (first other count out : List ℕ) → length first ≡ length other → ((p : ℕ) → p < P → 0 < each count p → each first p ≡ each other p)
+    → writeTable P first count out ≡ writeTable P other count out
+
 -- a negative entry means that the first tree is shared with the nearest lower non-empty rank
 abbrev pub SharedFirst : Type 0
 SharedFirst = (t : List ℕ) → Bytes t → tableRefusal t ≡ 0 → (p : ℕ) → p < ranks t → negative (entry t p) ≡ sharesWithLower t p
-
--- from leaf counts: in the table written, tree k is in f(p) exactly when a leaf of rank p is in k
-abbrev pub LeafTables : Type 0
-LeafTables =
-    (P : ℕ) (ls : List ℕ) → rankCountOk P ≡ true → leavesOk ls ≡ true
-    → ((out : List ℕ) → tableLength P ≤ length out → tableFromLeaves P ls out ≡ writeAnswer 0 (leafTable P ls) out)
-    × ((p k : ℕ) → p < P → k < length ls → holds (leafTable P ls) p k ≡ leafHolds ls (equalShares P ls) p k)
 
 -- ---- who sends
 
@@ -221,10 +219,12 @@ pub record Demand2 : Type 0 where
   pub one-table : OneTable
   pub only-valid : OnlyValid
   pub table-again : TableAgain
+  pub first-unread : FirstUnread
   -- refusal 6 of ranges exactly where there is no table, and the table where there is one
   pub six-means : SixMeans
   pub table-written : TableWritten
   pub shared-first : SharedFirst
+  -- from leaf counts: each rank holds the trees of its leaves
   pub leaf-tables : LeafTables
   pub symmetric : Symmetric
   pub one-sender : OneSender

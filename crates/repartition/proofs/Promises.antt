@@ -1,29 +1,35 @@
 -- The promises of demand 2.
 use Prim.Native.Nat.{ℕ, suc, _+_, _≤_, _<_}
+use native.Mathlib.Nat.{zero-add}
 use native.Mathlib.Omega.{arith}
 use mathlib.Core.Path.{_≡_, refl, sym, ap, _∙_}
 use mathlib.Core.Bool.{Bool, true, false}
 use mathlib.Core.List.{List, [], _∷_}
 use lib.Dec.{eqb}
+use lib.IntN.{ℤ, pos, negsuc}
 use lib.ListN.{length}
 use borrow.Author.Tests.{lt-ltb, le-leb, eq-eqb}
 use Rattle.offsets_write.proofs.Refusals.{six-means, table-written}
 use Rattle.plan_write.proofs.Listing.{moves-printed}
 use Rattle.plan_text.proofs.Texts.{plan-texts}
-use Rattle.encoding.specs.Answer.{lengthAnswer, writeAnswer}
-use Rattle.encoding.specs.Pieces.{Bytes}
+use Rattle.encoding.specs.Answer.{lengthAnswer, written, writeAnswer}
+use Rattle.encoding.specs.Pieces.{Bytes, splice}
 use Rattle.encoding.specs.Refusal.{check, firstFailed}
 use Rattle.encoding.specs.declared.answer.Length.{Length}
 use Rattle.encoding.proofs.Below.{either, and-fst, and-snd, and-intro}
 use Rattle.offsets.specs.Limits.{rankCountOk, treeCountOk}
-use Rattle.offsets.specs.Table.{tableLength, ranks, ranksOk, trees, firstTree, treeCount, entriesWithin, countsOk, valid, entry}
+use Rattle.offsets.specs.Table.{tableLength, ranks, ranksOk, trees, firstTree, treeCount, holds, entriesWithin, countsOk, valid, entry}
 use Rattle.offsets_write.specs.Partition.{validPartition, endBelow, rangesFit, tableOf, IsTable}
 use Rattle.offsets.specs.Calls.{tableRefusal, rangeRefusal, rangeAnswer, tableRange}
 use Rattle.offsets_write.specs.Calls.{each, partitionOk, writeRefusal, writeTable}
 use Rattle.offsets.proofs.Tables.{size}
 use Rattle.offsets_write.proofs.Partitions.{trees-are, Agree, same-end, same-ranges, same-partition, table-of, table-unique, table-fits, shared-means}
 use Rattle.leaves.proofs.LeafTables.{ranks-counted, ranks-fit, leaf-tables}
-use Rattle.pattern.specs.Sender.{sentFirst, sentCount}
+use Rattle.pattern.specs.declared.Sender.the-variants.{Rank, Nobody}
+use Rattle.pattern.specs.Sender.{Tables, sender, senderTo, senderNumber, sentFirst, sentCount}
+use Rattle.pattern.specs.Sets.{sendSet, receiveSet}
+use Rattle.pattern.specs.Calls.{tableChecks, senderRefusal, senderOf, sentRefusal, treesSent, setRefusal, ranksAnswer, setAnswer, sendSetOf, receiveSetOf}
+use Rattle.pattern.proofs.Senders.{sender-defined, sender-nobody, sends-true, sends-in}
 use Rattle.pattern.proofs.Counting.{range-true, range-in}
 use Rattle.pattern.proofs.Sets.{send-ascends, receive-ascends, symmetric, one-sender, one-range, received-disjoint, received-covers, received-only, send-ends, receive-ends}
 use Rattle.mesh.specs.Mesh.{meshTrees, meshSound, meshRefusal}
@@ -45,7 +51,7 @@ use Rattle.message_reader.specs.Handing.{beginOf, begunSeen}
 use Rattle.message_reader.specs.declared.Begun.{Begun}
 use Rattle.message_reader.proofs.Whole.{reads-records, reads-bytes, reads-remains, reads-end, reads-refused, reads-nothing}
 use Rattle.repartition.specs.Lists.{Built}
-use Rattle.repartition.specs.Promises.{BecomesTable, OneTable, OnlyValid, TableAgain, FirstUnread, SharedFirst, Received, SetsAscend, SetsEnd, CutParts, Messages, BuiltInLayout, ReadsMessages, TreeOneMessage, GhostOneMessage, Demand2}
+use Rattle.repartition.specs.Promises.{BecomesTable, OneTable, OnlyValid, TableAgain, FirstUnread, SharedFirst, Symmetric, OneSender, OneRange, Received, SetsAscend, SetsEnd, listed, SetsAnswered, RangesAnswered, SenderAnswered, SendersAnswered, CutParts, Messages, BuiltInLayout, ReadsMessages, TreeOneMessage, GhostOneMessage, Demand2}
 use Rattle.repartition.proofs.Building.{own-record, build-answer}
 use Rattle.repartition.proofs.PartMessages.{part-in-layout}
 use Rattle.repartition.proofs.RuleMessages.{trees-in, goes-in, follows-rule}
@@ -152,6 +158,15 @@ first-unread P first other count out many agree = same-written P first other cou
 
 -- ---- who sends
 
+pub sets-symmetric : Symmetric
+sets-symmetric = symmetric
+
+pub tree-one-sender : OneSender
+tree-one-sender = one-sender
+
+pub trees-one-range : OneRange
+trees-one-range = one-range
+
 pub received : Received
 received old new T q l =
     record {
@@ -172,6 +187,71 @@ sets-ascend old new rank = ((λ i j. send-ascends old new rank i j 0), (λ i j. 
 
 pub sets-end : SetsEnd
 sets-end old new rank = (send-ends old new rank, receive-ends old new rank)
+
+-- the calls of two tables that agree
+module _ (old new : List ℕ) (T : Tables old new) where
+  list-answered : (rank : ℕ) → rank < ranks old → (set out : List ℕ) → length set ≤ length out → setAnswer (setRefusal old new rank set out) set out ≡ listed set out
+  unfolding setAnswer setRefusal tableChecks ranksAnswer written splice firstFailed
+  list-answered rank h set out room =
+      rw (T .oldRanks, T .newRanks, T .oldValid, T .newValid, T .sameRanks, T .sameTrees, eq-eqb (ranks old) (ranks old) refl, eq-eqb (trees old) (trees old) refl, lt-ltb rank (ranks old) h, le-leb (length set) (length out) room, zero-add)
+
+  range-answered : (p q : ℕ) → p < ranks old → q < ranks old → treesSent old new p q ≡ record { refusal = 0; first = sentFirst old new p q; count = sentCount old new p q }
+  unfolding treesSent sentRefusal tableChecks rangeAnswer firstFailed
+  range-answered p q l r =
+      rw (T .oldRanks, T .newRanks, T .oldValid, T .newValid, T .sameRanks, T .sameTrees, eq-eqb (ranks old) (ranks old) refl, eq-eqb (trees old) (trees old) refl, lt-ltb p (ranks old) l, lt-ltb q (ranks old) r)
+
+  sender-answered : (k q : ℕ) → k < trees old → q < ranks old → senderOf old new k q ≡ record { refusal = 0; sender = senderNumber (senderTo old new k q) }
+  unfolding senderOf senderRefusal tableChecks firstFailed
+  sender-answered k q h l =
+      rw (T .oldRanks, T .newRanks, T .oldValid, T .newValid, T .sameRanks, T .sameTrees, eq-eqb (ranks old) (ranks old) refl, eq-eqb (trees old) (trees old) refl, lt-ltb k (trees old) h, lt-ltb q (ranks old) l)
+
+pub sets-answered : SetsAnswered
+unfolding sendSetOf receiveSetOf
+sets-answered old new T rank h out = (list-answered old new T rank h (sendSet old new rank) out, list-answered old new T rank h (receiveSet old new rank) out)
+
+pub ranges-answered : RangesAnswered
+ranges-answered = range-answered
+
+-- an integer's number and sign
+abbrev plain : ℤ → ℕ
+plain (pos n) = n
+plain (negsuc n) = n
+
+abbrev sign : ℤ → ℕ
+sign (pos n) = 1
+sign (negsuc n) = 0
+
+-- the number of a sender says who it is
+number-rank : (p q : ℕ) → senderNumber (Rank p) ≡ senderNumber (Rank q) → p ≡ q
+unfolding senderNumber
+number-rank p q e = ap plain e
+
+number-nobody : (p : ℕ) → senderNumber (Rank p) ≡ senderNumber Nobody → ⊥
+unfolding senderNumber
+number-nobody p e = let z : _≡_ {A = ℕ} 1 0 = ap sign e in omega arith
+
+module _ (old new : List ℕ) (T : Tables old new) (k q : ℕ) (h : k < trees old) (l : q < ranks old) where
+  to-rank : holds new q k ≡ true → senderOf old new k q .sender ≡ senderNumber (Rank (sender old k q))
+  to-rank e = rw (sender-answered old new T k q h l, sender-defined old new T k q e)
+
+  to-nobody : holds new q k ≡ false → senderOf old new k q .sender ≡ senderNumber Nobody
+  to-nobody e = rw (sender-answered old new T k q h l, sender-nobody old new T k q e)
+
+  sender-told : SenderAnswered old new k q
+  sender-told =
+      record {
+        answer = sender-answered old new T k q h l;
+        if-sends = λ p s. let w = sends-true old new T p q k s in to-rank (w .0) ∙ ap (λ (r : ℕ). senderNumber (Rank r)) (w .1);
+        only-sends = λ p e.
+            either (holds new q k)
+            (λ t. rw (number-rank p (sender old k q) (sym e ∙ to-rank t)) (sends-in old new T q k t))
+            (λ t. absurd (number-nobody p (sym e ∙ to-nobody t)));
+        if-outside = to-nobody;
+        only-outside = λ e. either (holds new q k) (λ t. absurd (number-nobody (sender old k q) (sym (to-rank t) ∙ e))) (λ t. t);
+      }
+
+pub senders-answered : SendersAnswered
+senders-answered = sender-told
 
 -- ---- parts
 
@@ -268,12 +348,15 @@ demand-2 =
       table-written = table-written;
       shared-first = shared-first;
       leaf-tables = leaf-tables;
-      symmetric = symmetric;
-      one-sender = one-sender;
-      one-range = one-range;
+      symmetric = sets-symmetric;
+      one-sender = tree-one-sender;
+      one-range = trees-one-range;
       received = received;
       sets-ascend = sets-ascend;
       sets-end = sets-end;
+      sets-answered = sets-answered;
+      ranges-answered = ranges-answered;
+      senders-answered = senders-answered;
       plan-texts = plan-texts;
       plan-moves = moves-printed;
       cut-parts = cut-parts;

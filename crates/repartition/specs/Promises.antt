@@ -15,8 +15,11 @@ use Rattle.offsets_write.specs.Sharing.{sharesWithLower}
 use Rattle.offsets.specs.Calls.{tableRefusal, tableRange}
 use Rattle.offsets_write.specs.Calls.{each, writeTable}
 use Rattle.leaves.specs.Promises.{LeafTables}
-use Rattle.pattern.specs.Sender.{Tables, sends, sentFirst, sentCount}
-use Rattle.pattern.specs.Sets.{sendsTo, sendSet, receiveSet, Ends}
+use Rattle.pattern.specs.declared.Ranks.{Ranks}
+use Rattle.pattern.specs.declared.Sender.the-variants.{Rank, Nobody}
+use Rattle.pattern.specs.Sender.{Tables, senderTo, senderNumber, sends, sentFirst, sentCount}
+use Rattle.pattern.specs.Sets.{sendsTo, sendSet, receiveSet, smallest, largest, Ends}
+use Rattle.pattern.specs.Calls.{senderOf, treesSent, sendSetOf, receiveSetOf}
 use Rattle.offsets_write.specs.Promises.{SixMeans, TableWritten}
 use Rattle.plan_write.specs.Promises.{PlanMoves}
 use Rattle.plan_text.specs.Promises.{PlanTexts}
@@ -119,6 +122,36 @@ SetsAscend = (old new : List ℕ) (rank : ℕ) → Ascends (sendSet old new rank
 -- smallest and largest are a set's least and greatest, −1 and −2 for an empty one
 abbrev pub SetsEnd : Type 0
 SetsEnd = (old new : List ℕ) (rank : ℕ) → Ends (sendSet old new rank) × Ends (receiveSet old new rank)
+
+-- what a call answers that lists a set: how many are in it, the smallest and the largest, and the list, which begins with the set
+abbrev pub listed : List ℕ → List ℕ → Ranks × List ℕ
+listed set out = (record { refusal = 0; count = length set; smallest = smallest set; largest = largest set }, set ++ drop (length set) out)
+
+-- for a rank below P and a list that is long enough, the two calls accept and answer the send set and the receive set
+abbrev pub SetsAnswered : Type 0
+SetsAnswered =
+    (old new : List ℕ) → Tables old new → (rank : ℕ) → rank < ranks old → (out : List ℕ)
+    → (length (sendSet old new rank) ≤ length out → sendSetOf old new rank out ≡ listed (sendSet old new rank) out)
+    × (length (receiveSet old new rank) ≤ length out → receiveSetOf old new rank out ≡ listed (receiveSet old new rank) out)
+
+-- for two ranks below P, trees_sent accepts and answers the first of the trees from p to q and how many there are
+abbrev pub RangesAnswered : Type 0
+RangesAnswered =
+    (old new : List ℕ) → Tables old new → (p q : ℕ) → p < ranks old → q < ranks old
+    → treesSent old new p q ≡ record { refusal = 0; first = sentFirst old new p q; count = sentCount old new p q }
+
+-- what the call answers for tree k and rank q: it accepts, with the sender's number;
+-- that is p exactly where p sends k to q, and −1 exactly where k isn't in f'(q)
+pub record SenderAnswered (old new : List ℕ) (k q : ℕ) : Type 0 where
+  pub answer : senderOf old new k q ≡ record { refusal = 0; sender = senderNumber (senderTo old new k q) }
+  pub if-sends : (p : ℕ) → sends old new p q k ≡ true → senderOf old new k q .sender ≡ senderNumber (Rank p)
+  pub only-sends : (p : ℕ) → senderOf old new k q .sender ≡ senderNumber (Rank p) → sends old new p q k ≡ true
+  pub if-outside : holds new q k ≡ false → senderOf old new k q .sender ≡ senderNumber Nobody
+  pub only-outside : senderOf old new k q .sender ≡ senderNumber Nobody → holds new q k ≡ false
+
+-- for a tree below K and a rank below P
+abbrev pub SendersAnswered : Type 0
+SendersAnswered = (old new : List ℕ) → Tables old new → (k q : ℕ) → k < trees old → q < ranks old → SenderAnswered old new k q
 
 -- ---- parts
 
@@ -232,6 +265,9 @@ pub record Demand2 : Type 0 where
   pub received : Received
   pub sets-ascend : SetsAscend
   pub sets-end : SetsEnd
+  pub sets-answered : SetsAnswered
+  pub ranges-answered : RangesAnswered
+  pub senders-answered : SendersAnswered
   -- the program: what it answers to every text, and which moves it prints
   pub plan-texts : PlanTexts
   pub plan-moves : PlanMoves

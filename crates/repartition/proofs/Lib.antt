@@ -16,6 +16,7 @@ pub mod AfterList
 pub mod Runs
 pub mod Examples
 pub mod Promises
+pub mod Refinement
 pub mod Refusals
 pub mod Lengths
 pub mod Words

@@ -7,6 +7,7 @@ pub mod Words
 pub mod Deliveries
 pub mod Runs
 pub mod Promises
+pub mod Refinement
 pub mod Refusals
 pub mod Lengths
 pub mod Examples

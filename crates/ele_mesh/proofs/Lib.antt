@@ -4,3 +4,4 @@ pub mod Chains
 pub mod Joins
 pub mod Surveys
 pub mod Meshes
+pub mod Examples

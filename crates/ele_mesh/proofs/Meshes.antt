@@ -1,21 +1,28 @@
 -- The promises: the mesh is sound and joins exactly the faces with equal vertex sets, and 29 comes exactly where three faces share one.
 use Prim.Native.Nat.{ℕ, suc, _+_, _*_, _/_, _%_, _≤_, _<_}
 use mathlib.Core.Path.{_≡_, refl, sym, ap, _∙_}
-use mathlib.Core.Bool.{true, false, _&&_}
+use mathlib.Core.Bool.{Bool, true, false, cond, not, _&&_}
 use mathlib.Core.List.{List}
+use native.Mathlib.Nat.{zero-add}
 use native.Mathlib.Omega.{arith}
+use lib.Dec.{leb, eqb}
 use lib.ListN.{length}
+use borrow.Author.Tests.{leb-true, eqb-true}
+use Rattle.encoding.specs.Answer.{lengthAnswer, written, writeAnswer}
 use Rattle.encoding.specs.Below.{anyBelow}
-use Rattle.encoding.proofs.Below.{clash, and-fst, and-snd, any-at}
+use Rattle.encoding.specs.Pieces.{splice}
+use Rattle.encoding.specs.Refusal.{firstFailed}
+use Rattle.encoding.proofs.Below.{either, clash, and-fst, and-snd, any-at}
+use Rattle.encoding.proofs.Pieces.{splice-take}
 use Rattle.records.specs.Shape.{faceCount}
 use Rattle.records.specs.Record.{neighbourOf, faceOf, orientationOf}
-use Rattle.mesh.specs.Mesh.{meshCore}
+use Rattle.mesh.specs.Mesh.{meshCore, meshRefusal}
 use Rattle.mesh_build.specs.Build.{NewLink, LinksFit, builtMesh}
-use Rattle.mesh_build.proofs.Building.{built-sound, built-trees, built-neighbour, built-face, built-orientation}
-use Rattle.ele_text.specs.Text.{maxTriangles, vertices, triangles}
-use Rattle.ele_faces.specs.Faces.{firstVertex, sameSet, threeFaces, partner, turnOf, faceLink}
-use Rattle.ele_mesh.specs.Calls.{triangleMesh, triangleRefusal}
-use Rattle.ele_mesh.specs.Theorems.{TrianglesSound, Joined, JoinsSets, TrianglesJoin, Three, EdgesRefused}
+use Rattle.mesh_build.proofs.Building.{built-length, built-sound, built-trees, built-neighbour, built-face, built-orientation}
+use Rattle.ele_text.specs.Text.{maxTriangles, textOk, vertices, triangles}
+use Rattle.ele_faces.specs.Faces.{sameSet, verticesDiffer, threeFaces, partner, turnOf, faceLink}
+use Rattle.ele_mesh.specs.Calls.{triangleMesh, triangleBytes, triangleRefusal, importRefusal, triangleLength, importTriangle}
+use Rattle.ele_mesh.specs.Theorems.{TrianglesSound, Joined, JoinsSets, TrianglesJoin, importedMesh, ImportsSound, Three, EdgesRefused}
 use Rattle.ele_faces.proofs.Pairs.{turn-none, turn-one}
 use Rattle.ele_mesh.proofs.Joins.{three-rising, meets-other, meets-same, meets-intro, partner-most, partner-meets, partner-cases, partner-is, link-alone, link-joined, three-faces, links-fit}
 use Rattle.ele_mesh.proofs.Surveys.{vertices-many, triangles-bounds, refused-three, Passes, refusal-none, refusal-three}
@@ -99,6 +106,13 @@ module _ (vs : List ℕ) (n : ℕ) (some : 1 ≤ n) (most : n ≤ maxTriangles) 
 
 -- ---- the promises
 
+-- of four checks that pass, the first three
+first-three : (a b c d : Bool) → _≡_ {A = ℕ} (cond a (cond b (cond c (cond d 0 22) 29) 28) 27) 0 → _≡_ {A = ℕ} (cond a (cond b (cond c 0 29) 28) 27) 0
+first-three true true true d e = refl
+first-three true true false d e = e
+first-three true false c d e = e
+first-three false b c d e = e
+
 module _ (text : List ℕ) (e : triangleRefusal text ≡ 0) where
   passes : Passes text
   passes = refusal-none text e
@@ -114,6 +128,50 @@ triangles-sound text e =
 pub triangles-join : TrianglesJoin
 unfolding triangleMesh
 triangles-join text e = mesh-joins (vertices text) (triangles text) (bounds text e .0) (bounds text e .1) (vertices-many text) (passes text e .pairs)
+
+-- the call: where it accepts, the text passes and the buffer has room
+module _ (text out : List ℕ) (e : importTriangle text out .0 .refusal ≡ 0) where
+  import-passed : importRefusal text out ≡ 0
+  unfolding importTriangle writeAnswer lengthAnswer
+  import-passed = either (eqb (importRefusal text out) 0) (eqb-true (importRefusal text out) 0) (λ t. rw t at e)
+
+  text-passed : triangleRefusal text ≡ 0
+  unfolding importRefusal triangleRefusal firstFailed
+  text-passed = first-three (textOk text) (verticesDiffer (vertices text)) (not (threeFaces (vertices text))) (leb (triangleBytes text) (length out)) import-passed
+
+  mesh-long : length (triangleMesh text) ≡ triangleBytes text
+  unfolding triangleMesh triangleBytes
+  mesh-long = built-length 1 (faceLink (vertices text)) (triangles text)
+
+  room-there : triangleBytes text ≤ length out
+  unfolding importRefusal firstFailed
+  room-there =
+      let p : Passes text = refusal-none text text-passed in
+      let z : _≡_ {A = ℕ} (cond (leb (triangleBytes text) (length out)) 0 22) 0 = rw (p .form, p .differ, p .pairs) at import-passed in
+      either (leb (triangleBytes text) (length out)) (leb-true (triangleBytes text) (length out)) (λ t. let w : _≡_ {A = ℕ} 22 0 = rw t at z in absurd (omega arith))
+
+  import-answer : importTriangle text out ≡ (record { refusal = 0; length = triangleBytes text }, splice out 0 (triangleMesh text))
+  unfolding importTriangle writeAnswer lengthAnswer written
+  import-answer = rw (import-passed, mesh-long)
+
+  imported-mesh : importedMesh text out ≡ triangleMesh text
+  imported-mesh = rw import-answer (rw (zero-add, mesh-long) at (splice-take out 0 (triangleMesh text) (omega (arith, mesh-long, room-there))))
+
+  import-long : importTriangle text out .0 ≡ triangleLength text
+  unfolding triangleLength lengthAnswer
+  import-long = rw (import-answer, text-passed)
+
+  mesh-accepted : meshRefusal (triangleMesh text) ≡ 0
+  unfolding meshRefusal firstFailed
+  mesh-accepted = rw (triangles-sound text text-passed)
+
+pub imports-sound : ImportsSound
+imports-sound text out e =
+    record {
+      sound = rw (imported-mesh text out e) (mesh-accepted text out e);
+      joined = rw (imported-mesh text out e) (triangles-join text (text-passed text out e));
+      long = import-long text out e;
+    }
 
 three-found : (vs : List ℕ) → threeFaces vs ≡ true → Three vs
 unfolding threeFaces

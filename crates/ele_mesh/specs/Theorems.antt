@@ -3,12 +3,12 @@ use Prim.Native.Nat.{ℕ, _+_, _*_, _<_}
 use mathlib.Core.Path.{_≡_}
 use mathlib.Core.Bool.{true, false}
 use mathlib.Core.List.{List}
-use lib.ListN.{length}
+use lib.ListN.{length, take}
 use Rattle.records.specs.Record.{neighbourOf, faceOf, orientationOf}
-use Rattle.mesh.specs.Mesh.{meshSound, meshTrees, meshCore}
+use Rattle.mesh.specs.Mesh.{meshSound, meshTrees, meshCore, meshRefusal}
 use Rattle.ele_text.specs.Text.{textOk, vertices, triangles}
-use Rattle.ele_faces.specs.Faces.{sameSet, verticesDiffer, threeFaces, firstVertex}
-use Rattle.ele_mesh.specs.Calls.{triangleMesh, triangleRefusal}
+use Rattle.ele_faces.specs.Faces.{sameSet, verticesDiffer, firstVertex}
+use Rattle.ele_mesh.specs.Calls.{triangleMesh, triangleRefusal, triangleLength, importTriangle}
 
 -- the mesh of an accepted text is sound
 abbrev pub TrianglesSound : Type 0
@@ -35,6 +35,19 @@ pub record JoinsSets (vs mesh : List ℕ) (n : ℕ) : Type 0 where
 -- the mesh of an accepted text joins exactly the pairs of faces with equal vertex sets
 abbrev pub TrianglesJoin : Type 0
 TrianglesJoin = (text : List ℕ) → triangleRefusal text ≡ 0 → JoinsSets (vertices text) (triangleMesh text) (triangles text)
+
+-- what an accepted import writes at the beginning of its buffer
+abbrev pub importedMesh : List ℕ → List ℕ → List ℕ
+importedMesh text out = take (importTriangle text out .0 .length) (importTriangle text out .1)
+
+-- it passes the check of a whole mesh, is joined as the text says, and is as long as the other call says
+pub record Imported (text out : List ℕ) : Type 0 where
+  pub sound : meshRefusal (importedMesh text out) ≡ 0
+  pub joined : JoinsSets (vertices text) (importedMesh text out) (triangles text)
+  pub long : importTriangle text out .0 ≡ triangleLength text
+
+abbrev pub ImportsSound : Type 0
+ImportsSound = (text out : List ℕ) → importTriangle text out .0 .refusal ≡ 0 → Imported text out
 
 -- three different faces with one vertex set
 abbrev pub Three : List ℕ → Type 0

@@ -252,6 +252,13 @@ fn show_found(f: lookup::Found) {
     word(f.offset);
 }
 
+// The first record that a reader over the message hands out, proved by a walk of its MIR, since it has a reader in it.
+fn first_record<'a>(message: &'a [u8]) -> &'a [u8] {
+    let begun = message_reader::begin(message);
+    let step = message_reader::next(begun.reader);
+    step.piece
+}
+
 fn read_call(message: &[u8], place: u64) {
     show_record(message_reader::place::read(message, place));
     let f = message_reader::place::after(message, place);
@@ -259,8 +266,8 @@ fn read_call(message: &[u8], place: u64) {
     word(f.at);
 }
 
-// Calls that write nothing.
-fn ask(op: u64, a: &[u8], b: &[u8], x: u32, y: u32, z: u32, place: u64) {
+// Calls that write nothing. Both slices have one lifetime, since `lookup` lends back a part of either.
+fn ask<'a>(op: u64, a: &'a [u8], b: &'a [u8], x: u32, y: u32, z: u32, place: u64) {
     if op == 10 {
         refusal(offsets::check_table(a));
     } else if op == 11 {
@@ -293,6 +300,10 @@ fn ask(op: u64, a: &[u8], b: &[u8], x: u32, y: u32, z: u32, place: u64) {
         show_record(message::place::record_at(a, place));
     } else if op == 22 {
         read_call(a, place);
+    } else if op == 23 {
+        show_record(lookup::lookup(a, b, GlobalIndex(z)));
+    } else if op == 26 {
+        show_record(first_record(a));
     } else {
         set_call(op, a, b, x, z);
     }

@@ -308,8 +308,8 @@
  * gives 1, before all others.) The numbers of this header's calls are those of
  * \ref VEJGODAT_OK and the names that follow it, and
  * \ref vejgodat_refusal_text has words for them. Only \ref vejgodat_lookup,
- * \ref vejgodat_corners, \ref vejgodat_mesh_fault and \ref vejgodat_version
- * have nothing to refuse.
+ * \ref vejgodat_corners, \ref vejgodat_mesh_fault, \ref vejgodat_mesh_header
+ * and \ref vejgodat_version have nothing to refuse.
  *
  * Where a call refuses, every other field of its result is 0 and every buffer
  * has the bytes that it had before. Where it accepts, it writes the first bytes
@@ -357,7 +357,7 @@ extern "C" {
 #endif
 
 /** The version of this header: 10000 major + 100 minor + patch. */
-#define VEJGODAT_VERSION 400
+#define VEJGODAT_VERSION 500
 
 /** Where the compiler knows how, it warns if a call's result is dropped. */
 #if defined (__GNUC__) || defined (__clang__)
@@ -1814,7 +1814,8 @@ vejgodat_length     vejgodat_open_area (const uint8_t * old_table,
  *
  * Checks, in this order: \ref VEJGODAT_AREA (10) if the area isn't sound;
  * \ref VEJGODAT_LAYOUT (11) if the message isn't in layout; \ref VEJGODAT_RUN
- * (12) if its epoch, dimension, K or P isn't the area's;
+ * (12) if its epoch, dimension, K or P isn't the area's
+ * (\ref vejgodat_run_field says which);
  * \ref VEJGODAT_RECEIVER (13) if it is for another rank; \ref VEJGODAT_SENDER
  * (14) if its sender isn't in the receive set; \ref VEJGODAT_HEARD (15) if that
  * sender is heard already; \ref VEJGODAT_TREES (16) if its trees aren't exactly
@@ -2364,6 +2365,185 @@ vejgodat_fault      vejgodat_part_fault (const uint8_t * part,
                                          const uint8_t * table,
                                          size_t table_len, uint32_t rank)
   VEJGODAT_USE_RESULT;
+
+/** @} */
+
+/** \name What is wrong with a header
+ *
+ * \ref vejgodat_part_fault and \ref vejgodat_mesh_fault answer header or length
+ * (6) where the object is one of another rank, table or number of ranks, or its
+ * length is that of a larger buffer. These calls say which number is wrong, what
+ * it is and what it should be. The numbers are looked at in the order of the
+ * names below, and the first that is wrong is the answer.
+ * @{
+ */
+
+/** What the number `field` of a \ref vejgodat_wrong_field means. */
+enum
+{
+  VEJGODAT_HEADER_NONE = 0,     /**< Header and length are right. */
+  VEJGODAT_HEADER_SHORT = 1,    /**< The buffer is shorter than a header, which
+                                     has 32 bytes in a part and 8 in a mesh. */
+  VEJGODAT_HEADER_DIMENSION = 2, /**< The dimension is neither 2 nor 3. */
+  VEJGODAT_HEADER_TREES = 3,    /**< K isn't the table's; in a mesh, it isn't
+                                     from 1 to \ref VEJGODAT_MAX_TREES. */
+  VEJGODAT_HEADER_RANKS = 4,    /**< P isn't the table's. */
+  VEJGODAT_HEADER_RANK = 5,     /**< The rank isn't the one given. */
+  VEJGODAT_HEADER_FIRST = 6,    /**< The first tree isn't the rank's. */
+  VEJGODAT_HEADER_COUNT = 7,    /**< The number of trees n isn't the rank's. */
+  VEJGODAT_HEADER_ZERO = 8,     /**< The last number of the header isn't 0. */
+  VEJGODAT_HEADER_LENGTH = 9    /**< The buffer isn't as long as n and g, or K
+                                     of a mesh, say. */
+};
+
+/** Say what a field means, as part of a sentence without its full stop.
+ *
+ * \param [in] field      A result's field; any number.
+ * \return                A text that lasts, also for 0 and for any other number.
+ */
+static inline const char *
+vejgodat_header_text (uint32_t field)
+{
+  switch (field) {
+  case VEJGODAT_HEADER_NONE:
+    return "header and length are right";
+  case VEJGODAT_HEADER_SHORT:
+    return "shorter than a header";
+  case VEJGODAT_HEADER_DIMENSION:
+    return "dimension neither 2 nor 3";
+  case VEJGODAT_HEADER_TREES:
+    return "K not the table's, or outside its limits (1 to 1,048,576)";
+  case VEJGODAT_HEADER_RANKS:
+    return "P not the table's";
+  case VEJGODAT_HEADER_RANK:
+    return "rank not the one given";
+  case VEJGODAT_HEADER_FIRST:
+    return "first tree not the rank's";
+  case VEJGODAT_HEADER_COUNT:
+    return "number of trees not the rank's";
+  case VEJGODAT_HEADER_ZERO:
+    return "last number of the header not 0";
+  case VEJGODAT_HEADER_LENGTH:
+    return "length not that of the header's counts";
+  default:
+    return "no field of a header";
+  }
+}
+
+/** The first number of a header that is wrong, or the length. */
+typedef struct
+{
+  uint32_t            refusal;  /**< 0, or why the call declined. */
+  uint32_t            field;    /**< What is wrong: \ref VEJGODAT_HEADER_SHORT or
+                                     one of the names that follow it; 0 where
+                                     nothing is. A refused call has 0 here too:
+                                     look at \a refusal first. */
+  uint64_t            due;      /**< The number that would be right; for
+                                     \ref VEJGODAT_HEADER_SHORT the bytes of a
+                                     header. 0 where no single number would be:
+                                     for the dimension and for K of a mesh. */
+  uint64_t            found;    /**< The number that stands there; the bytes of
+                                     the buffer for \ref VEJGODAT_HEADER_SHORT
+                                     and \ref VEJGODAT_HEADER_LENGTH. */
+}
+vejgodat_wrong_field;
+
+/** Say what is wrong with the header or the length of a part.
+ *
+ * \a field is 0 exactly where the header and the length are those of a part
+ * that is sound for the table and the rank. The records aren't looked at.
+ *
+ * Checks, in this order: those of \ref vejgodat_check_table (2, 3);
+ * \ref VEJGODAT_INDEX (5) if \a rank is not below P.
+ * Cost: O(P) for the check of the table; then constant.
+ *
+ * \param [in] part       Any bytes. Not changed.
+ * \param [in] part_len   The number of its bytes.
+ * \param [in] table      Any bytes. Not changed.
+ * \param [in] table_len  The number of its bytes.
+ * \param [in] rank       A rank; any number.
+ * \return                The first of the fields 1 to 9 that is wrong.
+ */
+vejgodat_wrong_field vejgodat_part_header (const uint8_t * part,
+                                           size_t part_len,
+                                           const uint8_t * table,
+                                           size_t table_len, uint32_t rank)
+  VEJGODAT_USE_RESULT;
+
+/** Say what is wrong with the header or the length of a whole mesh.
+ *
+ * \a field is 0 exactly where the header and the length are those of a sound
+ * mesh. The records aren't looked at.
+ *
+ * Checks: none.
+ * Cost: constant.
+ *
+ * \param [in] mesh       Any bytes. Not changed.
+ * \param [in] mesh_len   The number of its bytes.
+ * \return                The first of the fields 1, 2, 3 and 9 that is wrong.
+ */
+vejgodat_wrong_field vejgodat_mesh_header (const uint8_t * mesh,
+                                           size_t mesh_len)
+  VEJGODAT_USE_RESULT;
+
+/** What \ref vejgodat_run_field answers. */
+enum
+{
+  VEJGODAT_RUN_NONE = 0,        /**< All four are the area's. */
+  VEJGODAT_RUN_EPOCH = 1,       /**< The epoch isn't the area's. */
+  VEJGODAT_RUN_DIMENSION = 2,   /**< The dimension isn't the area's. */
+  VEJGODAT_RUN_TREES = 3,       /**< K isn't the area's. */
+  VEJGODAT_RUN_RANKS = 4        /**< P isn't the area's. */
+};
+
+/** Say which number makes a delivery answer \ref VEJGODAT_RUN (12).
+ *
+ * It reads the first 16 bytes of area and message and checks nothing: both must
+ * be those of a delivery that answered 12, or be as long as a header.
+ *
+ * \param [in] area       An area. Not changed.
+ * \param [in] message    A message. Not changed.
+ * \return                The first of epoch (1), dimension (2), K (3) and P (4)
+ *                        in which the message differs from the area; 0 for none.
+ */
+static inline uint32_t
+vejgodat_run_field (const uint8_t * area, const uint8_t * message)
+{
+  uint32_t            i;
+
+  for (i = 0; i < 4; ++i) {
+    if (vejgodat_number_at (area + 4 * i)
+        != vejgodat_number_at (message + 4 * i)) {
+      return i + 1;
+    }
+  }
+  return VEJGODAT_RUN_NONE;
+}
+
+/** Say what a number of \ref vejgodat_run_field means, as part of a sentence
+ * without its full stop.
+ *
+ * \param [in] field      A number of \ref vejgodat_run_field; any number.
+ * \return                A text that lasts, also for 0 and for any other number.
+ */
+static inline const char *
+vejgodat_run_text (uint32_t field)
+{
+  switch (field) {
+  case VEJGODAT_RUN_NONE:
+    return "epoch, dimension, K and P are the area's";
+  case VEJGODAT_RUN_EPOCH:
+    return "epoch not the area's";
+  case VEJGODAT_RUN_DIMENSION:
+    return "dimension not the area's";
+  case VEJGODAT_RUN_TREES:
+    return "K not the area's";
+  case VEJGODAT_RUN_RANKS:
+    return "P not the area's";
+  default:
+    return "no number of a run";
+  }
+}
 
 /** @} */
 

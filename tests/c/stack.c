@@ -171,6 +171,8 @@ part_fault (void *none)
   return none;
 }
 
+TAKE (mesh_header, vejgodat_mesh_header (mesh, sizeof mesh).field)
+TAKE (part_header, vejgodat_part_header (part, part_len, OLD, 0).field)
 TAKE_LENGTH (part_to_columns,
              vejgodat_part_to_columns (part, part_len, OLD, 0, columns,
                                        sizeof columns))
@@ -245,6 +247,7 @@ main (void)
     CALL (region_counts), CALL (part_to_columns), CALL (columns_to_part),
     CALL (trees_at_point), CALL (trees_below), CALL (trees_between),
     CALL (table_fault), CALL (mesh_fault), CALL (part_fault),
+    CALL (mesh_header), CALL (part_header),
     CALL (table_from_weights), CALL (table_from_blocks),
     CALL (triangle_length), CALL (import_triangle)
   };

@@ -1079,6 +1079,127 @@ faults (void)
             VEJGODAT_PART, "record", "record 2: number out of order");
 }
 
+/* What is wrong with a header. */
+static void
+field_is (vejgodat_wrong_field got, uint32_t field, uint64_t due,
+          uint64_t found)
+{
+  if (got.refusal != VEJGODAT_OK || got.field != field || got.due != due
+      || got.found != found) {
+    printf ("use.c: not so: field %u, but %u (%s), due %lu, found %lu\n",
+            (unsigned) field, (unsigned) got.field,
+            vejgodat_header_text (got.field), (unsigned long) got.due,
+            (unsigned long) got.found);
+    ++wrong;
+  }
+}
+
+static void
+headers (void)
+{
+  static const int64_t entries[4] = { 0, -1, 2, 3 };
+  static const int64_t old_entries[4] = { 0, 1, 3, 3 };
+  static const int64_t more_entries[5] = { 0, -1, 2, 3, 3 };
+  uint8_t             mesh[VEJGODAT_MESH_BYTES (3)];
+  uint8_t             table[32], old_table[32], more[40];
+  uint8_t             part[256];
+  vejgodat_wrong_field none;
+  const size_t        part_len = VEJGODAT_PART_BYTES (2, 1);
+  uint32_t            i, j;
+
+  EXPECT (sizeof (vejgodat_wrong_field) == 24);
+  EXPECT (offsetof (vejgodat_wrong_field, due) == 8);
+  for (i = 0; i < 12; ++i) {
+    EXPECT (strlen (vejgodat_header_text (i)) > 7);
+    for (j = 0; j < i && i <= 10; ++j) {
+      EXPECT (strcmp (vejgodat_header_text (i), vejgodat_header_text (j)));
+    }
+  }
+  put_triangles (mesh);
+  put_table (table, 3, entries);
+  put_table (old_table, 3, old_entries);
+  put_table (more, 4, more_entries);
+  memset (part, 0, sizeof part);
+  EXPECT (vejgodat_cut_part (mesh, sizeof mesh, table, 32, 1, part,
+                             sizeof part).length == part_len);
+
+  field_is (vejgodat_mesh_header (mesh, sizeof mesh), VEJGODAT_HEADER_NONE, 0,
+            0);
+  field_is (vejgodat_mesh_header (mesh, 7), VEJGODAT_HEADER_SHORT, 8, 7);
+  field_is (vejgodat_mesh_header (mesh, 8), VEJGODAT_HEADER_LENGTH, 200, 8);
+  mesh[4] = 0;
+  field_is (vejgodat_mesh_header (mesh, 8), VEJGODAT_HEADER_TREES, 0, 0);
+  mesh[0] = 4;
+  field_is (vejgodat_mesh_header (mesh, 8), VEJGODAT_HEADER_DIMENSION, 0, 4);
+
+  field_is (vejgodat_part_header (part, part_len, table, 32, 1),
+            VEJGODAT_HEADER_NONE, 0, 0);
+  /* another rank, the old table, a table of more ranks, the buffer's length */
+  field_is (vejgodat_part_header (part, part_len, table, 32, 2),
+            VEJGODAT_HEADER_RANK, 2, 1);
+  field_is (vejgodat_part_header (part, part_len, old_table, 32, 1),
+            VEJGODAT_HEADER_FIRST, 1, 0);
+  field_is (vejgodat_part_header (part, part_len, more, 40, 1),
+            VEJGODAT_HEADER_RANKS, 4, 3);
+  field_is (vejgodat_part_header (part, sizeof part, table, 32, 1),
+            VEJGODAT_HEADER_LENGTH, 200, 256);
+  field_is (vejgodat_part_header (part, 31, table, 32, 1),
+            VEJGODAT_HEADER_SHORT, 32, 31);
+  /* from the last number to the first, the ghost count apart */
+  part[28] = 9;
+  field_is (vejgodat_part_header (part, part_len, table, 32, 1),
+            VEJGODAT_HEADER_ZERO, 0, 9);
+  part[20] = 3;
+  field_is (vejgodat_part_header (part, part_len, table, 32, 1),
+            VEJGODAT_HEADER_COUNT, 2, 3);
+  part[4] = 5;
+  field_is (vejgodat_part_header (part, part_len, table, 32, 1),
+            VEJGODAT_HEADER_TREES, 3, 5);
+  part[0] = 0;
+  field_is (vejgodat_part_header (part, part_len, table, 32, 1),
+            VEJGODAT_HEADER_DIMENSION, 0, 0);
+  none = vejgodat_part_header (part, part_len, table, 32, 3);
+  EXPECT (none.refusal == VEJGODAT_INDEX && none.field == 0 && none.due == 0
+          && none.found == 0);
+  none = vejgodat_part_header (part, part_len, table, 31, 3);
+  EXPECT (none.refusal == VEJGODAT_RANKS && none.field == 0);
+}
+
+/* Which number makes a delivery answer 12, with messages that have no records. */
+static void
+runs (void)
+{
+  static const int64_t entries[3] = { 0, 1, 3 };
+  static const uint32_t same[4] = { 7, 2, 3, 2 }, other[4] = { 8, 3, 4, 1 };
+  uint8_t             table[24], area[1024], message[32];
+  size_t              area_len;
+  uint32_t            i, j;
+
+  for (i = 0; i < 7; ++i) {
+    EXPECT (strlen (vejgodat_run_text (i)) > 7);
+    for (j = 0; j < i && i <= 5; ++j) {
+      EXPECT (strcmp (vejgodat_run_text (i), vejgodat_run_text (j)));
+    }
+  }
+  put_table (table, 2, entries);
+  area_len = (size_t) vejgodat_open_area (table, 24, table, 24, 1, 2, 7, area,
+                                          sizeof area).length;
+  memset (message, 0, sizeof message);
+  message[16] = message[20] = 1;
+  for (i = 0; i < 4; ++i) {
+    put_number (message + 4 * i, same[i]);
+  }
+  EXPECT (vejgodat_run_field (area, message) == VEJGODAT_RUN_NONE);
+  EXPECT (vejgodat_deliver (area, area_len, message, 32) == VEJGODAT_TREES);
+  /* from P to the epoch: the first that differs is told */
+  for (i = 4; i-- > 0;) {
+    put_number (message + 4 * i, other[i]);
+    EXPECT (vejgodat_deliver (area, area_len, message, 32) == VEJGODAT_RUN);
+    EXPECT (vejgodat_run_field (area, message) == i + 1);
+  }
+  EXPECT (vejgodat_run_field (area, message) == VEJGODAT_RUN_EPOCH);
+}
+
 /* Leaves for ranks of unequal speed. */
 static void
 table_from_weights (void)
@@ -1216,6 +1337,8 @@ main (void)
   regions ();
   probes ();
   faults ();
+  headers ();
+  runs ();
   elements ();
   columns ();
   table_from_weights ();

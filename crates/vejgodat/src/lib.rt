@@ -26,12 +26,14 @@ ghost use Rattle.probes.specs.Calls.{treesNear};
 ghost use Rattle.table_fault.specs.Calls.{tableFaultOf};
 ghost use Rattle.faults.specs.Calls.{meshFaultOf};
 ghost use Rattle.part_fault.specs.Calls.{partFaultOf};
+ghost use Rattle.headers.specs.Calls.{partHeaderOf, meshHeaderOf};
 ghost use Rattle.columns.specs.Calls.{partToColumns, columnsToPart};
 use area_open::Progress;
 use build_all::Messages;
 use encoding::answer::Count;
 use encoding::answer::Length;
 use faults::answer::Fault;
+use headers::answer::WrongField;
 use lookup::Found;
 use offsets::Range;
 use part_neighbour::link::NeighbourAnswer;
@@ -45,9 +47,9 @@ use refinement::Leaves;
 // 10000 major + 100 minor + patch
 #[no_mangle]
 pub extern "C" fn vejgodat_version() -> u32
-    ensures { λ r. ⌜ r ≡ 400 ⌝ }
+    ensures { λ r. ⌜ r ≡ 500 ⌝ }
 {
-    400
+    500
 }
 
 #[no_mangle]
@@ -468,6 +470,20 @@ pub extern "C" fn vejgodat_part_fault(part: &[u8], table: &[u8], rank: u32) -> F
     ensures { λ r. ⌜ r ≡ partFaultOf (now (part .entry)) (now (table .entry)) rank ⌝ }
 {
     part_fault::part_fault(part, table, rank)
+}
+
+#[no_mangle]
+pub extern "C" fn vejgodat_mesh_header(mesh: &[u8]) -> WrongField
+    ensures { λ r. ⌜ r ≡ meshHeaderOf (now (mesh .entry)) ⌝ }
+{
+    headers::mesh_header(mesh)
+}
+
+#[no_mangle]
+pub extern "C" fn vejgodat_part_header(part: &[u8], table: &[u8], rank: u32) -> WrongField
+    ensures { λ r. ⌜ r ≡ partHeaderOf (now (part .entry)) (now (table .entry)) rank ⌝ }
+{
+    headers::part_header(part, table, rank)
 }
 
 #[no_mangle]

@@ -4,6 +4,7 @@ mod area_model;
 mod calls;
 mod cases;
 mod faults_model;
+mod headers_model;
 mod library;
 mod memory;
 mod mesh_cases;
@@ -60,6 +61,7 @@ groups! {
         tree_data
         probes
         faults
+        headers
         triangles
         columns
         many

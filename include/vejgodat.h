@@ -2107,7 +2107,9 @@ enum
 
   /* of a whole mesh or a part, where `at` is the record */
   VEJGODAT_FAULT_HEADER = 6,    /**< Header or length; `at` is 0, before every
-                                     record. */
+                                     record. \ref vejgodat_part_header and
+                                     \ref vejgodat_mesh_header say which
+                                     number is wrong. */
   VEJGODAT_FAULT_NUMBER = 7,    /**< The number is out of order. A ghost's is so
                                      also if it isn't below K, or in the rank's
                                      own range. */

@@ -176,7 +176,7 @@ count_due (move * it, int size)
   free (ranks);
 }
 
-/* Receive all messages behind each other, in whatever order they come, and deliver them under one check of the area. */
+/* Receive all messages one after the other, in whatever order they come, and deliver them under one check of the area. */
 static void
 take_together (move * it)
 {

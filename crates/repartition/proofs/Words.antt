@@ -19,7 +19,8 @@ use Rattle.bits.specs.Bits.{bitOf}
 use Rattle.offsets.specs.Table.{ranks, trees, treeCount}
 use Rattle.mesh.specs.Mesh.{meshTrees, meshCore}
 use Rattle.part.specs.Ghosts.{isGhost}
-use Rattle.message.specs.Rule.{sendsGhost, ghostSender}
+use Rattle.message.specs.Rule.{sendsGhost}
+use Rattle.message.specs.Means.{ghostSender}
 use Rattle.message.proofs.Ghosts.{no-ghost-sender, ghost-sender-lt, one-ghost-sender}
 use Rattle.area.specs.Layout.{heardWords, areaHeaderBytes, wordOf, wordsOf, areaWith}
 use Rattle.area.proofs.Headers.{few-words, many-words, words-enough}

@@ -2403,7 +2403,7 @@ enum
  * \param [in] field      A result's field; any number.
  * \return                A text that lasts, also for 0 and for any other number.
  */
-static inline const char *
+VEJGODAT_INLINE const char *
 vejgodat_header_text (uint32_t field)
 {
   switch (field) {
@@ -2508,7 +2508,7 @@ enum
  * \return                The first of epoch (1), dimension (2), K (3) and P (4)
  *                        in which the message differs from the area; 0 for none.
  */
-static inline uint32_t
+VEJGODAT_INLINE uint32_t
 vejgodat_run_field (const uint8_t * area, const uint8_t * message)
 {
   uint32_t            i;
@@ -2528,7 +2528,7 @@ vejgodat_run_field (const uint8_t * area, const uint8_t * message)
  * \param [in] field      A number of \ref vejgodat_run_field; any number.
  * \return                A text that lasts, also for 0 and for any other number.
  */
-static inline const char *
+VEJGODAT_INLINE const char *
 vejgodat_run_text (uint32_t field)
 {
   switch (field) {

@@ -54,6 +54,12 @@ unfolding firstWrong wrongOr allRight
 all-none [] e = refl
 all-none (f ∷ fs) e = rw (and-fst (f .right) _ e) (all-none fs (and-snd (f .right) _ e))
 
+-- a wrong field is no refusal
+pub wrong-refuses : (fs : List Field) → firstWrong fs .refusal ≡ 0
+unfolding firstWrong wrongOr
+wrong-refuses [] = refl
+wrong-refuses (f ∷ fs) = either (f .right) (λ e. rw e (wrong-refuses fs)) (λ e. rw e)
+
 -- ---- a part
 
 eight : (a b d e f g h i : Bool) → (a && (b && (d && (e && (f && (g && (h && (i && true)))))))) ≡ (a && b && d && e && f && g && h && i)

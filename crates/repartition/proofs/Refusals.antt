@@ -31,8 +31,13 @@ use Rattle.faults.specs.Mesh.{treeWrong}
 use Rattle.faults.specs.Calls.{faultAnswer, meshFaultOf}
 use Rattle.table_fault.specs.Table.{entryWrong}
 use Rattle.table_fault.specs.Calls.{tableFaultOf}
+use Rattle.part.specs.Checks.{rankChecks}
 use Rattle.part_fault.specs.Wrong.{wrongIn}
 use Rattle.part_fault.specs.Calls.{partHeaded, partFaultOf}
+use Rattle.headers.specs.Answer.{firstWrong}
+use Rattle.headers.specs.Fields.{partFields, meshFields}
+use Rattle.headers.specs.Calls.{headerAnswer, partHeaderOf, meshHeaderOf}
+use Rattle.headers.proofs.Theorems.{wrong-refuses}
 use Rattle.regions.specs.Calls.{regionCountsOf}
 use Rattle.probes.specs.Calls.{treesNear}
 use Rattle.columns.specs.Calls.{partToColumns, columnsToPart}
@@ -53,7 +58,7 @@ use Rattle.area.specs.Area.{areaRank, areaNew, heard, areaSound}
 use Rattle.area_open.specs.Calls.{areaLengthOf, openAreaOf, progressOf}
 use Rattle.area.specs.Deliver.{sameRun, senderDue, treesDue, ghostDue, ghostNew, deliverChecks, deliverOf}
 use Rattle.area.specs.Close.{allHeard, joinedPart, closeChecks, closeLengthOf, closeOf}
-use Rattle.repartition.specs.Refusals.{Unchanged, SetUnchanged, RefusedUnchanged, LengthZero, RangeZero, FaultZero, NeighbourZero, RefusedZero, RefusalsMean, ClosesSound}
+use Rattle.repartition.specs.Refusals.{Unchanged, SetUnchanged, RefusedUnchanged, LengthZero, RangeZero, FaultZero, WrongFieldZero, NeighbourZero, RefusedZero, RefusalsMean, ClosesSound}
 
 -- ---- what a refused call leaves
 
@@ -335,6 +340,15 @@ zero-part-fault part table rank =
     zero-fault _ (cond (partHeaded part table rank) found (faultAt 8 0 (wrong 6 0)))
     (either (partHeaded part table rank) (λ e. rw e (found-refuses 8 (partCount part + partGhostCount part) (wrongIn (viewOf part)))) (λ e. rw e))
 
+zero-part-header : (part table : List ℕ) (rank : ℕ) → WrongFieldZero (partHeaderOf part table rank)
+unfolding partHeaderOf headerAnswer
+zero-part-header part table rank declined =
+    either (eqb (firstFailed (rankChecks table rank)) 0) (λ e. absurd (declined (rw e (wrong-refuses (partFields part table rank))))) (λ e. rw e (refl, refl, refl))
+
+none-mesh-header : (mesh : List ℕ) → meshHeaderOf mesh .refusal ≡ 0
+unfolding meshHeaderOf
+none-mesh-header mesh = wrong-refuses (meshFields mesh)
+
 zero-neighbour : (part table : List ℕ) (rank i f : ℕ) → NeighbourZero (flatAnswer (neighbourAnswer part table rank i f))
 unfolding neighbourAnswer linkKind linkAcross
 zero-neighbour part table rank i f declined =
@@ -371,6 +385,8 @@ refused-zero =
       table-fault = zero-table-fault;
       mesh-fault = none-mesh-fault;
       part-fault = zero-part-fault;
+      part-header = zero-part-header;
+      mesh-header = none-mesh-header;
       neighbour-of = zero-neighbour;
       begin-reading = λ m. zero-length _ _;
       begin = zero-begin;

@@ -32,6 +32,8 @@ use Rattle.faults.specs.Answer.{wrong, faultAt, firstFault}
 use Rattle.faults.specs.Calls.{faultAnswer}
 use Rattle.part_fault.specs.Wrong.{wrongIn}
 use Rattle.part_fault.specs.Calls.{partHeaded, partFaultOf}
+use Rattle.headers.specs.Fields.{partFields}
+use Rattle.headers.specs.Calls.{partHeaderOf}
 use Rattle.columns_read.specs.Columns.{partColumns}
 use Rattle.columns_check.proofs.Turned.{columns-length}
 use Rattle.columns.specs.Calls.{toColumnsRefusal, partToColumns}
@@ -282,6 +284,12 @@ module _ (a b : List ℕ) (test : ℕ → Bool) (same : PartsDiffer test a b) wh
       ap₂ (λ (h : Bool) (v : View). faultAnswer (firstFailed (rankChecks table rank)) (cond h (firstFault 8 (v .n + v .g) (wrongIn v)) (faultAt 8 0 (wrong 6 0))))
       (headed-same table rank) view-same
 
+  field-same : (table : List ℕ) (rank : ℕ) → partHeaderOf a table rank ≡ partHeaderOf b table rank
+  unfolding partHeaderOf partFields partK
+  field-same table rank =
+      let w : (off : ℕ) → off + 4 ≤ partHeader → leAt 4 a off ≡ leAt 4 b off = word-same partHeader (partFirst a) (partCount a) test a b same 4 in
+      rw (dimension-same a b header-same, w 4 (omega arith), w 8 (omega arith), w 12 (omega arith), first-same a b header-same, count-is, w 28 (omega arith), same .same-length, ghosts-is)
+
   -- ---- columns
 
   columns-long : length (partColumns a) ≡ length (partColumns b)
@@ -432,6 +440,7 @@ module _ (a b : List ℕ) (test : ℕ → Bool) (same : PartsDiffer test a b) wh
       record {
         check-part = check-same;
         part-fault = fault-same;
+        part-header = field-same;
         neighbour-of = neighbour-same;
         region-counts = region-counts-same;
         part-to-columns = columns-same;

@@ -22,6 +22,8 @@ use Rattle.faults.specs.declared.answer.Fault.{Fault}
 use Rattle.faults.specs.Calls.{meshFaultOf}
 use Rattle.table_fault.specs.Calls.{tableFaultOf}
 use Rattle.part_fault.specs.Calls.{partFaultOf}
+use Rattle.headers.specs.declared.answer.WrongField.{WrongField}
+use Rattle.headers.specs.Calls.{partHeaderOf, meshHeaderOf}
 use Rattle.pattern.specs.declared.Ranks.{Ranks}
 use lib.IntN.{pos}
 use Rattle.pattern.specs.Sets.{sendsTo}
@@ -77,7 +79,7 @@ pub record RefusedUnchanged : Type 0 where
   pub part-to-columns : (part table : List ℕ) (rank : ℕ) (out : List ℕ) → Unchanged (partToColumns part table rank out) out
   pub columns-to-part : (file table : List ℕ) (rank : ℕ) (out : List ℕ) → Unchanged (columnsToPart file table rank out) out
 
--- what is refused has zeros in its other fields: a length, a range, a fault, what stands across a face
+-- what is refused has zeros in its other fields: a length, a range, a fault, a wrong field of a header, what stands across a face
 abbrev pub LengthZero : Length → Type 0
 LengthZero a = (a .refusal ≡ 0 → ⊥) → a .length ≡ 0
 
@@ -86,6 +88,9 @@ RangeZero a = (a .refusal ≡ 0 → ⊥) → (a .first ≡ 0) × (a .count ≡ 0
 
 abbrev pub FaultZero : Fault → Type 0
 FaultZero a = (a .refusal ≡ 0 → ⊥) → (a .fault ≡ 0) × (a .kind ≡ 0) × (a .at ≡ 0) × (a .face ≡ 0)
+
+abbrev pub WrongFieldZero : WrongField → Type 0
+WrongFieldZero a = (a .refusal ≡ 0 → ⊥) → (a .field ≡ 0) × (a .due ≡ 0) × (a .found ≡ 0)
 
 abbrev pub NeighbourZero : NeighbourAnswer → Type 0
 NeighbourZero a = (a .refusal ≡ 0 → ⊥) → (a .shape ≡ 0) × (a .kind ≡ 0) × (a .index ≡ 0) × (a .face ≡ 0) × (a .orientation ≡ 0)
@@ -102,6 +107,9 @@ pub record RefusedZero : Type 0 where
   -- this call refuses nothing
   pub mesh-fault : (mesh : List ℕ) → meshFaultOf mesh .refusal ≡ 0
   pub part-fault : (part table : List ℕ) (rank : ℕ) → FaultZero (partFaultOf part table rank)
+  pub part-header : (part table : List ℕ) (rank : ℕ) → WrongFieldZero (partHeaderOf part table rank)
+  -- nor does this one
+  pub mesh-header : (mesh : List ℕ) → meshHeaderOf mesh .refusal ≡ 0
   pub neighbour-of : (part table : List ℕ) (rank i f : ℕ) → NeighbourZero (flatAnswer (neighbourAnswer part table rank i f))
   pub begin-reading : (m : List ℕ) → LengthZero (readingOf m)
   -- the reader then stands over no byte, at place 0

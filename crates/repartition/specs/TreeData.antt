@@ -16,6 +16,7 @@ use Rattle.part.specs.Layout.{partHeader}
 use Rattle.part.specs.Part.{partFirst, partCount}
 use Rattle.part_check.specs.Calls.{partRefusal}
 use Rattle.part_fault.specs.Calls.{partFaultOf}
+use Rattle.headers.specs.Calls.{partHeaderOf}
 use Rattle.part_neighbour.specs.Calls.{neighbourAnswer}
 use Rattle.regions.specs.Calls.{regionCountsOf}
 use Rattle.columns.specs.Calls.{partToColumns}
@@ -76,6 +77,7 @@ PieceIsMessage =
 pub record SameAnswers (a b : List ℕ) : Type 0 where
   pub check-part : (table : List ℕ) (rank : ℕ) → partRefusal a table rank ≡ partRefusal b table rank
   pub part-fault : (table : List ℕ) (rank : ℕ) → partFaultOf a table rank ≡ partFaultOf b table rank
+  pub part-header : (table : List ℕ) (rank : ℕ) → partHeaderOf a table rank ≡ partHeaderOf b table rank
   pub neighbour-of : (table : List ℕ) (rank i f : ℕ) → neighbourAnswer a table rank i f ≡ neighbourAnswer b table rank i f
   pub region-counts : (table : List ℕ) (rank : ℕ) (out : List ℕ) → regionCountsOf a table rank out ≡ regionCountsOf b table rank out
   pub part-to-columns : (table : List ℕ) (rank : ℕ) (out : List ℕ) → partToColumns a table rank out .0 ≡ partToColumns b table rank out .0

@@ -1,18 +1,30 @@
-# make: the archive that rt proves and builds (tools/prove shows how far it is), and in it the header's inline functions as
-# symbols. make install PREFIX=/where: header, archive and a pkg-config file.
+# make: the archive that rt proves and builds (tools/prove shows how far it is), in it the header's inline functions as
+# symbols, and the shared library made of it.
+# make install PREFIX=/where: headers, archive, shared library, the Fortran module's source, files for pkg-config and CMake.
+# make dist: all that, the Python package and the pages in one tarball, for machines without the toolchain.
+# docs/PACKAGES.md says how to use each.
 PREFIX = /usr/local
 INSTALL = install
 CFLAGS = -O2
+PYTHON = python3
 
 proved = target/staticlib/libvejgodat.a
 archive = target/lib/libvejgodat.a
 sources := crates.txt $(shell find crates -type f)
 number := $(shell sed -n 's/^\#define VEJGODAT_VERSION //p' include/vejgodat.h)
-version := $(shell echo $$(( $(number) / 10000 )).$$(( $(number) / 100 % 100 )).$$(( $(number) % 100 )))
+major := $(shell echo $$(( $(number) / 10000 )))
+version := $(major).$(shell echo $$(( $(number) / 100 % 100 )).$$(( $(number) % 100 )))
 notice := $(wildcard LICENSE LICENCE COPYING NOTICE)
 
-all: $(archive)
+shared = target/lib/libvejgodat.so
+soname = libvejgodat.so.$(major)
+# files made for the packages, each from its like in packages/
+described = vejgodat.pc vejgodat-shared.pc vejgodat-config.cmake vejgodat-config-version.cmake
+module = target/packages/vejgodat.f90
 
+all: $(archive) $(shared)
+
+# the libraries
 $(proved): $(sources)
 	@tools/prove staticlib vejgodat
 	@touch $@
@@ -23,21 +35,38 @@ $(archive): $(proved) c/symbols.c include/vejgodat.h
 	cp $(proved) $@
 	$(AR) r $@ target/lib/symbols.o
 
-target/vejgodat.pc: include/vejgodat.h Makefile FORCE
-	@mkdir -p target
-	@printf '%s\n' 'prefix=$(abspath $(PREFIX))' 'includedir=$${prefix}/include' 'libdir=$${prefix}/lib' '' \
-	  'Name: vejgodat' 'Description: Proved repartitioning of coarse meshes' 'Version: $(version)' \
-	  'Cflags: -I$${includedir}' 'Libs: -L$${libdir} -lvejgodat' >$@
+$(shared): $(archive) packages/exports.map Makefile
+	$(CC) -shared -o $@ -Wl,-soname,$(soname) -Wl,--version-script,packages/exports.map -Wl,-Bsymbolic-functions,--gc-sections,-z,defs,-z,text \
+	  -Wl,--whole-archive $(archive) -Wl,--no-whole-archive
+	ln -sf libvejgodat.so target/lib/$(soname)
 
-install: $(archive) target/vejgodat.pc
-	$(INSTALL) -d $(DESTDIR)$(PREFIX)/include $(DESTDIR)$(PREFIX)/lib/pkgconfig
-	$(INSTALL) -m 644 include/vejgodat.h $(DESTDIR)$(PREFIX)/include
+# what tells other tools of them
+$(described:%=target/packages/%): target/packages/%: packages/%.in include/vejgodat.h Makefile
+	@mkdir -p target/packages
+	sed 's/@VERSION@/$(version)/; s/@MAJOR@/$(major)/; s/@SONAME@/$(soname)/' $< >$@
+
+$(module): packages/bindings include/vejgodat.h
+	@mkdir -p target/packages
+	packages/bindings fortran >$@
+
+install: $(archive) $(shared) $(described:%=target/packages/%) $(module)
+	$(INSTALL) -d $(addprefix $(DESTDIR)$(PREFIX)/,include lib/pkgconfig lib/cmake/vejgodat share/vejgodat)
+	$(INSTALL) -m 644 include/vejgodat.h include/vejgodat.hpp $(DESTDIR)$(PREFIX)/include
 	$(INSTALL) -m 644 $(archive) $(DESTDIR)$(PREFIX)/lib
-	$(INSTALL) -m 644 target/vejgodat.pc $(DESTDIR)$(PREFIX)/lib/pkgconfig
+	$(INSTALL) -m 755 $(shared) $(DESTDIR)$(PREFIX)/lib/libvejgodat.so.$(version)
+	ln -sf libvejgodat.so.$(version) $(DESTDIR)$(PREFIX)/lib/$(soname)
+	ln -sf $(soname) $(DESTDIR)$(PREFIX)/lib/libvejgodat.so
+	$(INSTALL) -m 644 target/packages/vejgodat.pc target/packages/vejgodat-shared.pc $(DESTDIR)$(PREFIX)/lib/pkgconfig
+	$(INSTALL) -m 644 target/packages/vejgodat-config.cmake target/packages/vejgodat-config-version.cmake \
+	  $(DESTDIR)$(PREFIX)/lib/cmake/vejgodat
+	$(INSTALL) -m 644 $(module) $(DESTDIR)$(PREFIX)/share/vejgodat
 ifneq ($(notice),)
 	$(INSTALL) -d $(DESTDIR)$(PREFIX)/share/doc/vejgodat
 	$(INSTALL) -m 644 $(notice) $(DESTDIR)$(PREFIX)/share/doc/vejgodat
 endif
 
+dist: $(archive) $(shared)
+	MAKE='$(MAKE)' PYTHON='$(PYTHON)' packages/dist $(version)
+
 .DELETE_ON_ERROR:
-.PHONY: all install FORCE
+.PHONY: all install dist

@@ -53,10 +53,12 @@ def test_declarations_are_the_compilers(tmp_path):
     for name in _calls.ffi.list_types()[0]:
         kind = _calls.ffi.typeof(name)
         lines.append(f'_Static_assert (sizeof ({name}) == {_calls.ffi.sizeof(kind)}, "{name}");')
-        lines += [f'_Static_assert (offsetof ({name}, {field}) == {at.offset}, "{name}.{field}");' for field, at in kind.fields]
+        for field, at in kind.fields:
+            lines.append(f'_Static_assert (offsetof ({name}, {field}) == {at.offset}, "{name}.{field}");')
+            lines.append(f'_Static_assert (__builtin_types_compatible_p (__typeof__ ((({name} *) 0)->{field}), {at.type.cname}), "{field}");')
     assert len(lines) > 150
     (tmp_path / "beside.c").write_text("\n".join(lines) + "\n")
-    subprocess.run([os.environ.get("CC", "cc"), "-std=c11", "-Werror", "-fsyntax-only", str(tmp_path / "beside.c")], check=True)
+    subprocess.run([os.environ.get("CC", "cc"), "-std=gnu11", "-Werror", "-fsyntax-only", str(tmp_path / "beside.c")], check=True)
 
 
 def test_bindings_refuse_what_they_do_not_know(tmp_path):
@@ -211,7 +213,9 @@ def test_meshes():
     for length in (0, 7, 9, 71):
         with pytest.raises(ValueError):
             vejgodat.mesh_trees(np.zeros(length, np.uint8))
-    refused(vejgodat.MESH, vejgodat.check_mesh, b"", place="header or length")
+    refused(vejgodat.MESH, vejgodat.check_mesh, b"", place="header or length: shorter than a header")
+    assert vejgodat.mesh_header(b"\4" + bytes(7)) == vejgodat.WrongField(vejgodat.HEADER_DIMENSION, 0, 4, "dimension neither 2 nor 3")
+    assert vejgodat.mesh_header(mesh) is None
     assert vejgodat.corners(vejgodat.PRISM, 3) == 3 and vejgodat.corners(vejgodat.TRIANGLE, 3) == 0
 
 
@@ -272,9 +276,12 @@ def test_parts_of_bytes(part):
     assert (fault.number, fault.kind, fault.at, fault.face) == (vejgodat.PART, vejgodat.FAULT_BYTES, 0, None)
     for call in (vejgodat.check_part, Part):
         refused(vejgodat.PART, call, mapped, TABLE, 1, place=fault.text)
-        refused(vejgodat.PART, call, mapped[:40], TABLE, 1, place="header or length")
+        refused(vejgodat.PART, call, mapped[:20], TABLE, 1, place="header or length: shorter than a header")
+        refused(vejgodat.PART, call, part.bytes, TABLE, 0, place="header or length: rank not the one given")
         refused(vejgodat.INDEX, call, mapped, TABLE, 3)
-    assert vejgodat.part_fault(part.bytes, TABLE, 1) is None
+    assert vejgodat.part_fault(part.bytes, TABLE, 1) is None and vejgodat.part_header(part.bytes, TABLE, 1) is None
+    assert vejgodat.part_header(part.bytes, TABLE, 2)[:3] == (vejgodat.HEADER_RANK, 2, 1)
+    refused(vejgodat.INDEX, vejgodat.part_header, part.bytes, TABLE, 3)
     empty = vejgodat.cut(vejgodat.brick(2, 1, 1), [0, 2, 2], 1)
     assert len(empty.trees) == len(empty.ghosts) == len(empty.boxes) == 0 and empty.data.shape == (0, 24)
 
@@ -356,7 +363,7 @@ def test_refusals_of_an_area(part):
     before = area.bytes.copy()
     refused(vejgodat.LAYOUT, area.deliver, b"")
     refused(vejgodat.LAYOUT, area.deliver, message[:-1])
-    refused(vejgodat.RUN, area.deliver, vejgodat.build_message(parts[1], new, 1, 8))
+    refused(vejgodat.RUN, area.deliver, vejgodat.build_message(parts[0], new, 1, 8), place="epoch not the area's")
     refused(vejgodat.RECEIVER, area.deliver, vejgodat.build_message(parts[0], new, 0, 9))
     assert np.array_equal(area.bytes, before) and not area.bytes.flags.writeable
     area.deliver(message)

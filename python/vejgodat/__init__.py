@@ -10,7 +10,8 @@ from collections import namedtuple
 
 import numpy as np
 
-from ._calls import BYTE, ENTRY, NUMBER, SUM, Fault, Refused, ask, call, fault, ffi, given, lib, listed, real, written
+from ._calls import (BYTE, ENTRY, NUMBER, SUM, Fault, Refused, WrongField, ask, call, fault, ffi, given, lib, listed, real,
+                     written, wrong_field)
 
 CORE = np.dtype([("number", "<u4"), ("shape", "u1"), ("zero", "u1", 3), ("neighbour", "<u4", 6), ("code", "u1", 6),
                  ("region", "<u2")])
@@ -22,10 +23,10 @@ Leaves = namedtuple("Leaves", "upright inverted leaves")
 Progress = namedtuple("Progress", "heard due")
 Message = namedtuple("Message", "epoch dimension K P sender receiver trees ghosts")
 
-__all__ = """Refused Fault Part Area Message Neighbour Leaves Progress CORE TREE MOVE version check_table table_fault table_range
+__all__ = """Refused Fault WrongField Part Area Message Neighbour Leaves Progress CORE TREE MOVE version check_table table_fault table_range
 write_table table_from_leaves table_from_weights table_from_blocks sender_of trees_sent send_set receive_set plan corners
-new_mesh link mesh_trees mesh_boxes check_mesh mesh_fault brick import_triangle cut check_part part_fault check_message
-read_message build_message build_all count_leaves leaf_counts""".split()
+new_mesh link mesh_trees mesh_boxes check_mesh mesh_fault mesh_header brick import_triangle cut check_part part_fault part_header
+check_message read_message build_message build_all count_leaves leaf_counts""".split()
 
 _constants = {name[len("VEJGODAT_"):]: getattr(lib, name) for name in dir(lib) if name.startswith("VEJGODAT_")}
 globals().update(_constants)
@@ -179,6 +180,11 @@ def mesh_fault(mesh):
     return fault("mesh_fault", given("mesh", mesh, BYTE))
 
 
+def mesh_header(mesh):
+    """What is wrong with the header or the length of a mesh, or None."""
+    return wrong_field("mesh_header", given("mesh", mesh, BYTE))
+
+
 def brick(a, b, c, periodic=(False, False, False)):
     """A brick of a times b times c hexahedra."""
     x, y, z = (1 if axis else 0 for axis in periodic)
@@ -307,6 +313,11 @@ def check_part(data, table, rank):
 def part_fault(data, table, rank):
     """The first place at which a part isn't sound, or None."""
     return fault("part_fault", given("part", data, BYTE), _table(table), rank)
+
+
+def part_header(data, table, rank):
+    """What is wrong with the header or the length of a part, or None."""
+    return wrong_field("part_header", given("part", data, BYTE), _table(table), rank)
 
 
 # Messages

@@ -22,7 +22,8 @@ LISTS = {ENTRY: "q", NUMBER: "I", SUM: "Q"}
 
 
 class Refused(Exception):
-    """A call refused: the first check that failed, its words, and where a table, mesh or part fails, else None."""
+    """A call refused: the first check that failed, its words, and where a table, mesh or part fails or what of a message
+    isn't the area's, else None."""
 
     def __init__(self, number, text, place=None):
         super().__init__(number, text, place)
@@ -32,6 +33,8 @@ class Refused(Exception):
         return f"refusal {self.number}, {self.text}" + (f": {self.place}" if self.place else "")
 
 
+WrongField = namedtuple("WrongField", "field due found text")
+WrongField.__doc__ = "What is wrong with a header: the field, the number that is due (0 where several are), the one there, words."
 Fault = namedtuple("Fault", "number kind at face text")
 Fault.__doc__ = "Where an object fails: the check's number, the kind, the rank, tree or record, the face or None, all in words."
 
@@ -65,6 +68,10 @@ def real(name, value):
     return float(value)
 
 
+def words(text):
+    return ffi.string(text).decode()
+
+
 def call(name, *arguments):
     """Call vejgodat_NAME. An array stands for its address and its length; every other argument is a number."""
     passed = []
@@ -82,7 +89,7 @@ def ask(name, *arguments):
     answer = call(name, *arguments)
     number = answer if isinstance(answer, int) else answer.refusal
     if number != lib.VEJGODAT_OK:
-        raise Refused(number, ffi.string(lib.vejgodat_refusal_text(number)).decode(), place(number, arguments))
+        raise Refused(number, words(lib.vejgodat_refusal_text(number)), place(number, arguments))
     return answer
 
 
@@ -104,14 +111,25 @@ def fault(name, *arguments):
     said = ask(name, *arguments)
     if said.fault == lib.VEJGODAT_OK:
         return None
-    text = ffi.new("char[]", lib.vejgodat_write_fault(said, ffi.NULL, 0) + 1)
-    lib.vejgodat_write_fault(said, text, len(text))
+    room = ffi.new("char[]", lib.vejgodat_write_fault(said, ffi.NULL, 0) + 1)
+    lib.vejgodat_write_fault(said, room, len(room))
+    text = words(room)
+    if said.kind == lib.VEJGODAT_FAULT_HEADER:
+        text += ": " + wrong_field(name.replace("_fault", "_header"), *arguments).text
     face = said.face if lib.vejgodat_fault_has_face(said.kind) else None
-    return Fault(said.fault, said.kind, said.at, face, ffi.string(text).decode())
+    return Fault(said.fault, said.kind, said.at, face, text)
+
+
+def wrong_field(name, *arguments):
+    """What a call says of a header: None where it is right."""
+    said = ask(name, *arguments)
+    if said.field == lib.VEJGODAT_HEADER_NONE:
+        return None
+    return WrongField(said.field, said.due, said.found, words(lib.vejgodat_header_text(said.field)))
 
 
 def place(number, arguments):
-    """Where the table, mesh or part fails that a refused call was given."""
+    """Where the table, mesh or part fails that a refused call was given, and which number of a message isn't the area's."""
     tables = [a for a in arguments if isinstance(a, np.ndarray) and a.dtype == ENTRY]
     objects = [a for a in arguments if isinstance(a, np.ndarray) and a.dtype == BYTE]
     ranks = [a for a in arguments if not isinstance(a, np.ndarray)]
@@ -125,4 +143,6 @@ def place(number, arguments):
         return found.text if found else "its K isn't the table's"
     elif number == lib.VEJGODAT_PART:
         return fault("part_fault", objects[0], tables[0], ranks[0]).text
+    elif number == lib.VEJGODAT_RUN:
+        return words(lib.vejgodat_run_text(lib.vejgodat_run_field(*(ffi.from_buffer("uint8_t[]", o) for o in objects))))
     return None

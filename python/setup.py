@@ -27,6 +27,7 @@ def version():
 
 class Build(build_py):
     def run(self):
+        shutil.rmtree(os.path.join(MADE, "lib"), ignore_errors=True)    # what an earlier build left
         super().run()
         if not os.path.exists(LIBRARY):
             raise SystemExit(f"{LIBRARY} is missing: make at the top builds it")

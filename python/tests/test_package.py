@@ -263,7 +263,9 @@ def test_views_of_a_part(part):
     assert "rank 1 of 3" in repr(part)
 
 
-def test_parts_of_bytes(part):
+def test_parts_of_bytes(part, tmp_path):
+    part.bytes.tofile(tmp_path / "part")
+    assert np.array_equal(Part(np.memmap(tmp_path / "part", np.uint8, "r"), TABLE, 1).ghosts, part.ghosts)
     again = Part(part.bytes.tobytes(), TABLE, 1)
     assert np.array_equal(again.bytes, part.bytes)
     with pytest.raises((ValueError, BufferError)):

@@ -66,7 +66,7 @@ ifneq ($(notice),)
 endif
 
 dist: $(archive) $(shared)
-	MAKE='$(MAKE)' PYTHON='$(PYTHON)' packages/dist $(version)
+	PYTHON='$(PYTHON)' packages/dist $(version)
 
 .DELETE_ON_ERROR:
 .PHONY: all install dist

@@ -1,6 +1,7 @@
 # make: the archive that rt proves and builds (tools/prove shows how far it is), in it the header's inline functions as
-# symbols, and the shared library made of it.
-# make install PREFIX=/where: headers, archive, shared library, the Fortran module's source, files for pkg-config and CMake.
+# symbols; the shared library made of it; and the program vejgodat.
+# make install PREFIX=/where: headers, libraries, the program and its manual page, the Fortran module's source, files for
+# pkg-config and CMake.
 # make dist: all that, the Python package and the pages in one tarball, for machines without the toolchain.
 # docs/PACKAGES.md says how to use each.
 PREFIX = /usr/local
@@ -10,6 +11,7 @@ PYTHON = python3
 
 proved = target/staticlib/libvejgodat.a
 archive = target/lib/libvejgodat.a
+command = target/cli/vejgodat
 sources := crates.txt $(shell find crates -type f)
 number := $(shell sed -n 's/^\#define VEJGODAT_VERSION //p' include/vejgodat.h)
 major := $(shell echo $$(( $(number) / 10000 )))
@@ -22,7 +24,7 @@ soname = libvejgodat.so.$(major)
 described = vejgodat.pc vejgodat-shared.pc vejgodat-config.cmake vejgodat-config-version.cmake
 module = target/packages/vejgodat.f90
 
-all: $(archive) $(shared)
+all: $(archive) $(shared) $(command)
 
 # the libraries
 $(proved): $(sources)
@@ -40,7 +42,12 @@ $(shared): $(archive) packages/exports.map Makefile
 	  -Wl,--whole-archive $(archive) -Wl,--no-whole-archive
 	ln -sf libvejgodat.so target/lib/$(soname)
 
-# what tells other tools of them
+# the program
+$(command): $(wildcard cli/*.c cli/*.h) $(archive)
+	@mkdir -p target/cli
+	$(CC) -std=c99 $(CFLAGS) -Wall -Wextra -Iinclude -o $@ $(filter %.c,$^) $(archive)
+
+# what tells other tools of the libraries
 $(described:%=target/packages/%): target/packages/%: packages/%.in include/vejgodat.h Makefile
 	@mkdir -p target/packages
 	sed 's/@VERSION@/$(version)/; s/@MAJOR@/$(major)/; s/@SONAME@/$(soname)/' $< >$@
@@ -49,8 +56,8 @@ $(module): packages/bindings include/vejgodat.h
 	@mkdir -p target/packages
 	packages/bindings fortran >$@
 
-install: $(archive) $(shared) $(described:%=target/packages/%) $(module)
-	$(INSTALL) -d $(addprefix $(DESTDIR)$(PREFIX)/,include lib/pkgconfig lib/cmake/vejgodat share/vejgodat)
+install: $(archive) $(shared) $(command) $(described:%=target/packages/%) $(module)
+	$(INSTALL) -d $(addprefix $(DESTDIR)$(PREFIX)/,bin include lib/pkgconfig lib/cmake/vejgodat share/man/man1 share/vejgodat)
 	$(INSTALL) -m 644 include/vejgodat.h include/vejgodat.hpp $(DESTDIR)$(PREFIX)/include
 	$(INSTALL) -m 644 $(archive) $(DESTDIR)$(PREFIX)/lib
 	$(INSTALL) -m 755 $(shared) $(DESTDIR)$(PREFIX)/lib/libvejgodat.so.$(version)
@@ -60,12 +67,14 @@ install: $(archive) $(shared) $(described:%=target/packages/%) $(module)
 	$(INSTALL) -m 644 target/packages/vejgodat-config.cmake target/packages/vejgodat-config-version.cmake \
 	  $(DESTDIR)$(PREFIX)/lib/cmake/vejgodat
 	$(INSTALL) -m 644 $(module) $(DESTDIR)$(PREFIX)/share/vejgodat
+	$(INSTALL) -m 755 $(command) $(DESTDIR)$(PREFIX)/bin
+	$(INSTALL) -m 644 cli/vejgodat.1 $(DESTDIR)$(PREFIX)/share/man/man1
 ifneq ($(notice),)
 	$(INSTALL) -d $(DESTDIR)$(PREFIX)/share/doc/vejgodat
 	$(INSTALL) -m 644 $(notice) $(DESTDIR)$(PREFIX)/share/doc/vejgodat
 endif
 
-dist: $(archive) $(shared)
+dist: $(archive) $(shared) $(command)
 	PYTHON='$(PYTHON)' packages/dist $(version)
 
 .DELETE_ON_ERROR:

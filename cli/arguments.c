@@ -128,8 +128,7 @@ read_arguments (arguments * a, int count, char **words)
   if (a->value[OPT_HELP] == NULL
       && (a->count < a->command->least
           || (a->command->most >= 0 && a->count > a->command->most))) {
-    bad_usage (a->command, "too few or too many names",
-               a->command->usage);
+    bad_usage (a->command, "too few or too many", "arguments");
   }
 }
 
@@ -152,14 +151,14 @@ void
 floats_of (const command * c, const char *text, float *list, int count)
 {
   const char         *at = text;
-  char               *after;
+  char               *after, words[64];
   int                 i;
 
+  sprintf (words, "no list of %d numbers with commas between", count);
   for (i = 0; i < count; ++i) {
     list[i] = strtof (at, &after);
     if (after == at || *after != (i + 1 < count ? ',' : '\0')) {
-      bad_usage (c, "not as many numbers with commas between as are needed",
-                 text);
+      bad_usage (c, words, text);
     }
     at = after + 1;
   }

@@ -44,7 +44,7 @@ write_object (writer * w, const input * in, const verdict * v,
 
 static int
 check_one (const arguments * a, writer * w, const char *name,
-           const input * table)
+           const input * table, progress * p)
 {
   input               in;
   verdict             v;
@@ -52,6 +52,7 @@ check_one (const arguments * a, writer * w, const char *name,
   const char         *unread = open_input (&in, name);
 
   if (unread != NULL) {
+    progress_end (p);
     if (w->json) {
       begin (w, NULL, '{');
       put_text (w, "file", in.name);
@@ -63,6 +64,7 @@ check_one (const arguments * a, writer * w, const char *name,
     return complain (in.name, unread);
   }
   v = judge (a, &in, table);
+  progress_end (p);
   write_verdict (&v, words, sizeof words);
   if (w->json) {
     write_object (w, &in, &v, words);
@@ -92,9 +94,8 @@ run (const arguments * a)
   }
   for (i = 0; i < a->count; ++i) {
     progress_at (&p, (uint64_t) i + 1, (uint64_t) a->count);
-    status |= check_one (a, &w, a->names[i], given);
+    status |= check_one (a, &w, a->names[i], given, &p);
   }
-  progress_end (&p);
   if (w.json) {
     end (&w, ']');
     finish (&w);

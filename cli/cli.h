@@ -122,6 +122,7 @@ progress;
 
 progress            progress_of (const char *what);
 void                progress_at (progress * p, uint64_t done, uint64_t all);
+/* Take the line away, before other output and at the end. */
 void                progress_end (progress * p);
 
 /* Tables and lists of numbers (lists.c) */

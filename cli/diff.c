@@ -4,13 +4,14 @@
 #include <stdlib.h>
 #include <string.h>
 
-/* One of the two files, a column file by its rows. */
+/* One of the two files, a column file by its rows and a text by its table. */
 typedef struct
 {
   input               in;
   verdict             v;
   uint8_t            *rows;
   const uint8_t      *bytes;
+  size_t              length;
 }
 side;
 
@@ -18,15 +19,23 @@ static int
 open_side (const arguments * a, side * s, const char *name,
            const input * table)
 {
+  input               made;
+
   memset (s, 0, sizeof *s);
   if (take_input (&s->in, name) != 0) {
     return 1;
   }
   s->v = judge (a, &s->in, table);
+  if (s->v.text && read_table (&s->in, &made) == NULL) {
+    close_input (&s->in);
+    s->in = made;
+    s->v.text = 0;
+  }
   if (s->v.kind == COLUMNS) {
     s->rows = rows_of (s->in.bytes, s->in.length);
   }
   s->bytes = s->rows != NULL ? s->rows : s->in.bytes;
+  s->length = s->in.length;
   return 0;
 }
 
@@ -44,7 +53,7 @@ number_at (const side * s, size_t begins, size_t wide)
   uint64_t            number = 0;
   size_t              i;
 
-  for (i = 0; i < wide && begins + i < s->in.length; ++i) {
+  for (i = 0; i < wide && begins + i < s->length; ++i) {
     number |= (uint64_t) s->bytes[begins + i] << 8 * i;
   }
   return (int64_t) number;
@@ -57,7 +66,7 @@ write_difference (writer * w, const side * one, const side * other,
   char                name[120];
   size_t              begins, wide;
 
-  name_place (kind, one->bytes, one->in.length, at, name, sizeof name,
+  name_place (kind, one->bytes, one->length, at, name, sizeof name,
               &begins, &wide);
   if (w->json) {
     put_number (w, "byte", at);
@@ -92,8 +101,8 @@ static int
 write_diff (const arguments * a, const side * one, const side * other)
 {
   writer              w = { a->value[OPT_JSON] != NULL, 0, 1 };
-  const size_t        shorter = one->in.length < other->in.length
-    ? one->in.length : other->in.length;
+  const size_t        shorter = one->length < other->length
+    ? one->length : other->length;
   const int           kinds = one->v.kind != KINDS && other->v.kind != KINDS
     && one->v.kind != other->v.kind;
   size_t              at = 0;
@@ -102,7 +111,7 @@ write_diff (const arguments * a, const side * one, const side * other)
   while (at < shorter && one->bytes[at] == other->bytes[at]) {
     ++at;
   }
-  same = !kinds && at == shorter && one->in.length == other->in.length;
+  same = !kinds && at == shorter && one->length == other->length;
   if (w.json) {
     begin (&w, NULL, '{');
     put_flag (&w, "same", same);
@@ -116,16 +125,16 @@ write_diff (const arguments * a, const side * one, const side * other)
   if (!kinds && at < shorter) {
     write_difference (&w, one, other, common_kind (one, other), at);
   }
-  if (one->in.length != other->in.length) {
+  if (one->length != other->length) {
     if (w.json) {
       begin (&w, "lengths", '[');
-      put_number (&w, NULL, one->in.length);
-      put_number (&w, NULL, other->in.length);
+      put_number (&w, NULL, one->length);
+      put_number (&w, NULL, other->length);
       end (&w, ']');
     }
     else {
-      printf ("length: %lu and %lu bytes\n", (unsigned long) one->in.length,
-              (unsigned long) other->in.length);
+      printf ("length: %lu and %lu bytes\n", (unsigned long) one->length,
+              (unsigned long) other->length);
     }
   }
   if (w.json) {

@@ -92,18 +92,17 @@ map_file (int file, input * in)
   if (S_ISDIR (about.st_mode)) {
     return strerror (EISDIR);
   }
-  if (!S_ISREG (about.st_mode)) {
+  /* some files, as those of /proc, don't tell their length */
+  if (!S_ISREG (about.st_mode) || about.st_size == 0) {
     return read_all (file, in);
   }
-  if (about.st_size > 0) {
-    at = mmap (NULL, (size_t) about.st_size, PROT_READ, MAP_PRIVATE, file, 0);
-    if (at == MAP_FAILED) {
-      return strerror (errno);
-    }
-    in->bytes = in->memory = at;
-    in->length = (size_t) about.st_size;
-    in->mapped = 1;
+  at = mmap (NULL, (size_t) about.st_size, PROT_READ, MAP_PRIVATE, file, 0);
+  if (at == MAP_FAILED) {
+    return strerror (errno);
   }
+  in->bytes = in->memory = at;
+  in->length = (size_t) about.st_size;
+  in->mapped = 1;
   return NULL;
 }
 

@@ -257,7 +257,7 @@ kind_by_header (const input * in)
       && in->length == VEJGODAT_MESH_BYTES (number[1])) {
     return MESH;
   }
-  if ((number[0] == 2 || number[0] == 3) && number[3] < number[2]
+  if ((number[0] == 2 || number[0] == 3)
       && in->length == VEJGODAT_PART_BYTES (number[5], number[6])) {
     return looks_like_columns (b) ? COLUMNS : PART;
   }
@@ -301,7 +301,7 @@ judge (const arguments * a, const input * in, const input * table)
       }
     }
     if (v.kind == KINDS) {
-      v.by = "header";
+      v.by = is_text (in->bytes, in->length) ? "contents" : "header";
       v.kind = kind_by_header (in);
       if (v.kind != KINDS) {
         judge_as (a, in, table, &v);
@@ -317,8 +317,8 @@ void
 write_verdict (const verdict * v, char *text, size_t text_len)
 {
   if (v->kind == KINDS) {
-    snprintf (text, text_len, "neither sound nor, by header and length, a"
-              " mesh, part, column file, message, area or table");
+    snprintf (text, text_len, "sound as no kind, and header and length fit"
+              " none; --as KIND says where it fails as one");
   }
   else if (is_sound (v)) {
     snprintf (text, text_len, "sound");

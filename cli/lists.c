@@ -4,6 +4,9 @@
 #include <stdlib.h>
 #include <string.h>
 
+/* no list has more numbers than there can be trees */
+#define MOST_NUMBERS VEJGODAT_MAX_TREES
+
 static int
 is_blank (uint8_t c)
 {
@@ -50,17 +53,21 @@ read_numbers (const input * in, numbers * found)
 
   found->count = 0;
   /* a number and what follows it take two bytes at least */
-  found->list = room (sizeof *found->list * (in->length / 2 + 1));
+  found->list = room (sizeof *found->list
+                      * (in->length / 2 < MOST_NUMBERS ? in->length / 2 + 1
+                         : MOST_NUMBERS));
   while (at < in->length) {
     if (is_blank (in->bytes[at])) {
       ++at;
       continue;
     }
-    if (!read_number (in->bytes, in->length, &at,
-                      &found->list[found->count])) {
+    if (found->count == MOST_NUMBERS
+        || !read_number (in->bytes, in->length, &at,
+                         &found->list[found->count])) {
       free (found->list);
       found->list = NULL;
-      return "the text isn't whole numbers with commas or blanks between";
+      return "the text isn't whole numbers with commas or blanks between, at"
+        " most 1,048,576 of them";
     }
     ++found->count;
   }

@@ -58,7 +58,7 @@ probe (const arguments * a, const input * in, const frame * f,
 /* The numbers of the trees of one part that are met. */
 static int
 near_input (const arguments * a, writer * w, const input * in,
-            const input * table)
+            const input * table, progress * p)
 {
   frame               f = frame_of (a, in, table);
   /* a part has a tree for each 64 bytes at most */
@@ -70,6 +70,7 @@ near_input (const arguments * a, writer * w, const input * in,
   if (f.refusal == VEJGODAT_OK) {
     answer = probe (a, in, &f, met, most);
   }
+  progress_end (p);
   for (i = 0; i < answer.count; ++i) {
     met[i] = vejgodat_part_number (in->bytes, met[i]);
   }
@@ -121,10 +122,9 @@ run_near (const arguments * a)
       status = 1;
       continue;
     }
-    status |= near_input (a, &w, &in, given);
+    status |= near_input (a, &w, &in, given, &p);
     close_input (&in);
   }
-  progress_end (&p);
   if (w.json) {
     end (&w, ']');
     finish (&w);

@@ -11,7 +11,8 @@ typedef struct
 }
 move;
 
-/* Draw an SVG. Ranks are below `ranks`, and no move's first tree is above its last. It is 0 where there is no memory. */
+/* Draw an SVG. Ranks are below `ranks`, and no move's first tree is above its last. It is 0 where there is no
+ * memory. */
 int                 draw_moves (FILE * out, uint32_t ranks, uint32_t trees,
                                 const move * moves, size_t count);
 

@@ -134,7 +134,8 @@ trees_of (const move * m)
   return m->last - m->first + 1;
 }
 
-/* The rank that sends and gets the most bytes to and from others, the lowest of several; 0 bytes where nothing moves. */
+/* The rank that sends and gets the most bytes to and from others, the lowest of several; 0 bytes where nothing
+ * moves. */
 static uint32_t
 busiest (const plan * p, uint64_t * most)
 {
@@ -269,7 +270,7 @@ run (const arguments * a)
   memset (&p, 0, sizeof p);
   if (a->value[OPT_SVG] != NULL ? a->value[OPT_JSON] != NULL
       : a->value[OPT_OUT] != NULL) {
-    bad_usage (a->command, "these don't go together", a->command->usage);
+    bad_usage (a->command, "these don't go together", "arguments");
   }
   status = take_table (&p.old, a->names[0]) != 0
     || take_table (&p.new, a->names[1]) != 0;

@@ -47,5 +47,6 @@ progress_end (progress * p)
 {
   if (p->seen) {
     fprintf (stderr, "\r\033[K");
+    p->seen = 0;
   }
 }

@@ -110,6 +110,36 @@ put_ranks_beside (writer * w, const view * v, const input * table)
   free (beside);
 }
 
+/* The senders of a sound area that are heard, and those that aren't. */
+static void
+put_senders (writer * w, const view * v)
+{
+  const uint32_t      ranks = vejgodat_number_at (v->bytes + 12);
+  const uint32_t      rank = vejgodat_number_at (v->bytes + 16);
+  const size_t        table_len = VEJGODAT_TABLE_BYTES (ranks);
+  const uint8_t      *old_table = v->bytes + 32;
+  const uint8_t      *words = old_table + 2 * table_len;
+  uint32_t           *due = room (sizeof *due * ranks);
+  uint32_t           *missing = room (sizeof *missing * ranks);
+  uint32_t            i, heard = 0, waits = 0;
+  const vejgodat_ranks set =
+    vejgodat_receive_set (old_table, table_len, old_table + table_len,
+                          table_len, rank, due, ranks);
+
+  for (i = 0; i < set.count; ++i) {
+    if ((words[due[i] / 8] >> due[i] % 8 & 1) != 0) {
+      due[heard++] = due[i];
+    }
+    else {
+      missing[waits++] = due[i];
+    }
+  }
+  put_numbers (w, "senders_heard", due, heard);
+  put_numbers (w, "senders_missing", missing, waits);
+  free (due);
+  free (missing);
+}
+
 /* A sound table: its ranges. */
 static void
 put_table (writer * w, const input * table)
@@ -174,16 +204,12 @@ static void
 show_records (writer * w, const view * v, const verdict * verdict,
               const input * table)
 {
-  vejgodat_progress   come;
-
   put_header (w, v);
   if (!is_sound (verdict)) {
     return;
   }
   if (v->kind == AREA) {
-    come = vejgodat_progress_of (v->bytes, v->length);
-    put_number (w, "senders_heard", come.heard);
-    put_number (w, "senders_due", come.due);
+    put_senders (w, v);
     return;
   }
   put_counts (w, v);

@@ -15,13 +15,15 @@ make_room (input * table, const char *name, uint32_t ranks)
   table->bytes = table->memory;
 }
 
-/* What a call that writes a table answered: 0, or the status. */
+/* What a call that writes a table answered: 0, or the status. `ranks` names what has the ranks. */
 static int
-made (input * table, vejgodat_length answer)
+made (input * table, const char *ranks, vejgodat_length answer)
 {
   if (answer.refusal != VEJGODAT_OK) {
     close_input (table);
-    return complain_refusal (table->name, answer.refusal);
+    return complain_refusal (answer.refusal == VEJGODAT_RANKS
+                             || answer.refusal == VEJGODAT_WEIGHTS ? ranks
+                             : table->name, answer.refusal);
   }
   return 0;
 }
@@ -32,6 +34,7 @@ from_leaves (const arguments * a, input * table)
   const char         *name = a->value[OPT_LEAVES];
   uint32_t           *leaves = NULL, *weights = NULL, ranks;
   size_t              trees, count;
+  vejgodat_length     answer;
   int                 status = 1;
 
   if (take_list (name, &leaves, &trees) != 0) {
@@ -40,16 +43,16 @@ from_leaves (const arguments * a, input * table)
   if (a->value[OPT_WEIGHTS] == NULL) {
     ranks = number_of (a->command, a->value[OPT_RANKS]);
     make_room (table, name, ranks <= VEJGODAT_MAX_RANKS ? ranks : 0);
-    status = made (table, vejgodat_table_from_leaves (ranks, leaves, trees,
-                                                      table->memory,
-                                                      table->length));
+    answer = vejgodat_table_from_leaves (ranks, leaves, trees, table->memory,
+                                         table->length);
+    status = made (table, "--ranks", answer);
   }
   else if (take_list (a->value[OPT_WEIGHTS], &weights, &count) == 0) {
     make_room (table, name,
                count <= VEJGODAT_MAX_RANKS ? (uint32_t) count : 0);
-    status = made (table, vejgodat_table_from_weights (weights, count, leaves,
-                                                       trees, table->memory,
-                                                       table->length));
+    answer = vejgodat_table_from_weights (weights, count, leaves, trees,
+                                          table->memory, table->length);
+    status = made (table, a->value[OPT_WEIGHTS], answer);
   }
   free (leaves);
   free (weights);
@@ -81,9 +84,9 @@ from_ranges (const arguments * a, input * table)
     count[i] = pairs[2 * i + 1];
   }
   make_room (table, name, ranks);
-  status = made (table, vejgodat_write_table (ranks, first, ranks, count,
-                                              ranks, table->memory,
-                                              table->length));
+  status = made (table, name,
+                 vejgodat_write_table (ranks, first, ranks, count, ranks,
+                                       table->memory, table->length));
   free (pairs);
   free (first);
   free (count);
@@ -98,10 +101,10 @@ from_parts (const arguments * a, input * table)
 
   if (status == 0) {
     make_room (table, a->value[OPT_PARTS], f.ranks);
-    status = made (table, vejgodat_write_table (f.ranks, f.first, f.ranks,
-                                                f.count, f.ranks,
-                                                table->memory,
-                                                table->length));
+    status = made (table, table->name,
+                   vejgodat_write_table (f.ranks, f.first, f.ranks, f.count,
+                                         f.ranks, table->memory,
+                                         table->length));
     if (status == 0 && table_trees (table) != f.trees) {
       close_input (table);
       status = complain (table->name, "the parts don't have all trees");
@@ -185,7 +188,7 @@ run (const arguments * a)
 
   if (ways != 1 || shares != leaves
       || (a->value[OPT_TEXT] != NULL && a->value[OPT_OUT] == NULL)) {
-    bad_usage (a->command, "these don't go together", a->command->usage);
+    bad_usage (a->command, "these don't go together", "arguments");
   }
   status = a->count > 0 ? take_table (&table, a->names[0])
     : leaves ? from_leaves (a, &table)

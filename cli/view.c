@@ -266,7 +266,7 @@ name_place (int kind, const uint8_t * bytes, size_t length, size_t at,
   }
   if (kind == KINDS || at >= v.ghosts_at + 40 * (size_t) v.ghosts
       || (at < v.ghosts_at && at >= v.trees_at + 64 * (size_t) v.trees)) {
-    snprintf (name, name_len, "no record");
+    snprintf (name, name_len, "byte %lu", (unsigned long) at);
     *begins = at;
     *wide = 1;
     return;

@@ -13,7 +13,7 @@ const char         *const shape_names[6] =
 };
 
 /* Write the least table that has the range of a part's header: rank 0 has all trees before it and the next rank all
- * behind it, whatever ranks these have in truth. */
+ * after it, whatever ranks have them in truth. */
 static uint32_t
 header_table (const input * in, input * table)
 {

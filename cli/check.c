@@ -34,6 +34,11 @@ write_object (writer * w, const input * in, const verdict * v,
   put_text (w, "words", words);
   if (v->kind != KINDS && v->fault.fault != VEJGODAT_OK) {
     put_number (w, "fault", v->fault.kind);
+    if (v->header.field != VEJGODAT_HEADER_NONE) {
+      put_number (w, "header", v->header.field);
+      put_number (w, "found", v->header.found);
+      put_number (w, "due", v->header.due);
+    }
     put_number (w, "at", v->fault.at);
     if (vejgodat_fault_has_face (v->fault.kind)) {
       put_number (w, "face", v->fault.face);

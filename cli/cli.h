@@ -179,6 +179,7 @@ typedef struct
   int                 text;     /* a table that is text */
   int                 own;      /* a part whose table is of its own header */
   vejgodat_fault      fault;    /* refusal and fault are 0 if it is sound */
+  vejgodat_wrong_field header;  /* what is wrong with a header */
   const char         *words;    /* NULL, or what is wrong where no call says it */
 }
 verdict;
@@ -199,6 +200,10 @@ int                 is_sound (const verdict * v);
 /* The verdict in words. */
 void                write_verdict (const verdict * v, char *text,
                                    size_t text_len);
+/* Say where a file fails as a kind, or the refusal if it doesn't: the status. */
+int                 complain_as (const arguments * a, int kind,
+                                 const input * in, const input * table,
+                                 uint32_t refusal);
 /* The part of a column file, by its header and length alone; NULL where these
  * don't fit. */
 uint8_t            *rows_of (const uint8_t * columns, size_t length);

@@ -11,11 +11,9 @@ static int
 turned (const arguments * a, turn way, int kind, const input * in,
         const input * table)
 {
-  arguments           as = *a;
   frame               f = frame_of (a, in, table);
   uint8_t            *out = room (in->length);
   uint32_t            refusal = f.refusal;
-  verdict             v;
   int                 status;
 
   if (refusal == VEJGODAT_OK) {
@@ -26,10 +24,7 @@ turned (const arguments * a, turn way, int kind, const input * in,
     status = deliver_output (a, out, in->length);
   }
   else {
-    as.value[OPT_AS] = kind_names[kind];
-    v = judge (&as, in, table);
-    status = is_sound (&v) ? complain_refusal (in->name, refusal)
-      : complain_fault (in->name, v.fault);
+    status = complain_as (a, kind, in, table, refusal);
   }
   free (out);
   close_frame (&f);

@@ -83,6 +83,7 @@ add_file (folder * f, const char *path)
   input               in;
   verdict             v;
   struct stat         about;
+  char                words[200];
   int                 status;
 
   if (stat (path, &about) != 0) {
@@ -97,8 +98,9 @@ add_file (folder * f, const char *path)
   memset (&none, 0, sizeof none);
   none.command = &alone;
   v = judge (&none, &in, NULL);
+  write_verdict (&v, words, sizeof words);
   status = v.kind != PART ? 0 : is_sound (&v) ? add_part (f, path, in.bytes)
-    : complain_fault (path, v.fault);
+    : complain (path, words);
   close_input (&in);
   return status;
 }

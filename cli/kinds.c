@@ -150,36 +150,41 @@ rows_of (const uint8_t * columns, size_t length)
   return part;
 }
 
-/* Where a part fails, or a column file: the latter by its rows. */
-static vejgodat_fault
-part_fault (const arguments * a, const input * in, const input * table,
-            int columns)
+/* A part, or a column file: where that fails is found by its rows. */
+static void
+judge_part (const arguments * a, const input * in, const input * table,
+            verdict * v)
 {
+  const vejgodat_fault wrong =
+    { 0, VEJGODAT_PART, VEJGODAT_FAULT_HEADER, 0, 0 };
   frame               f = frame_of (a, in, table);
   uint8_t            *rows;
-  vejgodat_fault      fault = { 0, VEJGODAT_PART, VEJGODAT_FAULT_HEADER, 0, 0 };
 
+  v->fault = wrong;
   if (f.refusal != VEJGODAT_OK) {
+    v->words = in->length < 32 ? vejgodat_header_text (VEJGODAT_HEADER_SHORT)
+      : "header fits no table";
     close_frame (&f);
-    return fault;
+    return;
   }
-  if (!columns) {
-    fault = vejgodat_part_fault (in->bytes, in->length, f.table.bytes,
-                                 f.table.length, f.rank);
+  v->header = vejgodat_part_header (in->bytes, in->length, f.table.bytes,
+                                    f.table.length, f.rank);
+  if (v->kind == PART) {
+    v->fault = vejgodat_part_fault (in->bytes, in->length, f.table.bytes,
+                                    f.table.length, f.rank);
   }
   /* a sound file is refused for want of a buffer only */
   else if (vejgodat_columns_to_part (in->bytes, in->length, f.table.bytes,
                                      f.table.length, f.rank, NULL, 0).refusal
            == VEJGODAT_BUFFER) {
-    fault = refused (VEJGODAT_OK);
+    v->fault = refused (VEJGODAT_OK);
   }
   else if ((rows = rows_of (in->bytes, in->length)) != NULL) {
-    fault = vejgodat_part_fault (rows, in->length, f.table.bytes,
-                                 f.table.length, f.rank);
+    v->fault = vejgodat_part_fault (rows, in->length, f.table.bytes,
+                                    f.table.length, f.rank);
     free (rows);
   }
   close_frame (&f);
-  return fault;
 }
 
 /* A table that may be text. */
@@ -205,13 +210,15 @@ judge_as (const arguments * a, const input * in, const input * table,
           verdict * v)
 {
   v->words = NULL;
+  memset (&v->header, 0, sizeof v->header);
   switch (v->kind) {
   case MESH:
     v->fault = vejgodat_mesh_fault (in->bytes, in->length);
+    v->header = vejgodat_mesh_header (in->bytes, in->length);
     break;
   case PART:
   case COLUMNS:
-    v->fault = part_fault (a, in, table, v->kind == COLUMNS);
+    judge_part (a, in, table, v);
     break;
   case MESSAGE:
     v->fault = refused (vejgodat_check_message (in->bytes, in->length));
@@ -326,7 +333,36 @@ write_verdict (const verdict * v, char *text, size_t text_len)
   else if (v->words != NULL) {
     snprintf (text, text_len, "%s", v->words);
   }
-  else {
+  else if (v->fault.kind != VEJGODAT_FAULT_HEADER
+           || v->header.field == VEJGODAT_HEADER_NONE) {
     vejgodat_write_fault (v->fault, text, text_len);
   }
+  else if (v->header.field == VEJGODAT_HEADER_DIMENSION
+           || (v->kind == MESH && v->header.field == VEJGODAT_HEADER_TREES)) {
+    /* no single number is due */
+    snprintf (text, text_len, "%s: %" PRIu64,
+              vejgodat_header_text (v->header.field), v->header.found);
+  }
+  else {
+    snprintf (text, text_len, "%s: %" PRIu64 " where %" PRIu64 " is due",
+              vejgodat_header_text (v->header.field), v->header.found,
+              v->header.due);
+  }
+}
+
+int
+complain_as (const arguments * a, int kind, const input * in,
+             const input * table, uint32_t refusal)
+{
+  arguments           as = *a;
+  verdict             v;
+  char                words[200];
+
+  as.value[OPT_AS] = kind_names[kind];
+  v = judge (&as, in, table);
+  if (is_sound (&v)) {
+    return complain_refusal (in->name, refusal);
+  }
+  write_verdict (&v, words, sizeof words);
+  return complain (in->name, words);
 }

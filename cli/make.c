@@ -8,16 +8,15 @@
 
 /* Why a cut is refused: of a mesh, where it fails. */
 static int
-complain_cut (const input * mesh, const input * table, uint32_t refusal)
+complain_cut (const arguments * a, const input * mesh, const input * table,
+              uint32_t refusal)
 {
-  const vejgodat_fault fault = vejgodat_mesh_fault (mesh->bytes, mesh->length);
-
   if (refusal != VEJGODAT_MESH) {
     return complain_refusal (table->name, refusal);
   }
-  return fault.fault == VEJGODAT_OK
+  return vejgodat_check_mesh (mesh->bytes, mesh->length) == VEJGODAT_OK
     ? complain (mesh->name, "its K isn't the table's")
-    : complain_fault (mesh->name, fault);
+    : complain_as (a, MESH, mesh, NULL, refusal);
 }
 
 /* Cut the parts of all ranks into a folder, which is made where there is none. */
@@ -38,7 +37,7 @@ cut_all (const arguments * a, const input * mesh, const input * table,
     cut = vejgodat_cut_part (mesh->bytes, mesh->length, table->bytes,
                              table->length, rank, part, part_len);
     if (cut.refusal != VEJGODAT_OK) {
-      status = complain_cut (mesh, table, cut.refusal);
+      status = complain_cut (a, mesh, table, cut.refusal);
     }
     else if (rank == 0 && mkdir (name, 0777) != 0 && errno != EEXIST) {
       status = complain (name, strerror (errno));
@@ -62,7 +61,7 @@ cut_one (const arguments * a, const input * mesh, const input * table,
     vejgodat_cut_part (mesh->bytes, mesh->length, table->bytes,
                        table->length, rank, part, part_len);
 
-  return cut.refusal != VEJGODAT_OK ? complain_cut (mesh, table, cut.refusal)
+  return cut.refusal != VEJGODAT_OK ? complain_cut (a, mesh, table, cut.refusal)
     : deliver_output (a, part, (size_t) cut.length);
 }
 

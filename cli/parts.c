@@ -4,21 +4,6 @@
 #include <stdlib.h>
 #include <string.h>
 
-/* The words for a part that a call refused: where it fails, if it does. */
-static int
-complain_part (const input * in, const frame * f, uint32_t refusal)
-{
-  vejgodat_fault      fault = { 0, VEJGODAT_PART, VEJGODAT_FAULT_HEADER, 0, 0 };
-
-  if (f->refusal == VEJGODAT_OK) {
-    fault = vejgodat_part_fault (in->bytes, in->length, f->table.bytes,
-                                 f->table.length, f->rank);
-  }
-  return refusal == VEJGODAT_PART && fault.refusal == VEJGODAT_OK
-    ? complain_fault (in->name, fault)
-    : complain_refusal (in->name, refusal);
-}
-
 /* Axis and limits of a probe: AXIS,LIMIT or AXIS,LOW,HIGH, the axis x, y or z. */
 static uint32_t
 axis_of (const arguments * a, const char *text, float *limits, int count)
@@ -75,7 +60,7 @@ near_input (const arguments * a, writer * w, const input * in,
     met[i] = vejgodat_part_number (in->bytes, met[i]);
   }
   if (answer.refusal != VEJGODAT_OK) {
-    status = complain_part (in, &f, answer.refusal);
+    status = complain_as (a, PART, in, table, answer.refusal);
   }
   else if (w->json) {
     begin (w, NULL, '{');
@@ -160,7 +145,7 @@ regions_of (const arguments * a, const input * in, const input * table)
                                       VEJGODAT_REGIONS);
   }
   if (refusal != VEJGODAT_OK) {
-    complain_part (in, &f, refusal);
+    complain_as (a, PART, in, table, refusal);
   }
   else {
     begin (&w, NULL, '{');

@@ -45,6 +45,7 @@ static int
 message_lengths (const plan * p, uint32_t rank, uint64_t * lengths,
                  uint32_t count)
 {
+  arguments           as;
   input               part;
   vejgodat_many       many;
   uint8_t            *all;
@@ -64,11 +65,14 @@ message_lengths (const plan * p, uint32_t rank, uint64_t * lengths,
                                p->old.length, p->new.bytes, p->new.length,
                                rank, 0, all, (size_t) many.length);
   }
-  close_input (&part);
   if (many.refusal != VEJGODAT_OK) {
     free (all);
-    return complain_refusal (p->parts.paths[rank], many.refusal);
+    memset (&as, 0, sizeof as);
+    complain_as (&as, PART, &part, &p->old, many.refusal);
+    close_input (&part);
+    return 1;
   }
+  close_input (&part);
   while (i < count && (message = vejgodat_next_message
                        (all, (size_t) many.length, &at)) != NULL) {
     lengths[i++] = vejgodat_message_bytes (message);

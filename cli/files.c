@@ -92,8 +92,9 @@ map_file (int file, input * in)
   if (S_ISDIR (about.st_mode)) {
     return strerror (EISDIR);
   }
-  /* some files, as those of /proc, don't tell their length */
-  if (!S_ISREG (about.st_mode) || about.st_size == 0) {
+  /* some files, as those of /proc, don't tell their length, and standard input may be read in part already */
+  if (!S_ISREG (about.st_mode) || about.st_size == 0
+      || lseek (file, 0, SEEK_CUR) != 0) {
     return read_all (file, in);
   }
   at = mmap (NULL, (size_t) about.st_size, PROT_READ, MAP_PRIVATE, file, 0);

@@ -70,7 +70,8 @@ near_input (const arguments * a, writer * w, const input * in,
     end (w, '}');
   }
   else {
-    printf ("%s: %s", in->name, answer.count == 0 ? "no tree" : "trees ");
+    printf ("%s: %s", in->name, answer.count == 0 ? "no tree"
+            : answer.count == 1 ? "tree " : "trees ");
     for (i = 0; i < answer.count; ++i) {
       printf ("%s%" PRIu32, i == 0 ? "" : ", ", met[i]);
     }

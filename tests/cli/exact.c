@@ -1,5 +1,5 @@
-/* Stands in for mmap and munmap in the builds under the sanitizers: a file is read into memory of exactly its length, so
- * that a read one byte past its end is seen. */
+/* Stands in for mmap and munmap in the builds under the sanitizers: a file is read into memory of exactly its
+ * length, so that a read one byte past its end is seen. */
 #define _XOPEN_SOURCE 700
 
 #include <stdlib.h>

@@ -1,7 +1,7 @@
-/* Writes the files that the tests of the program `vejgodat` read and that it can't make itself into the current folder:
- * boxes.mesh, a brick of 3 by 2 by 2 trees whose data are their boxes and whose region is their place on the third axis;
- * 1-0.message and 1-2.message, what rank 1 sends when the table 0,4,-8,12 becomes 0,6,6,12; and 0.area, the area of rank 0
- * that has its own message but not yet that of rank 1. */
+/* Writes the files that the tests of the program `vejgodat` read and that it can't make itself into the current
+ * folder: boxes.mesh, a brick of 3 by 2 by 2 trees whose data are their boxes and whose region is their place on
+ * the third axis; 1-0.message and 1-2.message, what rank 1 sends when the table 0,4,-8,12 becomes 0,6,6,12; and
+ * 0.area, the area of rank 0 that has its own message but not yet that of rank 1. */
 #include <vejgodat.h>
 
 #include <stdio.h>

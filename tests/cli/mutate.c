@@ -1,6 +1,6 @@
-/* Runs the commands of the program `vejgodat` on mutated files: mutate TIMES FILE... changes one of the files at random,
- * from a fixed seed, writes it to `mutated` in the current folder and gives it to every command that reads one. What the
- * commands answer isn't looked at; that they end, with 0 or 1 and under the sanitizers, is the test. */
+/* Runs the commands of the program `vejgodat` on mutated files: mutate TIMES FILE... changes one of the files at
+ * random, from a fixed seed, writes it to `mutated` in the current folder and gives it to every command that reads
+ * one. What the commands answer isn't looked at; that they end, with 0 or 1 and under the sanitizers, is the test. */
 #include "../../cli/cli.h"
 
 #include <stdlib.h>

@@ -302,9 +302,9 @@
  *
  * Each call checks its input itself and returns a refusal: 0, or the number of
  * the first check that fails. The checks come in the order 26, 27, 28, 29, 2,
- * 30, 3 to 8, 24, 23, 25, 31, 32, 33, 9 to 22, and each is made of all arguments
- * before the next one is made of any: of two tables, a bad length (2) decides
- * before bad entries (3), whichever of the two has them. (Only the program plan
+ * 30, 3 to 8, 24, 23, 25, 31, 32, 33, 64, 65, 9 to 22, and each is made of all
+ * arguments before the next one is made of any: of two tables, a bad length (2)
+ * decides before bad entries (3), whichever of the two has them. (Only the program plan
  * gives 1, before all others.) The numbers of this header's calls are those of
  * \ref VEJGODAT_OK and the names that follow it, and
  * \ref vejgodat_refusal_text has words for them. Only \ref vejgodat_lookup,
@@ -357,7 +357,7 @@ extern "C" {
 #endif
 
 /** The version of this header: 10000 major + 100 minor + patch. */
-#define VEJGODAT_VERSION 500
+#define VEJGODAT_VERSION 600
 
 /** Where the compiler knows how, it warns if a call's result is dropped. */
 #if defined (__GNUC__) || defined (__clang__)
@@ -443,8 +443,8 @@ enum
   VEJGODAT_DIFFER = 4,          /**< Old and new table differ in P or K. */
   VEJGODAT_INDEX = 5,           /**< A rank is >= P, a tree >= K, a local index
                                      >= the table's count for the rank, a face
-                                     >= 6, or a dimension given for an area is
-                                     neither 2 nor 3. */
+                                     >= 6, or a dimension given for an area or
+                                     an empty part is neither 2 nor 3. */
   VEJGODAT_PARTITION = 6,       /**< Ranges or leaf counts fit no table, or a
                                      limit isn't kept. */
   VEJGODAT_MESH = 7,            /**< A whole mesh isn't sound, or its K isn't
@@ -494,8 +494,14 @@ enum
                                      two. */
   VEJGODAT_BOX = 32,            /**< A tree's box has a NaN or low above
                                      high. */
-  VEJGODAT_COLUMNS = 33         /**< A column file isn't that of a sound
+  VEJGODAT_COLUMNS = 33,        /**< A column file isn't that of a sound
                                      part. */
+  VEJGODAT_OCCUPIED = 64,       /**< A rank that must have no trees has some.
+                                     Checked after \ref VEJGODAT_COLUMNS (33)
+                                     and before \ref VEJGODAT_NOTHING (9), as
+                                     the next one. */
+  VEJGODAT_RANGE = 65           /**< K, first tree or count of a rank differ
+                                     under two tables. */
 };
 
 /** Say what a refusal means, as part of a sentence without its full stop.
@@ -582,6 +588,10 @@ vejgodat_refusal_text (uint32_t refusal)
     return "a tree's box has a NaN or low above high";
   case VEJGODAT_COLUMNS:
     return "the column file isn't that of a sound part";
+  case VEJGODAT_OCCUPIED:
+    return "a rank that is left out, or whose part is to be empty, has trees";
+  case VEJGODAT_RANGE:
+    return "K, first tree or count of the rank differ under the two tables";
   default:
     return refusal <= 33 ? "reserved: no call of this version gives it"
       : "no refusal of this library";
@@ -2621,6 +2631,112 @@ vejgodat_length     vejgodat_columns_to_part (const uint8_t * columns,
                                               size_t table_len,
                                               uint32_t rank, uint8_t * out,
                                               size_t out_len)
+  VEJGODAT_USE_RESULT;
+
+/** @} */
+
+/** \name Restart on another number of ranks
+ *
+ * Parts that P ranks wrote are read by Q of them so, with M the larger of P and
+ * Q. Give the old table of P ranks and the new one of Q ranks M ranks each
+ * (\ref vejgodat_pad_table). Each old part gets its place under the padded old
+ * table (\ref vejgodat_relabel_part), and each rank from P on an empty part
+ * (\ref vejgodat_empty_part). Move the parts from the one padded table to the
+ * other as always. The part that a rank below Q then closes gets its place under
+ * the new table of Q ranks (\ref vejgodat_relabel_part): it is the part that
+ * \ref vejgodat_cut_part gives for that table.
+ * @{
+ */
+
+/** Write a table with more or fewer ranks.
+ *
+ * Every rank of both tables has the same trees, and each rank of only one of
+ * them has none. The first entries are those of \a table, as many as both have;
+ * every entry after them is K. The way back gives the bytes of \a table.
+ *
+ * \a out must not overlap \a table.
+ *
+ * Checks, in this order: \ref VEJGODAT_RANKS (2) if \a table_len or \a ranks
+ * isn't within P's limits; \ref VEJGODAT_TABLE (3) if the table isn't valid;
+ * \ref VEJGODAT_OCCUPIED (64) if a rank from \a ranks on has trees;
+ * \ref VEJGODAT_BUFFER (22) if \a out_len is below 8 (\a ranks + 1).
+ * Cost: O(P + \a ranks).
+ *
+ * \param [in] table      Any bytes. Not changed.
+ * \param [in] table_len  The number of its bytes.
+ * \param [in] ranks      How many ranks the table to write has; any number.
+ * \param [out] out       Its first 8 (\a ranks + 1) bytes become the table; the
+ *                        bytes after them stay. When refused, all of them stay.
+ * \param [in] out_len    The number of bytes of \a out.
+ * \return                The bytes written, 8 (\a ranks + 1).
+ */
+vejgodat_length     vejgodat_pad_table (const uint8_t * table,
+                                        size_t table_len,
+                                        uint32_t ranks, uint8_t * out,
+                                        size_t out_len)
+  VEJGODAT_USE_RESULT;
+
+/** Write the part of a rank that has no trees: a header of 32 bytes.
+ *
+ * It is what \ref vejgodat_cut_part gives for every sound mesh of the table's K
+ * and the dimension. \a out must not overlap \a table.
+ *
+ * Checks, in this order: those of \ref vejgodat_check_table (2, 3);
+ * \ref VEJGODAT_INDEX (5) if \a rank is not below P or \a dimension is neither
+ * 2 nor 3; \ref VEJGODAT_OCCUPIED (64) if the rank has trees;
+ * \ref VEJGODAT_BUFFER (22) if \a out_len is below 32.
+ * Cost: O(P).
+ *
+ * \param [in] table      Any bytes. Not changed.
+ * \param [in] table_len  The number of its bytes.
+ * \param [in] rank       A rank; any number.
+ * \param [in] dimension  The mesh's dimension; any number.
+ * \param [out] out       Its first 32 bytes become the part; the bytes after
+ *                        them stay. When refused, all of them stay.
+ * \param [in] out_len    The number of bytes of \a out.
+ * \return                The bytes written, 32.
+ */
+vejgodat_length     vejgodat_empty_part (const uint8_t * table,
+                                         size_t table_len, uint32_t rank,
+                                         uint32_t dimension, uint8_t * out,
+                                         size_t out_len)
+  VEJGODAT_USE_RESULT;
+
+/** Write a part under another table and rank with the same trees.
+ *
+ * Only bytes 8 to 15, P and the rank, change. What is the part of a mesh for
+ * the first table and rank becomes the part of that mesh for the other ones.
+ * \a out must not overlap \a part, \a table or \a other.
+ *
+ * Checks, in this order: those of \ref vejgodat_check_table for both tables (2,
+ * 3); \ref VEJGODAT_INDEX (5) if \a rank is not below the P of \a table or
+ * \a other_rank not below that of \a other; \ref VEJGODAT_PART (8) if the part
+ * isn't sound for \a table and \a rank; \ref VEJGODAT_RANGE (65) if the tables
+ * differ in K, or the ranks in first tree or count, also where both have no
+ * trees; \ref VEJGODAT_BUFFER (22) if \a out_len is below \a part_len.
+ * Cost: that of \ref vejgodat_check_part, and one pass over the bytes.
+ *
+ * \param [in] part       Any bytes. Not changed.
+ * \param [in] part_len   The number of its bytes.
+ * \param [in] table      Any bytes. Not changed.
+ * \param [in] table_len  The number of its bytes.
+ * \param [in] rank       A rank; any number.
+ * \param [in] other      Any bytes. Not changed.
+ * \param [in] other_len  The number of its bytes.
+ * \param [in] other_rank The rank under the other table; any number.
+ * \param [out] out       Its first \a part_len bytes become the part; the bytes
+ *                        after them stay. When refused, all of them stay.
+ * \param [in] out_len    The number of bytes of \a out.
+ * \return                The bytes written, \a part_len.
+ */
+vejgodat_length     vejgodat_relabel_part (const uint8_t * part,
+                                           size_t part_len,
+                                           const uint8_t * table,
+                                           size_t table_len, uint32_t rank,
+                                           const uint8_t * other,
+                                           size_t other_len,
+                                           uint32_t other_rank,
+                                           uint8_t * out, size_t out_len)
   VEJGODAT_USE_RESULT;
 
 /** @} */

@@ -19,6 +19,8 @@ static uint8_t      brick[VEJGODAT_MESH_BYTES (8 * 8 * 8)];
 static uint8_t      part[VEJGODAT_PART_BYTES (TREES, 0)], joined[sizeof part];
 static uint8_t      message[sizeof part], table[24], other[24];
 static uint8_t      columns[sizeof part];
+/* rank 0 has all five trees, rank 1 has none */
+static const uint8_t one_has[24] = {[8] = 5,[16] = 5 };
 static uint8_t      area[VEJGODAT_AREA_BYTES (2, TREES, 4)];
 static uint32_t     leaves[TREES], list[2], first[2] = { 0, TREES / 2 };
 static uint32_t     count[2] = { TREES / 2, TREES / 2 };
@@ -179,6 +181,13 @@ TAKE_LENGTH (part_to_columns,
 TAKE_LENGTH (columns_to_part,
              vejgodat_columns_to_part (columns, part_len, OLD, 0, joined,
                                        sizeof joined))
+TAKE_LENGTH (pad_table, vejgodat_pad_table (OLD, 2, NEW))
+TAKE_LENGTH (empty_part,
+             vejgodat_empty_part (one_has, sizeof one_has, 1, 2, joined,
+                                  sizeof joined))
+TAKE_LENGTH (relabel_part,
+             vejgodat_relabel_part (part, part_len, OLD, 0, NEW, 0, joined,
+                                    sizeof joined))
 TAKE_LENGTH (table_from_weights,
              vejgodat_table_from_weights (count, 2, leaves, TREES, OLD))
 TAKE_LENGTH (table_from_blocks,
@@ -248,6 +257,7 @@ main (void)
     CALL (trees_at_point), CALL (trees_below), CALL (trees_between),
     CALL (table_fault), CALL (mesh_fault), CALL (part_fault),
     CALL (mesh_header), CALL (part_header),
+    CALL (pad_table), CALL (empty_part), CALL (relabel_part),
     CALL (table_from_weights), CALL (table_from_blocks),
     CALL (triangle_length), CALL (import_triangle)
   };

@@ -1312,6 +1312,64 @@ columns (void)
                   "the column file isn't that of a sound part") == 0);
 }
 
+/* Parts of three ranks, the last without trees, for four ranks and back. */
+static void
+restart (void)
+{
+  static const int64_t entries[] = { 0, 1, 3, 3 };
+  uint8_t             mesh[VEJGODAT_MESH_BYTES (3)], table[32], more[40];
+  uint8_t             back[32], part[32 + 2 * 64 + 40];
+  uint8_t             moved[sizeof part + 1], again[sizeof part], none[33];
+  vejgodat_length     answer;
+
+  put_triangles (mesh);
+  put_table (table, 3, entries);
+  EXPECT (vejgodat_pad_table (table, 32, 4, more, 39).refusal
+          == VEJGODAT_BUFFER);
+  answer = vejgodat_pad_table (table, 32, 4, more, 40);
+  EXPECT (answer.refusal == VEJGODAT_OK && answer.length == 40);
+  EXPECT (memcmp (more, table, 32) == 0 && memcmp (more + 32, table + 24, 8)
+          == 0);
+  EXPECT (vejgodat_pad_table (more, 40, 3, back, 32).refusal == VEJGODAT_OK);
+  EXPECT (memcmp (back, table, 32) == 0);
+  EXPECT (vejgodat_pad_table (table, 32, 1, back, 32).refusal
+          == VEJGODAT_OCCUPIED);
+  EXPECT (vejgodat_pad_table (table, 32, 0, back, 32).refusal
+          == VEJGODAT_RANKS);
+  EXPECT (memcmp (back, table, 32) == 0);
+
+  none[32] = 9;
+  answer = vejgodat_empty_part (more, 40, 3, 2, none, sizeof none);
+  EXPECT (answer.refusal == VEJGODAT_OK && answer.length == 32);
+  EXPECT (none[32] == 9 && vejgodat_check_part (none, 32, more, 40, 3) == 0);
+  EXPECT (vejgodat_empty_part (more, 40, 3, 4, none, sizeof none).refusal
+          == VEJGODAT_INDEX);
+  EXPECT (vejgodat_empty_part (more, 40, 1, 2, none, sizeof none).refusal
+          == VEJGODAT_OCCUPIED);
+
+  EXPECT (vejgodat_cut_part (mesh, sizeof mesh, table, 32, 1, part,
+                             sizeof part).length == sizeof part);
+  moved[sizeof part] = 9;
+  answer = vejgodat_relabel_part (part, sizeof part, table, 32, 1, more, 40,
+                                  1, moved, sizeof moved);
+  EXPECT (answer.refusal == VEJGODAT_OK && answer.length == sizeof part);
+  EXPECT (moved[8] == 4 && moved[12] == 1 && moved[sizeof part] == 9);
+  EXPECT (vejgodat_check_part (moved, sizeof part, more, 40, 1) == 0);
+  EXPECT (vejgodat_relabel_part (moved, sizeof part, more, 40, 1, table, 32,
+                                 1, again, sizeof again).refusal
+          == VEJGODAT_OK);
+  EXPECT (memcmp (again, part, sizeof part) == 0);
+  EXPECT (vejgodat_relabel_part (part, sizeof part, table, 32, 1, more, 40,
+                                 0, moved, sizeof moved).refusal
+          == VEJGODAT_RANGE);
+  EXPECT (vejgodat_relabel_part (moved, sizeof part, table, 32, 1, more, 40,
+                                 0, again, sizeof again).refusal
+          == VEJGODAT_PART);
+  EXPECT (memcmp (again, part, sizeof part) == 0);
+  EXPECT (strcmp (vejgodat_refusal_text (VEJGODAT_OCCUPIED),
+                  vejgodat_refusal_text (VEJGODAT_RANGE)) != 0);
+}
+
 int
 main (void)
 {
@@ -1341,6 +1399,7 @@ main (void)
   runs ();
   elements ();
   columns ();
+  restart ();
   table_from_weights ();
   table_from_blocks ();
   return wrong == 0 ? 0 : 1;

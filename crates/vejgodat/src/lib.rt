@@ -28,6 +28,7 @@ ghost use Rattle.faults.specs.Calls.{meshFaultOf};
 ghost use Rattle.part_fault.specs.Calls.{partFaultOf};
 ghost use Rattle.headers.specs.Calls.{partHeaderOf, meshHeaderOf};
 ghost use Rattle.columns.specs.Calls.{partToColumns, columnsToPart};
+ghost use Rattle.restart.specs.Calls.{padTable, emptyPartOf, relabelPart};
 use area_open::Progress;
 use build_all::Messages;
 use encoding::answer::Count;
@@ -47,9 +48,9 @@ use refinement::Leaves;
 // 10000 major + 100 minor + patch
 #[no_mangle]
 pub extern "C" fn vejgodat_version() -> u32
-    ensures { λ r. ⌜ r ≡ 500 ⌝ }
+    ensures { λ r. ⌜ r ≡ 600 ⌝ }
 {
-    500
+    600
 }
 
 #[no_mangle]
@@ -382,6 +383,39 @@ pub extern "C" fn vejgodat_columns_to_part(
     ensures { λ r. ⌜ (r, now (out .exit)) ≡ columnsToPart (now (columns .entry)) (now (table .entry)) rank (now (out .entry)) ⌝ }
 {
     columns::columns_to_part(columns, table, rank, out)
+}
+
+#[no_mangle]
+pub extern "C" fn vejgodat_pad_table(table: &[u8], ranks: u32, out: &mut [u8]) -> Length
+    ensures { λ r. ⌜ (r, now (out .exit)) ≡ padTable (now (table .entry)) ranks (now (out .entry)) ⌝ }
+{
+    restart::pad_table(table, ranks, out)
+}
+
+#[no_mangle]
+pub extern "C" fn vejgodat_empty_part(
+    table: &[u8],
+    rank: u32,
+    dimension: u32,
+    out: &mut [u8],
+) -> Length
+    ensures { λ r. ⌜ (r, now (out .exit)) ≡ emptyPartOf (now (table .entry)) rank dimension (now (out .entry)) ⌝ }
+{
+    restart::empty_part(table, rank, dimension, out)
+}
+
+#[no_mangle]
+pub extern "C" fn vejgodat_relabel_part(
+    part: &[u8],
+    table: &[u8],
+    rank: u32,
+    other: &[u8],
+    q: u32,
+    out: &mut [u8],
+) -> Length
+    ensures { λ r. ⌜ (r, now (out .exit)) ≡ relabelPart (now (part .entry)) (now (table .entry)) rank (now (other .entry)) q (now (out .entry)) ⌝ }
+{
+    restart::relabel_part(part, table, rank, other, q, out)
 }
 
 #[no_mangle]

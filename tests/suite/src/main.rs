@@ -64,6 +64,7 @@ groups! {
         headers
         triangles
         columns
+        restart
         many
     }
     rest {

@@ -4,3 +4,6 @@ pub mod Copying
 pub mod Ranges
 pub mod Checks
 pub mod Writing
+pub mod Padding
+pub mod Empty
+pub mod Relabelling

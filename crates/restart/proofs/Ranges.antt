@@ -2,17 +2,15 @@
 use Prim.Native.Nat.{ℕ, _+_, _-_, _*_, _≤_, _<_}
 use native.Mathlib.Omega.{arith}
 use mathlib.Core.Path.{_≡_, refl}
-use mathlib.Core.Bool.{Bool, true, false, _&&_, _||_}
+use mathlib.Core.Bool.{Bool, true, false, _&&_}
 use mathlib.Core.List.{List}
-use lib.Dec.{ltb, eqb}
+use lib.Dec.{eqb}
 use lib.ListN.{length}
-use borrow.Author.Tests.{eqb-true, eq-eqb, ltb-true}
-use Rattle.encoding.specs.Below.{allBelow}
+use borrow.Author.Tests.{eq-eqb}
 use Rattle.encoding.specs.Pieces.{Bytes}
-use Rattle.encoding.specs.Refusal.{firstFailed}
 use Rattle.encoding.proofs.Below.{tests, and-fst, and-snd, and-intro, iff-eq}
 use Rattle.offsets.specs.Limits.{maxRanks, maxTrees}
-use Rattle.offsets.specs.Table.{tableLength, ranks, ranksOk, valid, trees, firstTree, endTree, treeCount}
+use Rattle.offsets.specs.Table.{ranks, valid, trees, firstTree, endTree, treeCount}
 use Rattle.offsets.proofs.OnePass.{ranks-known}
 use Rattle.offsets.proofs.Tables.{first-le-end, end-trees, trees-high}
 use Rattle.part.specs.Means.{RankKnown}

@@ -1,13 +1,12 @@
 -- What the calls write.
-use Prim.Native.Nat.{ℕ, zero, suc, _+_, _*_, _/_, _≤_, _<_}
-use native.Mathlib.Numerals.{add-one}
+use Prim.Native.Nat.{ℕ, zero, suc, _+_, _*_, _/_, _≤_}
 use native.Mathlib.Omega.{arith}
 use mathlib.Core.Path.{_≡_, refl, sym, ap, _∙_}
-use mathlib.Core.Bool.{true, false, cond}
-use mathlib.Core.List.{List, [], _++_}
+use mathlib.Core.Bool.{true}
+use mathlib.Core.List.{List, _++_}
 use lib.Dec.{ltb, leb}
 use lib.ListN.{length, drop, length-append}
-use borrow.Author.Tests.{le-leb, le-ltb}
+use borrow.Author.Tests.{le-leb}
 use Rattle.encoding.specs.Header.{eightBytes}
 use Rattle.encoding.specs.Numbers.{leBytes, u64At, putU32, lePut}
 use Rattle.encoding.specs.Pieces.{piece, splice, Bytes}
@@ -22,7 +21,7 @@ use Rattle.part.proofs.Records.{header-length}
 use Rattle.part_theorems.proofs.SoundParts.{part-length}
 use Rattle.restart.specs.Restart.{paddedEntry, paddedEntries, paddedTable, emptyPart, relabelled}
 use Rattle.restart.specs.Means.{lower, wordsTo, WordsRoom}
-use Rattle.restart.proofs.Copying.{lower-is, lower-most, words-whole}
+use Rattle.restart.proofs.Copying.{lower-most, words-whole}
 
 -- ---- a table of n ranks
 

@@ -1,4 +1,3 @@
-use native.Mathlib.Omega.{arith}
 use mathlib.Core.Path.{_∙_, sym}
 use Rattle.restart.specs.Calls.{relabelPart}
 use Rattle.restart.proofs.Writing.{part-words, relabelled-length, relabel-written}

@@ -306,6 +306,24 @@ def test_asking_a_part(part):
     refused(vejgodat.COLUMNS, Part.from_columns, columns[:-1], TABLE, 1)
 
 
+# Restart
+
+def test_restart():
+    mesh = vejgodat.brick(3, 2, 2)
+    table = vejgodat.table_from_leaves(3, [1] * 12)
+    padded = vejgodat.pad_table(table, 5)
+    assert [vejgodat.table_range(padded, p) for p in range(5)] == [vejgodat.table_range(table, p) for p in range(3)] + [range(12, 12)] * 2
+    assert np.array_equal(vejgodat.pad_table(padded, 3), table)
+    refused(vejgodat.OCCUPIED, vejgodat.pad_table, table, 2)
+    refused(vejgodat.RANKS, vejgodat.pad_table, table, 0)
+    assert np.array_equal(vejgodat.empty_part(padded, 4, 3).bytes, vejgodat.cut(mesh, padded, 4).bytes)
+    refused(vejgodat.OCCUPIED, vejgodat.empty_part, table, 1, 3)
+    part = vejgodat.cut(mesh, table, 1)
+    assert np.array_equal(part.relabel(padded, 1).bytes, vejgodat.cut(mesh, padded, 1).bytes)
+    assert np.array_equal(part.relabel(padded, 1).relabel(table, 1).bytes, part.bytes)
+    refused(vejgodat.RANGE, part.relabel, padded, 2)
+
+
 # Messages and areas
 
 def random_mesh(turn, K):

@@ -24,9 +24,9 @@ Progress = namedtuple("Progress", "heard due")
 Message = namedtuple("Message", "epoch dimension K P sender receiver trees ghosts")
 
 __all__ = """Refused Fault WrongField Part Area Message Neighbour Leaves Progress CORE TREE MOVE version check_table table_fault table_range
-write_table table_from_leaves table_from_weights table_from_blocks sender_of trees_sent send_set receive_set plan corners
-new_mesh link mesh_trees mesh_boxes check_mesh mesh_fault mesh_header brick import_triangle cut check_part part_fault part_header
-check_message read_message build_message build_all count_leaves leaf_counts""".split()
+write_table table_from_leaves table_from_weights table_from_blocks pad_table sender_of trees_sent send_set receive_set plan corners
+new_mesh link mesh_trees mesh_boxes check_mesh mesh_fault mesh_header brick import_triangle cut empty_part check_part part_fault
+part_header check_message read_message build_message build_all count_leaves leaf_counts""".split()
 
 _constants = {name[len("VEJGODAT_"):]: getattr(lib, name) for name in dir(lib) if name.startswith("VEJGODAT_")}
 globals().update(_constants)
@@ -88,6 +88,11 @@ def table_from_weights(weights, leaves):
 def table_from_blocks(ranks, leaves, sums):
     """table_from_leaves, with a sum (uint64) for each block of BLOCK_TREES trees, which are compared."""
     return _written_table("table_from_blocks", ranks, ranks, given("leaves", leaves, NUMBER), given("sums", sums, SUM))
+
+
+def pad_table(table, ranks):
+    """The table of more ranks, or of fewer, in which the ranks of only one of the two have no trees."""
+    return _written_table("pad_table", ranks, _table(table), ranks)
 
 
 # Who sends
@@ -292,6 +297,11 @@ class Part:
         columns, table = given("columns", columns, BYTE), _table(table)
         return cls._of(written("columns_to_part", len(columns), columns, table, rank), table, rank)
 
+    def relabel(self, table, rank):
+        """The same part under another table and rank that have the same trees."""
+        table = _table(table)
+        return Part._of(written("relabel_part", len(self._data), self._data, self.table, self.rank, table, rank), table, rank)
+
 
 def _fixed(view):
     view = view[:]
@@ -303,6 +313,12 @@ def cut(mesh, table, rank):
     """The part of a rank, cut out of the whole mesh."""
     mesh, table = given("mesh", mesh, BYTE), _table(table)
     return Part._of(written("cut_part", ask("part_length", mesh, table, rank).length, mesh, table, rank), table, rank)
+
+
+def empty_part(table, rank, dimension):
+    """The part of a rank without trees."""
+    table = _table(table)
+    return Part._of(written("empty_part", 32, table, rank, dimension), table, rank)
 
 
 def check_part(data, table, rank):

@@ -25,4 +25,5 @@ pub mod Regions
 pub mod AllMessages
 pub mod RegionChecks
 pub mod RegionsFree
+pub mod Restart
 pub mod TreeData

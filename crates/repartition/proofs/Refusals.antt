@@ -41,6 +41,7 @@ use Rattle.headers.proofs.Theorems.{wrong-refuses}
 use Rattle.regions.specs.Calls.{regionCountsOf}
 use Rattle.probes.specs.Calls.{treesNear}
 use Rattle.columns.specs.Calls.{partToColumns, columnsToPart}
+use Rattle.restart.specs.Calls.{padTable, emptyPartOf, relabelPart}
 use Rattle.brick.specs.Calls.{brickLengthOf, writeBrickOf}
 use Rattle.pattern.specs.Sets.{sendsTo}
 use lib.IntN.{pos}
@@ -112,7 +113,7 @@ refused-deliver area m declined =
     (λ e. rw e)
 
 pub refused-unchanged : RefusedUnchanged
-unfolding writeTable tableFromLeaves tableFromWeights tableFromBlocks planAnswer planOutputAnswer leafCounts importTriangle treesNear partToColumns columnsToPart regionCountsOf writeBrickOf cutPartOf buildMessageOf openAreaOf closeOf sendSetOf receiveSetOf
+unfolding writeTable tableFromLeaves tableFromWeights tableFromBlocks planAnswer planOutputAnswer leafCounts importTriangle treesNear partToColumns columnsToPart padTable emptyPartOf relabelPart regionCountsOf writeBrickOf cutPartOf buildMessageOf openAreaOf closeOf sendSetOf receiveSetOf
 refused-unchanged =
     record {
       write-table = λ P first count out. refused-writes _ _ out;
@@ -137,6 +138,9 @@ refused-unchanged =
       trees-near = λ part table rank probe out. refused-counts _ _ _ out;
       part-to-columns = λ part table rank out. refused-writes _ _ out;
       columns-to-part = λ file table rank out. refused-writes _ _ out;
+      pad-table = λ table n out. refused-writes _ _ out;
+      empty-part = λ table rank dimension out. refused-writes _ _ out;
+      relabel-part = λ part table rank other q out. refused-writes _ _ out;
     }
 
 -- ---- what a number means

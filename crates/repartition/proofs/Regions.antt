@@ -121,7 +121,8 @@ module _ (run : Run) (out : List ℕ) where
         sym (last-is (delivery 0) (answersOf run (opened run b .1) cs) (closing (closeAfter run b cs out)))
         ∙ (ap (lastOf (delivery 0)) e ∙ last-is (delivery 0) (dueAll run nobody cs) (due run (heardBy run cs) (close out)))
 
-    close-is : closeAfter run b cs out
+    -- a close after the list is as the calls say
+    pub close-is : closeAfter run b cs out
         ≡ writeAnswer (cond (allDue run (heardBy run cs)) (cond (leb (length (newPart run)) (length out)) 0 22) 20) (newPart run) out
     unfolding due closed
     close-is = ap (closed (closeAfter run b cs out)) close-due

@@ -12,4 +12,5 @@ pub mod Refusals
 pub mod Lengths
 pub mod Examples
 pub mod Regions
+pub mod Restart
 pub mod TreeData

@@ -17,6 +17,7 @@ use Rattle.regions.specs.Calls.{regionCountsOf}
 use Rattle.probes.specs.declared.Probe.{Probe}
 use Rattle.probes.specs.Calls.{treesNear}
 use Rattle.columns.specs.Calls.{partToColumns, columnsToPart}
+use Rattle.restart.specs.Calls.{padTable, emptyPartOf, relabelPart}
 use Rattle.brick.specs.Calls.{brickLengthOf, writeBrickOf}
 use Rattle.faults.specs.declared.answer.Fault.{Fault}
 use Rattle.faults.specs.Calls.{meshFaultOf}
@@ -78,6 +79,9 @@ pub record RefusedUnchanged : Type 0 where
   pub trees-near : (part table : List ℕ) (rank : ℕ) (probe : Probe) (out : List ℕ) → (treesNear part table rank probe out .0 .refusal ≡ 0 → ⊥) → (treesNear part table rank probe out .0 .count ≡ 0) × (treesNear part table rank probe out .1 ≡ out)
   pub part-to-columns : (part table : List ℕ) (rank : ℕ) (out : List ℕ) → Unchanged (partToColumns part table rank out) out
   pub columns-to-part : (file table : List ℕ) (rank : ℕ) (out : List ℕ) → Unchanged (columnsToPart file table rank out) out
+  pub pad-table : (table : List ℕ) (n : ℕ) (out : List ℕ) → Unchanged (padTable table n out) out
+  pub empty-part : (table : List ℕ) (rank dimension : ℕ) (out : List ℕ) → Unchanged (emptyPartOf table rank dimension out) out
+  pub relabel-part : (part table : List ℕ) (rank : ℕ) (other : List ℕ) (q : ℕ) (out : List ℕ) → Unchanged (relabelPart part table rank other q out) out
 
 -- what is refused has zeros in its other fields: a length, a range, a fault, a wrong field of a header, what stands across a face
 abbrev pub LengthZero : Length → Type 0

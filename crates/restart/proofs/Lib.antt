@@ -7,3 +7,4 @@ pub mod Writing
 pub mod Padding
 pub mod Empty
 pub mod Relabelling
+pub mod Accepted

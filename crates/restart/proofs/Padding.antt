@@ -8,7 +8,7 @@ use mathlib.Core.List.{List, [], _++_}
 use lib.Dec.{leb, ltb, eqb}
 use lib.ListN.{length, drop, length-drop}
 use lib.Seq.{take-all, take-append-le, drop-append-le, drop-at}
-use borrow.Author.Tests.{ltb-true, leb-true, eqb-true, le-ltb, le-leb, eq-eqb}
+use borrow.Author.Tests.{lt-ltb, ltb-true, leb-true, eqb-true, le-ltb, le-leb, eq-eqb}
 use Rattle.encoding.specs.Below.{allBelow}
 use Rattle.encoding.specs.Numbers.{leBytes, leAt, u64At}
 use Rattle.encoding.specs.Pieces.{piece, Bytes}
@@ -23,7 +23,7 @@ use Rattle.offsets.proofs.OnePass.{valid-one-pass}
 use Rattle.offsets.proofs.Tables.{small-plain, plain-magnitude, plain-of, end-next, size, ranks-low, ranks-high, trees-high, first-lt-end, count-add, plain-first}
 use Rattle.restart.specs.Restart.{paddedEntry, paddedEntries, paddedTable, inOrEmpty, leftOutEmpty}
 use Rattle.restart.specs.Calls.{padChecks}
-use Rattle.restart.specs.Theorems.{Padded, PadsTables}
+use Rattle.restart.specs.Theorems.{Padded, PadsTables, PadsUp}
 use Rattle.restart.proofs.Checks.{PadKnown, pad-known}
 use Rattle.restart.proofs.Writing.{entries-length, padded-length}
 
@@ -283,3 +283,9 @@ module _ (t : List ℕ) (n : ℕ) (bytes : Bytes t) (known : PadKnown t n) where
 
 pub pads-tables : PadsTables
 pads-tables table n bytes e = padded table n bytes (pad-known table n e)
+
+pub pads-up : PadsUp
+unfolding padChecks firstFailed leftOutEmpty inOrEmpty
+pads-up table n a b c h =
+    let none : allBelow (ranks table) (inOrEmpty table n) ≡ true = all-intro (ranks table) (inOrEmpty table n) (λ p l. rw (lt-ltb p n (omega arith))) in
+    rw (a, b, c, none)

@@ -5,6 +5,7 @@ use mathlib.Core.Bool.{true}
 use mathlib.Core.List.{List}
 use Rattle.encoding.specs.Pieces.{Bytes}
 use Rattle.encoding.specs.Refusal.{firstFailed}
+use Rattle.offsets.specs.Limits.{rankCountOk}
 use Rattle.offsets.specs.Table.{ranks, ranksOk, trees, firstTree, endTree, treeCount, valid}
 use Rattle.mesh.specs.Mesh.{meshDimension, meshTrees}
 use Rattle.part.specs.Cut.{cutPart}
@@ -32,6 +33,10 @@ pub record Padded (table : List ℕ) (n : ℕ) : Type 0 where
 -- wherever no check fails
 abbrev pub PadsTables : Type 0
 PadsTables = (table : List ℕ) (n : ℕ) → Bytes table → firstFailed (padChecks table n) ≡ 0 → Padded table n
+
+-- and none fails where a valid table gets as many ranks or more
+abbrev pub PadsUp : Type 0
+PadsUp = (table : List ℕ) (n : ℕ) → ranksOk table ≡ true → valid table ≡ true → rankCountOk n ≡ true → ranks table ≤ n → firstFailed (padChecks table n) ≡ 0
 
 -- the part of a rank without trees is sound, and what is cut out of every mesh of that K and dimension
 pub record EmptyIs (table : List ℕ) (rank dimension : ℕ) : Type 0 where

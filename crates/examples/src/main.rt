@@ -321,6 +321,17 @@ fn table_call(op: u64, a: &[u8], b: &[u8], z: u32, out: &mut [u8]) -> Length {
     offsets_write::write_table(z, &xs[..m], &ys[..n], out)
 }
 
+// A table with other ranks, a part without trees, or a part under another table and rank.
+fn restart_call(op: u64, a: &[u8], b: &[u8], c: &[u8], x: u32, z: u32, out: &mut [u8]) -> Length {
+    if op == 57 {
+        return restart::pad_table(a, z, out);
+    }
+    if op == 58 {
+        return restart::empty_part(a, x, z, out);
+    }
+    restart::relabel_part(a, b, x, c, z, out)
+}
+
 // Calls that write.
 fn make(op: u64, a: &[u8], b: &[u8], c: &[u8], x: u32, y: u32, z: u32, out: &mut [u8]) -> Length {
     if op < 52 {
@@ -342,6 +353,9 @@ fn make(op: u64, a: &[u8], b: &[u8], c: &[u8], x: u32, y: u32, z: u32, out: &mut
             refusal,
             length: a.len() as u64,
         };
+    }
+    if 57 <= op {
+        return restart_call(op, a, b, c, x, z, out);
     }
     close::close_area(a, out)
 }

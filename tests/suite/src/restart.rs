@@ -77,7 +77,8 @@ fn empty(table: &[u8], rank: u32, dimension: u32, room: usize) -> Answer<Vec<u8>
 type Seat<'a> = (&'a [u8], u32);
 
 fn relabelled(part: &[u8], (table, rank): Seat, (other, other_rank): Seat, room: usize) -> Answer<Vec<u8>> {
-    let checks: [fn(&[u8]) -> Option<u32>; 2] = [|table| model::entries(table).err(), |table| model::table(table).err()];
+    let checks: [fn(&[u8]) -> Option<u32>; 2] =
+        [|table| model::entries(table).err(), |table| model::table(table).err()];
     for check in checks {
         if let Some(refusal) = check(table).or(check(other)) {
             return Err(refusal);
@@ -120,11 +121,11 @@ impl Calls {
         let (part_at, table_at) = (self.object.put(part, a), self.old.put(table, b));
         let (other_at, out) = (self.new.put(other, c), self.out.put(before, d));
         let (n, m, k) = (part.len(), table.len(), other.len());
-        let got = unsafe {
-            vejgodat_relabel_part(part_at, n, table_at, m, rank, other_at, k, other_rank, out, before.len())
-        };
+        let got =
+            unsafe { vejgodat_relabel_part(part_at, n, table_at, m, rank, other_at, k, other_rank, out, before.len()) };
         assert!(self.object.bytes() == part && self.old.bytes() == table && self.new.bytes() == other, "input changed");
-        let said = || format!("relabel_part {rank} of {} to {other_rank} of {}: {}", show(table), show(other), words(part));
+        let said =
+            || format!("relabel_part {rank} of {} to {other_rank} of {}: {}", show(table), show(other), words(part));
         self.compare("relabel_part", got, &answer, before, said)
     }
 
@@ -151,13 +152,18 @@ fn by_hand(run: &mut Run) {
     for (ranks, entries) in [(2, &[0, 1, 3][..]), (3, &[0, 1, 3, 3]), (5, &[0, 1, 3, 3, 3, 3])] {
         let (got, table) = run.calls.pad_table(&case.old, ranks, &[9; 60]);
         assert_eq!((got.refusal, got.length as usize), (0, 8 * entries.len()));
-        assert!(table[..8 * entries.len()] == bytes_of(entries) && table[8 * entries.len()..].iter().all(|&byte| byte == 9));
+        assert!(
+            table[..8 * entries.len()] == bytes_of(entries) && table[8 * entries.len()..].iter().all(|&byte| byte == 9)
+        );
     }
     assert_eq!(run.calls.pad_table(&case.old, 1, &[9; 60]).0.refusal, 64);
     // O[2] of {0,3,-3,3} is K, and rank 2 still has a tree
     assert_eq!(run.calls.pad_table(&bytes_of(&[0, 3, -3, 3]), 1, &[9; 60]).0.refusal, 64);
     let (_, part) = run.calls.empty_part(&case.old, 2, 2, &[9; 32]);
-    assert_eq!(part, [[2, 0, 0, 0], [3, 0, 0, 0], [3, 0, 0, 0], [2, 0, 0, 0], [3, 0, 0, 0], [0; 4], [0; 4], [0; 4]].concat());
+    assert_eq!(
+        part,
+        [[2, 0, 0, 0], [3, 0, 0, 0], [3, 0, 0, 0], [2, 0, 0, 0], [3, 0, 0, 0], [0; 4], [0; 4], [0; 4]].concat()
+    );
     assert_eq!(run.calls.empty_part(&case.old, 1, 2, &[9; 32]).0.refusal, 64);
     let part = case.old_part(1);
     let other = bytes_of(&[0, 0, 0, 1, 3]);
@@ -279,7 +285,10 @@ fn each_byte(run: &mut Run) {
         }
     }
     for end in 0..part.len() {
-        assert_eq!(run.calls.relabel_part(&part[..end], (&case.old, 1), (&other, 1), &vec![5; part.len()]).0.refusal, 8);
+        assert_eq!(
+            run.calls.relabel_part(&part[..end], (&case.old, 1), (&other, 1), &vec![5; part.len()]).0.refusal,
+            8
+        );
     }
     for room in 0..part.len() + 3 {
         let refusal = if room < part.len() { 22 } else { 0 };
@@ -316,7 +325,8 @@ fn refusals(run: &mut Run) {
                         let tables = [fails, other_fails];
                         let lengths = if tables.contains(&2) { 2 } else { first(&tables) };
                         let far = if rank > 4 || other_rank > 4 { 5 } else { 0 };
-                        let (got, _) = run.calls.relabel_part(given, (&table, rank), (&other, other_rank), &vec![3; room]);
+                        let (got, _) =
+                            run.calls.relabel_part(given, (&table, rank), (&other, other_rank), &vec![3; room]);
                         // what fails before the part is looked at
                         if lengths != 0 || far != 0 {
                             assert_eq!(got.refusal, first(&[lengths, far]));
@@ -380,10 +390,6 @@ fn moved(run: &mut Run) {
 fn seen_refusals(run: &mut Run) {
     expect_seen(
         run,
-        &[
-            ("pad_table", &[2, 3, 64, 22]),
-            ("empty_part", &[2, 3, 5, 64, 22]),
-            ("relabel_part", &[2, 3, 5, 8, 65, 22]),
-        ],
+        &[("pad_table", &[2, 3, 64, 22]), ("empty_part", &[2, 3, 5, 64, 22]), ("relabel_part", &[2, 3, 5, 8, 65, 22])],
     );
 }

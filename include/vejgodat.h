@@ -342,6 +342,17 @@
  *    1.75 MiB whatever the file is; \ref VEJGODAT_IMPORT_STACK_BYTES are enough
  *    for them. No call can see that there is too little stack: it breaks the
  *    program.
+ *  - A float that is given to a probe is no signalling NaN: the machine takes
+ *    such a one for an invalid operation, which raises its flag, or traps where
+ *    the caller enabled that. A quiet NaN is refused with 31. Of the floats in
+ *    tree data nothing is asked: a box with a NaN, of either kind, is refused
+ *    with 32 before any float is compared. So no call raises a flag of
+ *    `<fenv.h>` or traps, whatever comes from other ranks.
+ *  - Denormal floats are compared as they are. Where the thread has
+ *    denormals-are-zero set, as `-ffast-math` does in a program that is linked
+ *    with it, the machine takes a denormal for 0 where a probe is compared with
+ *    a box, so trees within a denormal of the probe may be listed too. The
+ *    checks 31 and 32 don't change, since they compare bits.
  *  - Tree data are the caller's and may be anything, so no check can see that a
  *    byte of them has changed, in a file, in memory or on the way to another
  *    rank. Where that matters, keep a checksum in them.
@@ -2841,8 +2852,8 @@ vejgodat_length     vejgodat_table_from_blocks (uint32_t ranks,
  * (32) if the box of a tree of the part, met or not, has a NaN or low above high
  * on an axis; \ref VEJGODAT_BUFFER (22) if \a out_len is below the number of
  * trees met; n entries are always enough.
- * Cost: that of \ref vejgodat_check_part, one pass over the trees, and another
- * up to the last tree met.
+ * Cost: that of \ref vejgodat_check_part, two passes over the trees, one on the
+ * bits of the boxes and one that counts, and another up to the last tree met.
  *
  * \param [in] part       Any bytes. Not changed.
  * \param [in] part_len   The number of its bytes.

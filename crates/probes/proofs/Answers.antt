@@ -19,10 +19,9 @@ use Rattle.part.specs.Checks.{rankChecks}
 use Rattle.part_check.specs.Calls.{partRefusal}
 use Rattle.part_theorems.proofs.SoundParts.{part-length}
 use Rattle.probes.specs.declared.Probe.{Probe}
-use Rattle.probes.specs.declared.list.Seen.{Seen}
 use Rattle.probes.specs.Probes.{boxesOk, probeOk, meets, treesMet}
 use Rattle.probes.specs.Calls.{nearRefusal, treesNear}
-use Rattle.probes.specs.Means.{Surveyable, surveyOf, Listable}
+use Rattle.probes.specs.Means.{HasTrees, Comparable, Listable}
 
 -- ---- the checks of a part, with more behind them
 
@@ -56,20 +55,6 @@ module _ (part table : List ℕ) (rank : ℕ) where
   part-then probe out e =
       four-pass (ranksOk table) (valid table) (ltb rank (ranks table)) (partSound part table rank) (firstFailed (near-checks probe out)) e
 
--- ---- what the first pass saw
-
-seen-boxes : (b : Bool) (n : ℕ) {s : Seen} → s ≡ cond b (record { sound = true; met = n }) (record { sound = false; met = 0 }) → (s .sound ≡ b) × (b ≡ true → s .met ≡ n)
-seen-boxes true n e = (ap (λ (s : Seen). s .sound) e, λ t. ap (λ (s : Seen). s .met) e)
-seen-boxes false n e = (ap (λ (s : Seen). s .sound) e, λ t. clash t refl)
-
-pub boxes-seen : (part : List ℕ) (probe : Probe) {s : Seen} → s ≡ surveyOf part probe → s .sound ≡ boxesOk part
-unfolding surveyOf
-boxes-seen part probe e = seen-boxes (boxesOk part) (countBelow (partCount part) (meets probe part)) e .0
-
-pub trees-seen : (part : List ℕ) (probe : Probe) {s : Seen} → s ≡ surveyOf part probe → s .sound ≡ true → s .met ≡ countBelow (partCount part) (meets probe part)
-unfolding surveyOf
-trees-seen part probe e t = seen-boxes (boxesOk part) (countBelow (partCount part) (meets probe part)) e .1 (sym (boxes-seen part probe e) ∙ t)
-
 met-length : (part : List ℕ) (probe : Probe) → length (treesMet part probe) ≡ countBelow (partCount part) (meets probe part)
 unfolding treesMet
 met-length part probe = kept-length (partCount part) (meets probe part)
@@ -97,36 +82,34 @@ module _ (part table : List ℕ) (rank : ℕ) (probe : Probe) (out : List ℕ) w
       near-probe h q = refused-is (sym (refusal-is ∙ rw (← is, h))) (λ e. omega arith) q
 
       module _ (good : p ≡ true) where
-        pub surveyable : Surveyable part probe
-        surveyable = record { fits = omega (arith, part-length part table rank part-sound); probe-sound = sym is ∙ good }
+        pub has-trees : HasTrees part
+        has-trees = record { fits = omega (arith, part-length part table rank part-sound) }
 
-        module _ {s : Seen} (seen : s ≡ surveyOf part probe) where
-          pub near-box : {a : Count} → s .sound ≡ false → a ≡ countRefused 32 → (a, out) ≡ treesNear part table rank probe out
-          near-box h q = refused-is (sym (refusal-is ∙ rw (← is, good, ← boxes-seen part probe seen, h))) (λ e. omega arith) q
+        module _ {k : Bool} (boxes : k ≡ boxesOk part) where
+          pub near-box : {a : Count} → k ≡ false → a ≡ countRefused 32 → (a, out) ≡ treesNear part table rank probe out
+          near-box h q = refused-is (sym (refusal-is ∙ rw (← is, good, ← boxes, h))) (λ e. omega arith) q
 
-          module _ (sound : s .sound ≡ true) where
-            count-is : length (treesMet part probe) ≡ s .met
-            count-is = met-length part probe ∙ sym (trees-seen part probe seen sound)
+          module _ (sound : k ≡ true) where
+            pub comparable : Comparable part probe
+            comparable = record { trees = has-trees; boxes = sym boxes ∙ sound; probe-sound = sym is ∙ good }
 
-            pub near-short : {a : Count} → length out < s .met → a ≡ countRefused 22 → (a, out) ≡ treesNear part table rank probe out
-            near-short h q =
-                refused-is
-                (sym (refusal-is ∙ rw (← is, good, ← boxes-seen part probe seen, sound, count-is, lt-leb (s .met) (length out) h)))
-                (λ e. omega arith) q
+            module _ {met : ℕ} (counted : met ≡ countBelow (partCount part) (meets probe part)) where
+              count-is : length (treesMet part probe) ≡ met
+              count-is = met-length part probe ∙ sym counted
 
-            module _ (room : s .met ≤ length out) where
-              pub listable : Listable part probe (s .met) out
-              listable =
-                  record {
-                    surveyed = surveyable;
-                    boxes = sym (boxes-seen part probe seen) ∙ sound;
-                    counted = trees-seen part probe seen sound;
-                    room = room;
-                  }
+              pub near-short : {a : Count} → length out < met → a ≡ countRefused 22 → (a, out) ≡ treesNear part table rank probe out
+              near-short h q =
+                  refused-is
+                  (sym (refusal-is ∙ rw (← is, good, ← boxes, sound, count-is, lt-leb met (length out) h)))
+                  (λ e. omega arith) q
 
-              accepted : nearRefusal part table rank probe out ≡ 0
-              accepted = refusal-is ∙ rw (← is, good, ← boxes-seen part probe seen, sound, count-is, le-leb (s .met) (length out) room)
+              module _ (room : met ≤ length out) where
+                pub listable : Listable part probe met out
+                listable = record { comparable = comparable; counted = counted; room = room }
 
-              pub near-listed : {last : List ℕ} → last ≡ splice out 0 (treesMet part probe) → (record { refusal = 0; count = s .met }, last) ≡ treesNear part table rank probe out
-              unfolding treesNear countAnswer written
-              near-listed e = rw (accepted, count-is, e)
+                accepted : nearRefusal part table rank probe out ≡ 0
+                accepted = refusal-is ∙ rw (← is, good, ← boxes, sound, count-is, le-leb met (length out) room)
+
+                pub near-listed : {last : List ℕ} → last ≡ splice out 0 (treesMet part probe) → (record { refusal = 0; count = met }, last) ≡ treesNear part table rank probe out
+                unfolding treesNear countAnswer written
+                near-listed e = rw (accepted, count-is, e)

@@ -4,14 +4,20 @@ use mathlib.Core.Path.{_≡_, sym, ap, _∙_}
 use mathlib.Core.Bool.{Bool, true, false, not, _&&_}
 use mathlib.Core.List.{List}
 use lib.Dec.{T, ltb}
-use lib.Ieee.{Float, binary32, isNan, le, lt, nanBits, ofBits}
-use borrow.Author.Tests.{ltb-true}
+use lib.Ieee.{Float, binary32, fits, isNan, le, lt, nanBits, ofBits, toBits}
+use borrow.Author.Tests.{ltb-true, not-true}
 use Rattle.encoding.proofs.Below.{tests, either, and-fst, and-snd, all-at}
 use Rattle.probes.specs.declared.Probe.{Probe}
 use Rattle.probes.specs.declared.Probe.the-variants.{Point, HalfSpace, Slab}
 use Rattle.probes.specs.Probes.{boxNumber, low, high, axisOk, boxOk, probeOk, meets}
-use Rattle.probes.specs.Means.{boxBits}
+use Rattle.probes.specs.Means.{boxBits, orderOf}
 use Rattle.probes.proofs.Floats.{bits-float}
+use Rattle.probes.proofs.Order.{order-lt, order-floats}
+
+-- where both are numbers, low isn't above high in the order of the bits
+corners-sound : (a b : ℕ) → (not (isNan (ofBits binary32 a)) && not (isNan (ofBits binary32 b)) && not (ltb (orderOf b) (orderOf a)))
+    ≡ (not (isNan (ofBits binary32 a)) && not (isNan (ofBits binary32 b)) && not (lt (ofBits binary32 b) (ofBits binary32 a)))
+corners-sound a b = either (isNan (ofBits binary32 a)) (λ e. rw e) (λ e. either (isNan (ofBits binary32 b)) (λ g. rw (e, g)) (λ g. rw (order-lt b a g e)))
 
 module _ (part : List ℕ) (i : ℕ) where
   low-number : (axis : ℕ) → axisOk part i axis ≡ true → not (isNan (boxNumber part i axis)) ≡ true
@@ -42,24 +48,17 @@ module _ (part : List ℕ) (i : ℕ) where
   unfolding boxNumber
   box-read k e = ap (ofBits binary32) e
 
-  -- a test of both numbers of an axis
-  module _ (axis : ℕ) {a b : ℕ} {p q : Bool} (is-a : a ≡ boxBits part i axis) (is-b : b ≡ boxBits part i (3 + axis))
-      (is-p : p ≡ not (isNan (ofBits binary32 a))) (is-q : q ≡ not (isNan (ofBits binary32 b))) where
-    pub axis-nan : (p && q) ≡ false → false ≡ axisOk part i axis
-    unfolding axisOk boxNumber
-    axis-nan e = rw (← is-a, ← is-b, ← is-p, ← is-q, e)
-
-    pub axis-numbers : (p && q) ≡ true → not (lt (ofBits binary32 b) (ofBits binary32 a)) ≡ axisOk part i axis
-    unfolding axisOk boxNumber
-    axis-numbers e = rw (← is-a, ← is-b, ← is-p, ← is-q, e)
-
-    pub axis-low : (p && q) ≡ true → T (not (nanBits binary32 a))
-    axis-low e = bits-float a (sym is-p ∙ and-fst p q e)
-
-    pub axis-high : (p && q) ≡ true → T (not (nanBits binary32 b))
-    axis-high e = bits-float b (sym is-q ∙ and-snd p q e)
+  -- an axis, by its bits alone
+  pub axis-bits : (axis : ℕ) {a b : ℕ} → a ≡ boxBits part i axis → b ≡ boxBits part i (3 + axis) → {p q : Bool} → p ≡ not (isNan (ofBits binary32 a)) → q ≡ not (isNan (ofBits binary32 b))
+      → {m n : ℕ} → m ≡ orderOf b → n ≡ orderOf a → (p && q && not (ltb m n)) ≡ axisOk part i axis
+  unfolding axisOk boxNumber
+  axis-bits axis {a} {b} is-a is-b is-p is-q is-m is-n = rw (← is-a, ← is-b, is-p, is-q, is-m, is-n) (corners-sound a b)
 
 -- ---- each case of a probe
+
+-- a number has bits
+pub number-bits : (x : Float) → isNan x ≡ false → T (not (isNan x))
+number-bits x e = rw e tt
 
 module _ {probe : Probe} {x y z : Float} (e : probe ≡ Point x y z) where
   pub point-ok : {a b d : Bool} → a ≡ not (isNan x) → b ≡ not (isNan y) → d ≡ not (isNan z) → (a && b && d) ≡ probeOk probe
@@ -85,9 +84,22 @@ module _ {probe : Probe} {axis : ℕ} {limit : Float} (e : probe ≡ HalfSpace a
   half-meets part i p = rw (e, p)
 
 module _ {probe : Probe} {axis : ℕ} {lower upper : Float} (e : probe ≡ Slab axis lower upper) where
-  pub slab-ok : {a b : Bool} → a ≡ not (isNan lower) → b ≡ not (isNan upper) → (ltb axis 3 && a && b && not (lt upper lower)) ≡ probeOk probe
-  unfolding probeOk
-  slab-ok p q = rw (e, p, q)
+  module _ {a b : Bool} (is-a : a ≡ not (isNan lower)) (is-b : b ≡ not (isNan upper)) where
+    pub slab-not : (ltb axis 3 && a && b) ≡ false → false ≡ probeOk probe
+    unfolding probeOk
+    slab-not h = rw (e, ← is-a, ← is-b, h)
+
+    module _ (h : (ltb axis 3 && a && b) ≡ true) where
+      pub lower-number : isNan lower ≡ false
+      lower-number = not-true _ (sym is-a ∙ and-snd (ltb axis 3) a (and-fst (ltb axis 3 && a) b h))
+
+      pub upper-number : isNan upper ≡ false
+      upper-number = not-true _ (sym is-b ∙ and-snd (ltb axis 3 && a) b h)
+
+      pub slab-ok : T (fits binary32 lower) → T (fits binary32 upper) → {m n : ℕ} → m ≡ orderOf (toBits binary32 upper) → n ≡ orderOf (toBits binary32 lower)
+          → not (ltb m n) ≡ probeOk probe
+      unfolding probeOk
+      slab-ok p q is-m is-n = rw (e, ← is-a, ← is-b, h, is-m, is-n, order-floats upper lower q p upper-number lower-number)
 
   pub slab-axis : probeOk probe ≡ true → axis < 3
   unfolding probeOk

@@ -1,4 +1,4 @@
--- Laws of the two passes over the trees.
+-- Laws of the three passes over the trees.
 use Prim.Native.Nat.{ℕ, zero, suc, _+_, _≤_, _<_}
 use native.Mathlib.Omega.{arith}
 use mathlib.Core.Path.{_≡_, refl, sym, ap, _∙_}
@@ -8,65 +8,60 @@ use lib.Dec.{ltb}
 use lib.ListN.{length, set}
 use Rattle.encoding.specs.Below.{allBelow, countBelow, keptBelow}
 use Rattle.encoding.specs.Pieces.{Bytes, splice}
-use Rattle.encoding.proofs.Below.{tests, either, all-more, all-fails, all-at, count-le, count-mono, count-lt, kept-length}
+use Rattle.encoding.proofs.Below.{tests, either, all-fails, all-at, count-le, count-mono, count-lt, kept-length}
 use Rattle.encoding.proofs.Numbers.{at-bound}
 use Rattle.part.specs.Part.{partCount}
 use Rattle.pattern.proofs.Laws.{Writing, count-one, count-skip, write-start, write-length, write-more, write-skip}
 use Rattle.probes.specs.declared.Probe.{Probe}
 use Rattle.probes.specs.Probes.{boxOk, boxesOk, meets, treesMet}
-use Rattle.probes.specs.Means.{HasTree, HasBox, Surveyable, surveyOf, Listable}
+use Rattle.probes.specs.Means.{HasTree, HasBox, HasTrees, Comparable, Listable}
 
--- ---- the first pass
+-- ---- the pass over the boxes
 
--- the boxes below i are sound, and met of these trees are met
-pub record Surveying (part : List ℕ) (probe : Probe) (met i : ℕ) : Type 0 where
-  pub within : i ≤ partCount part
-  pub boxes : allBelow i (boxOk part) ≡ true
-  pub counted : met ≡ countBelow i (meets probe part)
-
-module _ (part : List ℕ) (probe : Probe) (ready : Surveyable part probe) where
+module _ (part : List ℕ) (ready : HasTrees part) where
   pub has-tree : (i : ℕ) → i < partCount part → HasTree part i
   has-tree i h = record { fits = omega (arith, ready .fits) }
 
-  pub survey-start : Surveying part probe 0 0
-  unfolding allBelow countBelow
-  survey-start = record { within = omega arith; boxes = refl; counted = refl }
+module _ (part : List ℕ) (i : ℕ) where
+  pub boxes-fail : i < partCount part → {ok : Bool} → ok ≡ boxOk part i → ok ≡ false → false ≡ boxesOk part
+  unfolding boxesOk
+  boxes-fail h is e = sym (all-fails (partCount part) (boxOk part) i h (sym is ∙ e))
 
-  pub survey-done : {met i : ℕ} → Surveying part probe met i → partCount part ≤ i → record { sound = true; met = met } ≡ surveyOf part probe
-  unfolding surveyOf boxesOk
-  survey-done {met} {i} s h =
-      let e : partCount part ≡ i = omega (arith, s .within) in
-      rw (e, s .boxes, ← s .counted)
+  pub boxes-pass : i ≤ partCount part → partCount part ≤ i → allBelow i (boxOk part) ≡ true → true ≡ boxesOk part
+  unfolding boxesOk
+  boxes-pass p q e = let n : partCount part ≡ i = omega arith in rw n (sym e)
 
-  module _ {met i : ℕ} (s : Surveying part probe met i) (more : i < partCount part) {ok : Bool} (is : ok ≡ boxOk part i) where
-    pub survey-fails : ok ≡ false → record { sound = false; met = 0 } ≡ surveyOf part probe
-    unfolding surveyOf boxesOk
-    survey-fails h = rw (all-fails (partCount part) (boxOk part) i more (sym is ∙ h))
+-- ---- the pass that counts
 
-    module _ (sound : ok ≡ true) where
-      pub has-box : HasBox part i
-      has-box = record { tree = has-tree i more; sound = sym is ∙ sound }
+-- met of the trees below i are met
+pub record Counting (part : List ℕ) (probe : Probe) (met i : ℕ) : Type 0 where
+  pub within : i ≤ partCount part
+  pub counted : met ≡ countBelow i (meets probe part)
 
-      pub survey-more : {here : Bool} → here ≡ meets probe part i → here ≡ true → Surveying part probe (met + 1) (i + 1)
-      survey-more e h =
-          record {
-            within = omega arith;
-            boxes = all-more i (boxOk part) (s .boxes) (sym is ∙ sound);
-            counted = count-one i met (meets probe part) (s .counted) (sym e ∙ h);
-          }
+module _ (part : List ℕ) (probe : Probe) where
+  pub has-box : Comparable part probe → (i : ℕ) → i < partCount part → HasBox part i
+  unfolding boxesOk
+  has-box ready i h = record { tree = has-tree part (ready .trees) i h; sound = all-at (partCount part) (boxOk part) (ready .boxes) i h }
 
-      pub survey-skip : {here : Bool} → here ≡ meets probe part i → here ≡ false → Surveying part probe met (i + 1)
-      survey-skip e h =
-          record {
-            within = omega arith;
-            boxes = all-more i (boxOk part) (s .boxes) (sym is ∙ sound);
-            counted = count-skip i met (meets probe part) (s .counted) (sym e ∙ h);
-          }
+  pub counting-start : Counting part probe 0 0
+  unfolding countBelow
+  counting-start = record { within = omega arith; counted = refl }
 
-  pub met-most : {met i : ℕ} → Surveying part probe met i → met ≤ i
-  met-most {met} {i} s = omega (arith, s .counted, count-le i (meets probe part))
+  module _ {met i : ℕ} (s : Counting part probe met i) where
+    pub counting-done : partCount part ≤ i → met ≡ countBelow (partCount part) (meets probe part)
+    counting-done h = let e : partCount part ≡ i = omega (arith, s .within) in rw e (s .counted)
 
--- ---- the second pass
+    pub met-most : met ≤ i
+    met-most = omega (arith, s .counted, count-le i (meets probe part))
+
+    module _ (more : i < partCount part) {here : Bool} (is : here ≡ meets probe part i) where
+      pub counting-more : here ≡ true → Counting part probe (met + 1) (i + 1)
+      counting-more h = record { within = omega arith; counted = count-one i met (meets probe part) (s .counted) (sym is ∙ h) }
+
+      pub counting-skip : here ≡ false → Counting part probe met (i + 1)
+      counting-skip h = record { within = omega arith; counted = count-skip i met (meets probe part) (s .counted) (sym is ∙ h) }
+
+-- ---- the pass that lists
 
 module _ (f : ℕ → Bool) where
   -- where none is left, the rest of the numbers adds nothing
@@ -95,10 +90,6 @@ module _ (f : ℕ → Bool) where
 module _ (part : List ℕ) (probe : Probe) (met : ℕ) (start : List ℕ) (ready : Listable part probe met start) where
   pub list-room : length (keptBelow (partCount part) (meets probe part)) ≤ length start
   list-room = omega (arith, ready .counted, ready .room, kept-length (partCount part) (meets probe part))
-
-  pub list-box : (i : ℕ) → i < partCount part → HasBox part i
-  unfolding boxesOk
-  list-box i h = record { tree = has-tree part probe (ready .surveyed) i h; sound = all-at (partCount part) (boxOk part) (ready .boxes) i h }
 
   pub list-start : Writing (meets probe part) (partCount part) start start 0 0
   list-start = write-start (meets probe part) (partCount part) start list-room

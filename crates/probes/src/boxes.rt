@@ -1,4 +1,4 @@
-// The box in a tree's data, and whether a probe meets it.
+// The box in a tree's data, and whether a probe meets it. Whether a box or a probe is sound is decided on bits, as integers: an ordered comparison of floats raises a flag at a NaN, or traps where the caller enabled that.
 use crate::Probe;
 use part::layout::tree_at;
 use records::index::LocalIndex;
@@ -7,13 +7,24 @@ ghost use mathlib.Core.Bool.{true, not};
 ghost use Prim.Native.Nat.{_<_};
 ghost use lib.Ieee.{binary32, isNan, ofBits};
 ghost use Rattle.probes.specs.Probes.{boxNumber, axisOk, boxOk, probeOk, meets as meetsBox};
-ghost use Rattle.probes.specs.Means.{boxBits, HasTree, HasBox};
+ghost use Rattle.probes.specs.Means.{boxBits, orderOf, HasTree, HasBox};
 
 // Whether the bits are those of a number and not of a NaN.
 fn bits_ok(bits: u32) -> bool
     ensures { λ r. ⌜ r ≡ not (isNan (ofBits binary32 bits)) ⌝ }
 {
     !(2139095040 < bits % 2147483648)
+}
+
+// The place of a number's bits in the order of the floats: both zeros have the middle one.
+fn order(bits: u32) -> u32
+    ensures { λ r. ⌜ r ≡ orderOf bits ⌝ }
+{
+    let size = bits % 2147483648;
+    if 2147483648 <= bits {
+        return 2147483648 - size;
+    }
+    2147483648 + size
 }
 
 // The bits of number k of the six of a tree's box.
@@ -39,10 +50,7 @@ fn axis_ok(part: &[u8], tree: LocalIndex, axis: u32) -> bool
 {
     let low = bits_of(part, tree, axis);
     let high = bits_of(part, tree, 3 + axis);
-    if !(bits_ok(low) & bits_ok(high)) {
-        return false;
-    }
-    !(f32::from_bits(high) < f32::from_bits(low))
+    bits_ok(low) & bits_ok(high) & !(order(high) < order(low))
 }
 
 pub fn box_ok(part: &[u8], tree: LocalIndex) -> bool
@@ -66,7 +74,10 @@ pub fn probe_ok(probe: Probe) -> bool
         Probe::Point(x, y, z) => float_ok(x) & float_ok(y) & float_ok(z),
         Probe::HalfSpace(axis, limit) => (axis < 3) & float_ok(limit),
         Probe::Slab(axis, lower, upper) => {
-            (axis < 3) & float_ok(lower) & float_ok(upper) & !(upper < lower)
+            if !((axis < 3) & float_ok(lower) & float_ok(upper)) {
+                return false;
+            }
+            !(order(f32::to_bits(upper)) < order(f32::to_bits(lower)))
         }
     }
 }

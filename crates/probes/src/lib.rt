@@ -25,11 +25,10 @@ pub fn trees_near(part: &[u8], table: &[u8], rank: u32, probe: Probe, out: &mut 
     if !boxes::probe_ok(probe) {
         return count_refused(31);
     }
-    let seen = list::survey(part, probe);
-    if !seen.sound {
+    if !list::boxes_ok(part) {
         return count_refused(32);
     }
-    let count = seen.met;
+    let count = list::count_met(part, probe);
     if out.len() < (count as usize) {
         return count_refused(22);
     }

@@ -1,4 +1,4 @@
-// The trees that a probe meets: counted while every box is checked, then listed.
+// The trees that a probe meets: a pass over the bits of all boxes, and only then two that compare floats, which count and list.
 use crate::Probe;
 use crate::boxes::box_ok;
 use crate::boxes::meets;
@@ -6,36 +6,43 @@ use part::layout::tree_count;
 use records::index::LocalIndex;
 ghost use mathlib.Core.Path.{_≡_};
 ghost use Rattle.encoding.specs.Pieces.{splice};
-ghost use Rattle.probes.specs.Probes.{treesMet};
-ghost use Rattle.probes.specs.Means.{surveyOf, Surveyable, Listable};
+ghost use Rattle.encoding.specs.Below.{countBelow};
+ghost use Rattle.part.specs.Part.{partCount};
+ghost use Rattle.probes.specs.Probes.{boxesOk, meets as meetsBox, treesMet};
+ghost use Rattle.probes.specs.Means.{HasTrees, Comparable, Listable};
 
-// Whether every box is sound, and then how many trees the probe meets.
-pub struct Seen {
-    pub sound: bool,
-    pub met: u32,
+// Whether every box is sound.
+pub fn boxes_ok(part: &[u8]) -> bool
+    requires { ⌜ HasTrees (now part) ⌝ }
+    ensures { λ r. ⌜ r ≡ boxesOk (now (part .entry)) ⌝ }
+{
+    let n = tree_count(part);
+    let mut i = 0;
+    while i < n {
+        if !box_ok(part, LocalIndex(i)) {
+            return false;
+        }
+        i += 1;
+    }
+    true
 }
 
-pub fn survey(part: &[u8], probe: Probe) -> Seen
-    requires { ⌜ Surveyable (now part) probe ⌝ }
-    ensures { λ r. ⌜ r ≡ surveyOf (now (part .entry)) probe ⌝ }
+// How many trees the probe meets.
+pub fn count_met(part: &[u8], probe: Probe) -> u32
+    requires { ⌜ Comparable (now part) probe ⌝ }
+    ensures { λ r. ⌜ r ≡ countBelow (partCount (now (part .entry))) (meetsBox probe (now (part .entry))) ⌝ }
 {
     let n = tree_count(part);
     let mut met = 0;
     let mut i = 0;
     while i < n {
         let tree = LocalIndex(i);
-        if !box_ok(part, tree) {
-            return Seen {
-                sound: false,
-                met: 0,
-            };
-        }
         i += 1;
         if meets(part, tree, probe) {
             met += 1;
         }
     }
-    Seen { sound: true, met }
+    met
 }
 
 // Write the trees met, of which there are `met`: behind the last one no tree is looked at.

@@ -1,4 +1,4 @@
-use Rattle.probes.proofs.Listing.{list-box, list-start, list-within, list-length, list-done, list-more, list-skip, trees-small}
+use Rattle.probes.proofs.Listing.{has-box, list-start, list-within, list-length, list-done, list-more, list-skip, trees-small}
 use Rattle.probes.specs.Probes.{meets}
 use Rattle.pattern.proofs.Laws.{Writing}
 use Rattle.part.specs.Part.{partCount}
@@ -19,60 +19,60 @@ loop-holds c = list-start _ _ _ _ (c .before .before .pre)
 
 add-i : tie.Need-add-i Inv-loop μ-loop
 add-i c =
-    let pre = c .before .before .before .before .pre in
-    let loop = c .before .loop in
-    let args = c .before .before .before .before .args in
-    let shared-slice-known = c .before .before .before .shared-slice-known in
-    omega (arith, list-within _ _ _ _ pre (loop .inv) (c .loop-test .taken), trees-small (args .part .now) (λ i. shared-slice-known .given i .fits))
+    let at-pre = c .before .before .before .before .pre in
+    let at-loop = c .before .loop in
+    let at-args = c .before .before .before .before .args in
+    let at-shared-slice-known = c .before .before .before .shared-slice-known in
+    let pre = at-pre in let loop = at-loop in let args = at-args in let shared-slice-known = at-shared-slice-known in omega (arith, list-within _ _ _ _ pre (loop .inv) (c .loop-test .taken), trees-small (args .part .now) (λ i. shared-slice-known .given i .fits))
 
 meets-requires : tie.Need-meets-requires Inv-loop μ-loop
 meets-requires c κs =
-    let pre = c .before .before .before .before .pre in
-    let loop = c .before .loop in
-    (list-box _ _ _ _ pre _ (list-within _ _ _ _ pre (loop .inv) (c .loop-test .taken)), pre .surveyed .probe-sound)
+    let at-pre = c .before .before .before .before .pre in
+    let at-loop = c .before .loop in
+    let pre = at-pre in let loop = at-loop in (has-box _ _ (pre .comparable) _ (list-within _ _ _ _ pre (loop .inv) (c .loop-test .taken)), pre .comparable .probe-sound)
 
 mul-out : tie.Need-mul-out Inv-loop μ-loop
 mul-out c = search needs
 
 slice-write-out : tie.Need-slice-write-out Inv-loop μ-loop
 slice-write-out c =
-    let pre = c .before .before .before .before .before .before .pre in
-    let loop-test = c .before .before .loop-test in
-    let loop = c .before .before .before .loop in
-    omega (arith, pre .room, loop-test .taken, list-length _ _ _ _ pre (loop .inv))
+    let at-pre = c .before .before .before .before .before .before .pre in
+    let at-loop-test = c .before .before .loop-test in
+    let at-loop = c .before .before .before .loop in
+    let pre = at-pre in let loop-test = at-loop-test in let loop = at-loop in omega (arith, pre .room, loop-test .taken, list-length _ _ _ _ pre (loop .inv))
 
 add-count : tie.Need-add-count Inv-loop μ-loop
 add-count c = search needs
 
 loop-less : tie.Need-loop-less Inv-loop μ-loop
 loop-less c =
-    let pre = c .before .before .before .before .before .before .pre in
-    let loop = c .before .before .before .loop in
-    let loop-test = c .before .before .loop-test in
-    omega (arith, list-within _ _ _ _ pre (loop .inv) (loop-test .taken))
+    let at-pre = c .before .before .before .before .before .before .pre in
+    let at-loop = c .before .before .before .loop in
+    let at-loop-test = c .before .before .loop-test in
+    let pre = at-pre in let loop = at-loop in let loop-test = at-loop-test in omega (arith, list-within _ _ _ _ pre (loop .inv) (loop-test .taken))
 
 loop-again : tie.Need-loop-again Inv-loop μ-loop
 loop-again c =
-    let pre = c .before .before .before .before .before .before .pre in
-    let loop = c .before .before .before .loop in
-    let loop-test = c .before .before .loop-test in
-    let meets = c .before .meets in
-    list-more _ _ _ _ pre (loop .inv) (loop-test .taken) (meets .ensures) (c .if1 .taken)
+    let at-pre = c .before .before .before .before .before .before .pre in
+    let at-loop = c .before .before .before .loop in
+    let at-loop-test = c .before .before .loop-test in
+    let at-meets = c .before .meets in
+    let pre = at-pre in let loop = at-loop in let loop-test = at-loop-test in let meets = at-meets in list-more _ _ _ _ pre (loop .inv) (loop-test .taken) (meets .ensures) (c .if1 .taken)
 
 loop-less-2 : tie.Need-loop-less-2 Inv-loop μ-loop
 loop-less-2 c =
-    let pre = c .before .before .before .before .before .before .pre in
-    let loop = c .before .before .before .loop in
-    let loop-test = c .before .before .loop-test in
-    omega (arith, list-within _ _ _ _ pre (loop .inv) (loop-test .taken))
+    let at-pre = c .before .before .before .before .before .before .pre in
+    let at-loop = c .before .before .before .loop in
+    let at-loop-test = c .before .before .loop-test in
+    let pre = at-pre in let loop = at-loop in let loop-test = at-loop-test in omega (arith, list-within _ _ _ _ pre (loop .inv) (loop-test .taken))
 
 loop-again-2 : tie.Need-loop-again-2 Inv-loop μ-loop
 loop-again-2 c =
-    let pre = c .before .before .before .before .before .before .pre in
-    let loop = c .before .before .before .loop in
-    let loop-test = c .before .before .loop-test in
-    let meets = c .before .meets in
-    list-skip _ _ _ _ pre (loop .inv) (loop-test .taken) (meets .ensures) (c .if1 .left)
+    let at-pre = c .before .before .before .before .before .before .pre in
+    let at-loop = c .before .before .before .loop in
+    let at-loop-test = c .before .before .loop-test in
+    let at-meets = c .before .meets in
+    let pre = at-pre in let loop = at-loop in let loop-test = at-loop-test in let meets = at-meets in list-skip _ _ _ _ pre (loop .inv) (loop-test .taken) (meets .ensures) (c .if1 .left)
 
 same-length : tie.Need-same-length Inv-loop μ-loop
 same-length c = list-length _ _ _ _ (c .before .before .before .before .pre) (c .before .loop .inv)

@@ -1,7 +1,6 @@
 /* How much stack each call takes: it runs on a painted stack of its own, and the deepest byte that it changed is looked
- * for. None may need more than VEJGODAT_STACK_BYTES, or VEJGODAT_IMPORT_STACK_BYTES where it reads an element file. The
- * mesh is a row of quadrilaterals in which each ghost is far away, of more than 65,536 trees, from where on the sets of
- * trees that a call makes are largest. */
+ * for. None may need more than the header says of its kind. The mesh is a row of quadrilaterals in which each ghost is far
+ * away, of more than 65,536 trees, from where on the sets of trees that a call makes are largest. */
 #define _POSIX_C_SOURCE 200809L
 #include <vejgodat.h>
 
@@ -204,6 +203,81 @@ TAKE_LENGTH (import_triangle,
              vejgodat_import_triangle (elements, sizeof elements - 1,
                                        triangle, sizeof triangle))
 
+TAKE (corners, vejgodat_corners (VEJGODAT_PYRAMID, 4) != 4)
+
+/* a refinement string as deep as there can be: of each refined element child `deep` is refined, in depth-first order */
+static uint8_t      string[1 + VEJGODAT_MAX_DEPTH * 8];
+
+static size_t
+make_string (uint32_t children, uint32_t deep)
+{
+  size_t              len = 0;
+  uint32_t            i, level;
+
+  for (level = 0; level < VEJGODAT_MAX_DEPTH; ++level) {
+    string[len++] = 1;
+    for (i = 0; i < deep; ++i) {
+      string[len++] = 0;
+    }
+  }
+  string[len++] = 0;
+  for (level = 0; level < VEJGODAT_MAX_DEPTH; ++level) {
+    for (i = deep + 1; i < children; ++i) {
+      string[len++] = 0;
+    }
+  }
+  return len;
+}
+
+/* either call on such strings of each shape, and on one that is too deep */
+static void
+each_string (uint32_t (*call) (uint32_t shape, size_t len))
+{
+  uint32_t            shape, deep, children;
+  size_t              len;
+
+  for (shape = VEJGODAT_QUADRILATERAL; shape <= VEJGODAT_TETRAHEDRON; ++shape) {
+    children = shape < VEJGODAT_HEXAHEDRON ? 4 : 8;
+    for (deep = 0; deep < children; ++deep) {
+      len = make_string (children, deep);
+      take (call (shape, len));
+      string[len - 1] = 1;
+      take (call (shape, len) != VEJGODAT_STRING);
+    }
+    memset (string, 1, sizeof string);
+    take (call (shape, sizeof string) != VEJGODAT_STRING);
+  }
+}
+
+static uint32_t
+leaves_of_one (uint32_t shape, size_t len)
+{
+  return vejgodat_count_leaves (shape, string, len).refusal;
+}
+
+static uint32_t
+leaves_of_list (uint32_t shape, size_t len)
+{
+  uint32_t            length = (uint32_t) len;
+
+  return vejgodat_leaf_counts (&shape, 1, &length, 1, string, len, list,
+                               1).refusal;
+}
+
+static void        *
+count_leaves (void *none)
+{
+  each_string (leaves_of_one);
+  return none;
+}
+
+static void        *
+leaf_counts (void *none)
+{
+  each_string (leaves_of_list);
+  return none;
+}
+
 /* Run a call on a painted stack and return how deep it went; 0 where no thread could be made. */
 static size_t
 depth (void *(*call) (void *))
@@ -234,35 +308,50 @@ depth (void *(*call) (void *))
 int
 main (void)
 {
-#define CALL(name) { #name, name }
+#define CALL(name, most) { #name, name, most }
+  /* the kinds of calls, the largest of them within VEJGODAT_STACK_BYTES */
+  enum
+  {
+    LITTLE = 1024, STRING = 5 * 1024, DELIVER = 137 * 1024,
+    PART = 208 * 1024, BUILD = 336 * 1024
+  };
   static const struct
   {
     const char         *name;
     void               *(*call) (void *);
+    size_t              most;
   }
   calls[] = {
-    CALL (version), CALL (check_table), CALL (table_length),
-    CALL (table_range), CALL (write_table), CALL (table_from_leaves),
-    CALL (sender_of),
-    CALL (trees_sent), CALL (send_set), CALL (receive_set),
-    CALL (check_mesh), CALL (brick_length), CALL (write_brick),
-    CALL (part_length), CALL (cut_part),
-    CALL (check_part), CALL (neighbour_of), CALL (lookup),
-    CALL (message_length), CALL (build_message),
-    CALL (build_all_length), CALL (build_all), CALL (check_message),
-    CALL (area_length), CALL (open_area), CALL (deliver),
-    CALL (deliver_all),
-    CALL (progress_of), CALL (part_of_area_length), CALL (close_area),
-    CALL (region_counts), CALL (part_to_columns), CALL (columns_to_part),
-    CALL (trees_at_point), CALL (trees_below), CALL (trees_between),
-    CALL (table_fault), CALL (mesh_fault), CALL (part_fault),
-    CALL (mesh_header), CALL (part_header),
-    CALL (pad_table), CALL (empty_part), CALL (relabel_part),
-    CALL (table_from_weights), CALL (table_from_blocks),
-    CALL (triangle_length), CALL (import_triangle)
+    CALL (version, LITTLE), CALL (check_table, LITTLE),
+    CALL (table_length, LITTLE), CALL (table_range, LITTLE),
+    CALL (write_table, LITTLE), CALL (table_from_leaves, LITTLE),
+    CALL (sender_of, LITTLE), CALL (trees_sent, LITTLE),
+    CALL (send_set, LITTLE), CALL (receive_set, LITTLE),
+    CALL (corners, LITTLE), CALL (check_mesh, LITTLE),
+    CALL (brick_length, LITTLE), CALL (write_brick, LITTLE),
+    CALL (part_length, PART), CALL (cut_part, PART), CALL (check_part, PART),
+    CALL (neighbour_of, PART), CALL (lookup, LITTLE),
+    CALL (message_length, BUILD), CALL (build_message, BUILD),
+    CALL (build_all_length, BUILD), CALL (build_all, BUILD),
+    CALL (check_message, LITTLE), CALL (area_length, LITTLE),
+    CALL (open_area, LITTLE), CALL (deliver, DELIVER),
+    CALL (deliver_all, DELIVER), CALL (progress_of, LITTLE),
+    CALL (part_of_area_length, PART), CALL (close_area, PART),
+    CALL (count_leaves, STRING), CALL (leaf_counts, STRING),
+    CALL (region_counts, PART), CALL (part_to_columns, PART),
+    CALL (columns_to_part, PART), CALL (trees_at_point, PART),
+    CALL (trees_below, PART), CALL (trees_between, PART),
+    CALL (table_fault, LITTLE), CALL (mesh_fault, LITTLE),
+    CALL (part_fault, PART), CALL (mesh_header, LITTLE),
+    CALL (part_header, LITTLE), CALL (pad_table, LITTLE),
+    CALL (empty_part, LITTLE), CALL (relabel_part, PART),
+    CALL (table_from_weights, LITTLE),
+    CALL (table_from_blocks, LITTLE),
+    CALL (triangle_length, VEJGODAT_IMPORT_STACK_BYTES),
+    CALL (import_triangle, VEJGODAT_IMPORT_STACK_BYTES)
   };
-  size_t              i, used, base, limit, most = 0;
-  int                 wrong = 0;
+  size_t              i, used, base, most = 0;
+  int                 wrong = BUILD > VEJGODAT_STACK_BYTES;
 
   make_mesh ();
   base = depth (nothing);
@@ -281,15 +370,11 @@ main (void)
       continue;
     }
     used -= base;
-    limit = VEJGODAT_STACK_BYTES;
-    if (calls[i].call == triangle_length || calls[i].call == import_triangle) {
-      limit = VEJGODAT_IMPORT_STACK_BYTES;
-    }
     most = used > most ? used : most;
     if (getenv ("STACK_TABLE") != NULL) {
       printf ("%8lu  vejgodat_%s\n", (unsigned long) used, calls[i].name);
     }
-    if (used > limit) {
+    if (used > calls[i].most) {
       printf ("stack: vejgodat_%s takes %lu bytes\n", calls[i].name,
               (unsigned long) used);
       ++wrong;

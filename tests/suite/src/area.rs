@@ -470,39 +470,40 @@ fn repartitions(run: &mut Run) {
 /// Every order of one message of each sender, each with a repeat and a stray somewhere; all areas and parts are equal.
 fn every_order(run: &mut Run) {
     let mut of_senders = [0; 7];
-    run.cases(400, |random, calls| {
-        let case = any_case(random, 12);
-        let (q, messages) = any_receiver(random, &case);
-        // some of each number, up to 120 orders each
-        if messages.len() > 5 || of_senders[messages.len()] == 12 {
-            return;
-        }
-        of_senders[messages.len()] += 1;
-        let strays: Vec<Vec<u8>> =
-            case.messages().into_iter().filter(|(ends, _)| ends[1] != q).map(|(_, m)| m).collect();
-        let mut ends = BTreeSet::new();
-        for order in permutations(messages.len()) {
-            let mut area = case.fresh(q);
-            let repeat_at = random.below(messages.len() as u64 + 1) as usize;
-            for (at, &next) in order.iter().enumerate() {
-                if at == repeat_at && at > 0 {
-                    let again = random.pick(&order[..at]);
-                    assert_eq!(calls.deliver(&area, &messages[again]), (15, area.clone()));
-                    if !strays.is_empty() {
-                        assert_eq!(calls.deliver(&area, &random.pick(&strays)), (13, area.clone()));
-                    }
-                }
-                let (got, now) = calls.deliver(&area, &messages[next]);
-                assert_eq!(got, 0);
-                area = now;
+    while run.lacks(of_senders[1..=5].iter().all(|&number| number >= 4), format_args!("{of_senders:?}")) {
+        run.cases(400, |random, calls| {
+            let case = any_case(random, 12);
+            let (q, messages) = any_receiver(random, &case);
+            // some of each number, up to 120 orders each
+            if messages.len() > 5 || of_senders[messages.len()] == 12 {
+                return;
             }
-            let (got, joined) = calls.close_area(&area, &[6; 4_000]);
-            assert_eq!(got.refusal, 0);
-            ends.insert((area, joined));
-        }
-        assert_eq!(ends.len(), 1);
-    });
-    assert!(of_senders[1..=5].iter().all(|&number| number >= 4), "{of_senders:?}");
+            of_senders[messages.len()] += 1;
+            let strays: Vec<Vec<u8>> =
+                case.messages().into_iter().filter(|(ends, _)| ends[1] != q).map(|(_, m)| m).collect();
+            let mut ends = BTreeSet::new();
+            for order in permutations(messages.len()) {
+                let mut area = case.fresh(q);
+                let repeat_at = random.below(messages.len() as u64 + 1) as usize;
+                for (at, &next) in order.iter().enumerate() {
+                    if at == repeat_at && at > 0 {
+                        let again = random.pick(&order[..at]);
+                        assert_eq!(calls.deliver(&area, &messages[again]), (15, area.clone()));
+                        if !strays.is_empty() {
+                            assert_eq!(calls.deliver(&area, &random.pick(&strays)), (13, area.clone()));
+                        }
+                    }
+                    let (got, now) = calls.deliver(&area, &messages[next]);
+                    assert_eq!(got, 0);
+                    area = now;
+                }
+                let (got, joined) = calls.close_area(&area, &[6; 4_000]);
+                assert_eq!(got.refusal, 0);
+                ends.insert((area, joined));
+            }
+            assert_eq!(ends.len(), 1);
+        });
+    }
 }
 
 /// A checkpoint's fingerprint of a part (FNV-1a, 64 bits).
@@ -619,14 +620,15 @@ fn small_areas(run: &mut Run) -> Vec<(Vec<u8>, Vec<u8>)> {
         (after(&fresh, &messages[1..2]), messages[2].clone()),
         (after(&fresh, &messages[1..3]), messages[1].clone()),
     ];
-    run.cases(12, |random, _| {
-        let case = any_case(random, 4);
-        let (area, messages) = any_area(random, &case);
-        if area.len() < 1_200 && !messages.is_empty() {
-            areas.push((area, random.pick(&messages)));
-        }
-    });
-    assert!(areas.len() > 6);
+    while run.lacks(areas.len() > 6, format_args!("{} areas", areas.len())) {
+        run.cases(12, |random, _| {
+            let case = any_case(random, 4);
+            let (area, messages) = any_area(random, &case);
+            if area.len() < 1_200 && !messages.is_empty() {
+                areas.push((area, random.pick(&messages)));
+            }
+        });
+    }
     areas
 }
 
@@ -684,114 +686,119 @@ fn one_field_damaged(run: &mut Run) {
 
 fn several_damaged(run: &mut Run) {
     let mut answers = [0; 22];
-    run.cases(3_000, |random, calls| {
-        let case = any_case(random, 9);
-        let (area, messages) = any_area(random, &case);
-        for _ in 0..8 {
-            let damaged = several_fields(random, &area);
-            answers[read_and_deliver(random, calls, &damaged, &messages) as usize] += 1;
-            if area_model::read(&damaged).is_ok() {
-                let twice =
-                    if random.chance(128) { one_field(random, &damaged) } else { several_fields(random, &damaged) };
-                read_and_deliver(random, calls, &twice, &messages);
+    while run.lacks([10, 20, 21].iter().all(|&number| answers[number] > 500), format_args!("{answers:?}")) {
+        run.cases(3_000, |random, calls| {
+            let case = any_case(random, 9);
+            let (area, messages) = any_area(random, &case);
+            for _ in 0..8 {
+                let damaged = several_fields(random, &area);
+                answers[read_and_deliver(random, calls, &damaged, &messages) as usize] += 1;
+                if area_model::read(&damaged).is_ok() {
+                    let twice =
+                        if random.chance(128) { one_field(random, &damaged) } else { several_fields(random, &damaged) };
+                    read_and_deliver(random, calls, &twice, &messages);
+                }
             }
-        }
-    });
-    assert!([10, 20, 21].iter().all(|&number| answers[number] > 500), "{answers:?}");
+        });
+    }
 }
 
 fn each_byte_of_message(run: &mut Run) {
     let mut seen = [0; 20];
-    for (area, message) in small_areas(run) {
-        let mut changed = message.clone();
-        for at in 0..message.len() {
-            for value in other_values(message[at]) {
-                changed[at] = value;
-                seen[run.calls.deliver(&area, &changed).0 as usize] += 1;
+    while run.lacks([11, 12, 13, 14, 16].iter().all(|&number| seen[number] > 10), format_args!("{seen:?}")) {
+        for (area, message) in small_areas(run) {
+            let mut changed = message.clone();
+            for at in 0..message.len() {
+                for value in other_values(message[at]) {
+                    changed[at] = value;
+                    seen[run.calls.deliver(&area, &changed).0 as usize] += 1;
+                }
+                changed[at] = message[at];
             }
-            changed[at] = message[at];
-        }
-        for length in 0..message.len() {
-            assert_eq!(run.calls.deliver(&area, &message[..length]).0, 11);
+            for length in 0..message.len() {
+                assert_eq!(run.calls.deliver(&area, &message[..length]).0, 11);
+            }
         }
     }
-    assert!([11, 12, 13, 14, 16].iter().all(|&number| seen[number] > 10), "{seen:?}");
 }
 
 fn damaged_messages(run: &mut Run) {
     let mut seen = [0; 20];
-    run.cases(4_000, |random, calls| {
-        let case = any_case(random, 9);
-        let (area, messages) = any_area(random, &case);
-        if messages.is_empty() {
-            return;
-        }
-        for _ in 0..8 {
-            let message = random.pick(&messages);
-            let damaged = if random.chance(160) {
-                message::several_fields(random, &message)
-            } else {
-                message::one_field(random, &message)
-            };
-            seen[calls.deliver(&area, &damaged).0 as usize] += 1;
-        }
-    });
-    assert!([0, 11, 12, 13, 15, 16, 17].iter().all(|&number| seen[number] > 100), "{seen:?}");
+    while run.lacks([0, 11, 12, 13, 15, 16, 17].iter().all(|&number| seen[number] > 100), format_args!("{seen:?}")) {
+        run.cases(4_000, |random, calls| {
+            let case = any_case(random, 9);
+            let (area, messages) = any_area(random, &case);
+            if messages.is_empty() {
+                return;
+            }
+            for _ in 0..8 {
+                let message = random.pick(&messages);
+                let damaged = if random.chance(160) {
+                    message::several_fields(random, &message)
+                } else {
+                    message::one_field(random, &message)
+                };
+                seen[calls.deliver(&area, &damaged).0 as usize] += 1;
+            }
+        });
+    }
 }
 
 /// Any of the header's words is another, in any combination: the first check that fails gives its number.
 fn any_message_header(run: &mut Run) {
     let mut seen = [0; 20];
-    run.cases(4_000, |random, calls| {
-        let case = any_case(random, 6);
-        let (area, messages) = any_area(random, &case);
-        if messages.is_empty() {
-            return;
-        }
-        for _ in 0..8 {
-            let mut message = random.pick(&messages);
-            for at in [0, 4, 8, 12, 16, 20] {
-                if random.chance(50) {
-                    let now = number_at(&message, at);
-                    let other = match random.below(3) {
-                        0 => now.wrapping_add(random.pick(&[1, u32::MAX])),
-                        1 => random.below(case.ranks().into()) as u32,
-                        _ => cases::number(random),
-                    };
-                    put(&mut message, at, other);
-                }
+    while run.lacks([0, 11, 12, 13, 14, 15].iter().all(|&number| seen[number] > 100), format_args!("{seen:?}")) {
+        run.cases(4_000, |random, calls| {
+            let case = any_case(random, 6);
+            let (area, messages) = any_area(random, &case);
+            if messages.is_empty() {
+                return;
             }
-            seen[calls.deliver(&area, &message).0 as usize] += 1;
-        }
-    });
-    assert!([0, 11, 12, 13, 14, 15].iter().all(|&number| seen[number] > 100), "{seen:?}");
+            for _ in 0..8 {
+                let mut message = random.pick(&messages);
+                for at in [0, 4, 8, 12, 16, 20] {
+                    if random.chance(50) {
+                        let now = number_at(&message, at);
+                        let other = match random.below(3) {
+                            0 => now.wrapping_add(random.pick(&[1, u32::MAX])),
+                            1 => random.below(case.ranks().into()) as u32,
+                            _ => cases::number(random),
+                        };
+                        put(&mut message, at, other);
+                    }
+                }
+                seen[calls.deliver(&area, &message).0 as usize] += 1;
+            }
+        });
+    }
 }
 
 /// Messages in layout with the trees due, but links and ghosts of no mesh: accepted where they may be, refused at close.
 fn wrong_parts(run: &mut Run) {
     let mut closed = [0; 23];
-    run.cases(4_000, |random, calls| {
-        let case = any_case(random, 9);
-        let (q, messages) = any_receiver(random, &case);
-        let mut area = case.fresh(q);
-        for message in &messages {
-            let mut wrong = message.clone();
-            for _ in 0..random.below(3) {
-                let next = message::several_fields(random, &wrong);
-                if message_model::check_message(&next) == 0 {
-                    wrong = next;
+    while run.lacks(closed[0] > 200 && closed[21] > 200, format_args!("{closed:?}")) {
+        run.cases(4_000, |random, calls| {
+            let case = any_case(random, 9);
+            let (q, messages) = any_receiver(random, &case);
+            let mut area = case.fresh(q);
+            for message in &messages {
+                let mut wrong = message.clone();
+                for _ in 0..random.below(3) {
+                    let next = message::several_fields(random, &wrong);
+                    if message_model::check_message(&next) == 0 {
+                        wrong = next;
+                    }
+                }
+                let (got, now) = calls.deliver(&area, &wrong);
+                area = now;
+                // what was refused is delivered as it should be
+                if got != 0 {
+                    area = calls.deliver(&area, message).1;
                 }
             }
-            let (got, now) = calls.deliver(&area, &wrong);
-            area = now;
-            // what was refused is delivered as it should be
-            if got != 0 {
-                area = calls.deliver(&area, message).1;
-            }
-        }
-        closed[calls.read_area(&area) as usize] += 1;
-    });
-    assert!(closed[0] > 200 && closed[21] > 200, "{closed:?}");
+            closed[calls.read_area(&area) as usize] += 1;
+        });
+    }
 }
 
 /// The receiver of these has trees 0 to 4: two from rank 1, three from rank 2. All trees are boundary, but in the messages
@@ -858,20 +865,21 @@ fn filled_bound(run: &mut Run) {
     }
     // any ghosts, up to all slots: sound exactly where the filled slots allow them
     let mut answers = [0; 2];
-    run.cases(2_000, |random, calls| {
-        let case = any_case(random, 20);
-        let (area, messages) = any_area(random, &case);
-        let read = area_model::read(&area).expect("a sound area");
-        let filled = read.room() * read.trees.iter().flatten().count() / read.trees.len().max(1);
-        let count = random.pick(&[read.room(), filled, filled + 1, filled.saturating_sub(1)]);
-        let ghosts = any_ghosts(random, &read, count.min(read.room()));
-        let allowed = ghosts.len() <= filled;
-        let spoilt = Area { ghosts, ..read }.encode();
-        let got = read_and_deliver(random, calls, &spoilt, &messages);
-        assert_eq!(got != 10, allowed);
-        answers[usize::from(allowed)] += 1;
-    });
-    assert!(answers[0] > 50 && answers[1] > 200, "{answers:?}");
+    while run.lacks(answers[0] > 50 && answers[1] > 200, format_args!("{answers:?}")) {
+        run.cases(2_000, |random, calls| {
+            let case = any_case(random, 20);
+            let (area, messages) = any_area(random, &case);
+            let read = area_model::read(&area).expect("a sound area");
+            let filled = read.room() * read.trees.iter().flatten().count() / read.trees.len().max(1);
+            let count = random.pick(&[read.room(), filled, filled + 1, filled.saturating_sub(1)]);
+            let ghosts = any_ghosts(random, &read, count.min(read.room()));
+            let allowed = ghosts.len() <= filled;
+            let spoilt = Area { ghosts, ..read }.encode();
+            let got = read_and_deliver(random, calls, &spoilt, &messages);
+            assert_eq!(got != 10, allowed);
+            answers[usize::from(allowed)] += 1;
+        });
+    }
 }
 
 /// A row of nine quadrilaterals, three on each rank; rank 1 gets 2 to 6, with ghost 1 from rank 0 and 7 from rank 2.

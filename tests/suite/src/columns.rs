@@ -141,30 +141,31 @@ fn there_and_back(run: &mut Run) {
     // a square has 16 records, and 2,048 go together
     let mut sizes = [0; 4];
     let mut long = 0;
-    run.cases(500, |random, calls| {
-        let trees = match random.below(50) {
-            0 => random.number(2_049, 2_200) as usize,
-            1..=10 => random.number(60, 300) as usize,
-            _ => meshes::count(random),
-        };
-        let mesh = meshes::sound(random, trees);
-        let ranks = if trees > 2_048 { 1 } else { random.number(1, 5) };
-        let table = bytes_of(&cases::table(random, ranks as usize, trees as u32));
-        for rank in 0..ranks {
-            let length = calls.part_length(&mesh, &table, rank).length as usize;
-            let (_, part) = calls.cut_part(&mesh, &table, rank, &vec![0; length]);
-            let behind = random.below(9) as usize;
-            let (got, file) = calls.part_to_columns(&part, &table, rank, &random.bytes(length + behind));
-            assert_eq!((got.refusal, got.length as usize), (0, length));
-            let (got, back) = calls.columns_to_part(&file[..length], &table, rank, &random.bytes(length + behind));
-            assert_eq!((got.refusal, got.length as usize), (0, length));
-            assert!(back[..length] == part, "another part came back");
-            let (n, g) = (number_at(&part, 20), number_at(&part, 24));
-            sizes[usize::from(n > 16) + 2 * usize::from(g > 16)] += 1;
-            long += usize::from(n > 2_048);
-        }
-    });
-    assert!(sizes.iter().all(|&size| size > 10) && long > 2, "{sizes:?}, {long} long");
+    while run.lacks(sizes.iter().all(|&size| size > 10) && long > 2, format_args!("{sizes:?}, {long} long")) {
+        run.cases(500, |random, calls| {
+            let trees = match random.below(50) {
+                0 => random.number(2_049, 2_200) as usize,
+                1..=10 => random.number(60, 300) as usize,
+                _ => meshes::count(random),
+            };
+            let mesh = meshes::sound(random, trees);
+            let ranks = if trees > 2_048 { 1 } else { random.number(1, 5) };
+            let table = bytes_of(&cases::table(random, ranks as usize, trees as u32));
+            for rank in 0..ranks {
+                let length = calls.part_length(&mesh, &table, rank).length as usize;
+                let (_, part) = calls.cut_part(&mesh, &table, rank, &vec![0; length]);
+                let behind = random.below(9) as usize;
+                let (got, file) = calls.part_to_columns(&part, &table, rank, &random.bytes(length + behind));
+                assert_eq!((got.refusal, got.length as usize), (0, length));
+                let (got, back) = calls.columns_to_part(&file[..length], &table, rank, &random.bytes(length + behind));
+                assert_eq!((got.refusal, got.length as usize), (0, length));
+                assert!(back[..length] == part, "another part came back");
+                let (n, g) = (number_at(&part, 20), number_at(&part, 24));
+                sizes[usize::from(n > 16) + 2 * usize::from(g > 16)] += 1;
+                long += usize::from(n > 2_048);
+            }
+        });
+    }
 }
 
 fn each_byte(run: &mut Run) {
@@ -188,26 +189,27 @@ fn each_byte(run: &mut Run) {
 
 fn damaged(run: &mut Run) {
     let mut accepted = [0, 0];
-    run.cases(4_000, |random, calls| {
-        let trees = meshes::count(random).min(20);
-        let mesh = meshes::sound(random, trees);
-        let table = bytes_of(&cases::table(random, 2, trees as u32));
-        let rank = random.number(0, 1);
-        let length = calls.part_length(&mesh, &table, rank).length as usize;
-        let (_, mut part) = calls.cut_part(&mesh, &table, rank, &vec![0; length]);
-        for _ in 0..random.number(1, 3) {
-            let at = random.below(length as u64) as usize;
-            part[at] = random.pick(&[0, 1, 2, 3, 255, part[at] ^ 1, part[at].wrapping_add(6)]);
-        }
-        let (there, _) = calls.part_to_columns(&part, &table, rank, &vec![1; length]);
-        // the header may say another number of trees now: the file has the damaged header, and some records by columns
-        let mut file = file_of(&of_fitting_count(&part, length));
-        file[..HEADER].copy_from_slice(&part[..HEADER]);
-        let (back, _) = calls.columns_to_part(&file, &table, rank, &vec![1; length]);
-        assert_eq!(there.refusal == 0, back.refusal == 0);
-        accepted[usize::from(there.refusal == 0)] += 1;
-    });
-    assert!(accepted.iter().all(|&many| many > 500), "{accepted:?}");
+    while run.lacks(accepted.iter().all(|&many| many > 500), format_args!("{accepted:?}")) {
+        run.cases(4_000, |random, calls| {
+            let trees = meshes::count(random).min(20);
+            let mesh = meshes::sound(random, trees);
+            let table = bytes_of(&cases::table(random, 2, trees as u32));
+            let rank = random.number(0, 1);
+            let length = calls.part_length(&mesh, &table, rank).length as usize;
+            let (_, mut part) = calls.cut_part(&mesh, &table, rank, &vec![0; length]);
+            for _ in 0..random.number(1, 3) {
+                let at = random.below(length as u64) as usize;
+                part[at] = random.pick(&[0, 1, 2, 3, 255, part[at] ^ 1, part[at].wrapping_add(6)]);
+            }
+            let (there, _) = calls.part_to_columns(&part, &table, rank, &vec![1; length]);
+            // the header may say another number of trees now: the file has the damaged header, and some records by columns
+            let mut file = file_of(&of_fitting_count(&part, length));
+            file[..HEADER].copy_from_slice(&part[..HEADER]);
+            let (back, _) = calls.columns_to_part(&file, &table, rank, &vec![1; length]);
+            assert_eq!(there.refusal == 0, back.refusal == 0);
+            accepted[usize::from(there.refusal == 0)] += 1;
+        });
+    }
 }
 
 /// The part with a count of trees that its length allows.

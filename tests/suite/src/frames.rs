@@ -6,10 +6,8 @@ use crate::{Run, Test};
 use std::collections::{HashMap, HashSet};
 use std::process::Command;
 
-pub const TESTS: &[Test] = &[
-    ("frames: no stack probe overwrites a value", archive),
-    ("frames: one that does is found", examples),
-];
+pub const TESTS: &[Test] =
+    &[("frames: no stack probe overwrites a value", archive), ("frames: one that does is found", examples)];
 
 /// A section's number, and a place in it.
 type Place = (usize, u64);
@@ -35,10 +33,14 @@ fn parse(text: &str) -> Listing {
             listing.names.insert(name.trim_end_matches(':').to_string(), (section, 0));
         } else if let Some((place, name)) = line.strip_suffix(">:").and_then(|line| line.split_once(" <")) {
             listing.names.insert(name.to_string(), (section, hexadecimal(place).expect("a symbol's place")));
-        } else if let Some((place, words)) = line.split_once(':').and_then(|(place, words)| Some((hexadecimal(place)?, words))) {
+        } else if let Some((place, words)) =
+            line.split_once(':').and_then(|(place, words)| Some((hexadecimal(place)?, words)))
+        {
             let words: Vec<&str> = words.split('#').next().unwrap().split_whitespace().collect();
             match words[..] {
-                [kind, name] if kind.starts_with("R_X86_64") => listing.code.last_mut().expect("an instruction").2 = Some(name.to_string()),
+                [kind, name] if kind.starts_with("R_X86_64") => {
+                    listing.code.last_mut().expect("an instruction").2 = Some(name.to_string())
+                }
                 _ => {
                     listing.at.insert((section, place), listing.code.len());
                     listing.code.push(((section, place), words.join(" "), None));
@@ -134,7 +136,8 @@ fn overwritten(listing: &str) -> (usize, Vec<Place>) {
     let listing = parse(listing);
     let probes = (0..listing.code.len()).filter(|&at| listing.code[at].1 == "cmp %r11,%rsp");
     // the jump back to the next page follows
-    let (number, wrong): (Vec<()>, Vec<Option<Place>>) = probes.map(|at| ((), read(&listing, at + 2).then(|| listing.code[at].0))).unzip();
+    let (number, wrong): (Vec<()>, Vec<Option<Place>>) =
+        probes.map(|at| ((), read(&listing, at + 2).then(|| listing.code[at].0))).unzip();
     (number.len(), wrong.into_iter().flatten().collect())
 }
 
@@ -144,7 +147,10 @@ fn archive(_: &mut Run) {
     let listing = String::from_utf8_lossy(&listing.stdout);
     let (probes, wrong) = overwritten(&listing);
     // each frame is probed by one such loop, whatever is before it
-    let begun = listing.lines().filter(|line| line.contains("%rsp") && line.contains("sub ") && line.contains("$0x1000,")).count();
+    let begun = listing
+        .lines()
+        .filter(|line| line.contains("%rsp") && line.contains("sub ") && line.contains("$0x1000,"))
+        .count();
     assert!(probes > 0 && probes == begun, "{probes} probes, {begun} steps of a page");
     assert!(wrong.is_empty(), "a value in r11 is lost at {wrong:x?}");
 }
@@ -169,7 +175,13 @@ fn examples(_: &mut Run) {
     assert!(lost(" 0:\tja 80 <f+0x80>\n 6:\tmov 0x8(%rdi),%r11", read), "in the same block");
     assert!(lost(" 0:\tja 20 <f+0x20>\n 2:\tmov 0x8(%rdi),%r11", read), "in a branch");
     assert!(lost(" 0:\tmov 0x8(%rdi),%r11\n 4:\tdec %rcx\n 7:\tjne 0 <f>", read), "in a loop");
-    assert!(lost(" 0:\tja 60 <f+0x60>\n 2:\tjmp 80 <f+0x80>", " 40:\tcmp %rcx,%r11\n 43:\tret\n 60:\tmov 0x8(%rdi),%r11\n 64:\tjmp 20 <f+0x20>"), "in a block after the probe");
+    assert!(
+        lost(
+            " 0:\tja 60 <f+0x60>\n 2:\tjmp 80 <f+0x80>",
+            " 40:\tcmp %rcx,%r11\n 43:\tret\n 60:\tmov 0x8(%rdi),%r11\n 64:\tjmp 20 <f+0x20>"
+        ),
+        "in a block after the probe"
+    );
     // where it is read
     let part = |relocation: &str, text: &str| {
         format!(" 40:\tjmp 45 <f+0x45>\n\t\t\t41: R_X86_64_PLT32\t{relocation}\nDisassembly of section .text.g:\n\n0000000000000000 <g>:\n 0:\tret\n\n0000000000000004 <f.cold>:\n 4:\t{text}\n 8:\tret\nDisassembly of section .text.h:\n\n0000000000000000 <h>:\n")

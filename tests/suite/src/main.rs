@@ -1,4 +1,5 @@
 //! Tests of the C interface against a second implementation. Run: cargo run --release --offline [-- SEED [NAME]]
+//! Where no seed is given, it is that of the environment variable VEJGODAT_SEED, and else always the same.
 //! The last line is 'N passed, M failed'; the exit status is 0 only where nothing failed.
 mod area_model;
 mod calls;
@@ -82,19 +83,33 @@ pub struct Run {
     seed: u64,
     name: &'static str,
     case: u64,
+    drawn: u64,
+    rounds: u64,
 }
+
+/// How often a test draws cases at most, until there are enough of each kind.
+const ROUNDS: u64 = 20;
 
 impl Run {
     fn new(seed: u64) -> Run {
-        Run { calls: Calls::new(), seed, name: "", case: 0 }
+        Run { calls: Calls::new(), seed, name: "", case: 0, drawn: 0, rounds: 0 }
     }
 
     /// Run numbered random cases, each with a generator of its own.
     pub fn cases(&mut self, number: u64, mut body: impl FnMut(&mut Random, &mut Calls)) {
-        for case in 0..number {
-            self.case = case;
-            body(&mut Random::new(self.seed, self.name, case), &mut self.calls);
+        for _ in 0..number {
+            self.case = self.drawn;
+            self.drawn += 1;
+            body(&mut Random::new(self.seed, self.name, self.case), &mut self.calls);
         }
+    }
+
+    /// Whether a test has to draw its cases, or more of them: there aren't enough of each kind. So no seed fails by bad luck; a
+    /// kind that hardly ever comes up fails after some rounds, with the counts.
+    pub fn lacks(&mut self, enough: bool, counts: std::fmt::Arguments) -> bool {
+        assert!(enough || self.rounds < ROUNDS, "too few of a kind in {ROUNDS} rounds: {counts}");
+        self.rounds += u64::from(!enough);
+        !enough
     }
 
     /// Run the tests whose name has `wanted` in it: how many passed, and how many failed.
@@ -102,7 +117,7 @@ impl Run {
         let (mut passed, mut failed) = (0, 0);
         for (name, test) in tests.into_iter().filter(|(name, _)| name.contains(wanted)) {
             let began = Instant::now();
-            (self.name, self.case) = (name, 0);
+            (self.name, self.case, self.drawn, self.rounds) = (name, 0, 0, 0);
             self.calls.begin(self.seed, name);
             let calls = self.calls.seen.calls;
             let mut ended = panic::catch_unwind(AssertUnwindSafe(|| test(self))).is_ok();
@@ -142,7 +157,8 @@ fn seed_of(text: &str) -> u64 {
 
 fn main() {
     let arguments: Vec<String> = std::env::args().skip(1).collect();
-    let seed = arguments.first().map_or(0x5EED_2026, |text| seed_of(text));
+    let given = arguments.first().cloned().or(std::env::var("VEJGODAT_SEED").ok());
+    let seed = given.map_or(0x5EED_2026, |text| seed_of(&text));
     let wanted = arguments.get(1).cloned().unwrap_or_default();
 
     panic::set_hook(Box::new(|panic| {

@@ -233,20 +233,21 @@ fn some_case(random: &mut Random) -> Case {
 
 fn build_random(run: &mut Run) {
     let mut rows = 0;
-    run.cases(1_500, |random, calls| {
-        let case = some_case(random);
-        let tables = Tables::new(&case.old, &case.new);
-        for p in 0..case.ranks() {
-            let part = case.old_part(p);
-            let length = calls.build_all_length(&part, &tables, p);
-            rows += u32::from(length.count > 2);
-            let more = random.pick(&[0, 1, 31, 500]);
-            let before: Vec<u8> = (0..length.length as usize + more).map(|_| random.next() as u8).collect();
-            let (got, _) = calls.build_all(&part, &tables, p, case.epoch, &before);
-            assert_eq!(got, length);
-        }
-    });
-    assert!(rows > 500, "{rows} ranks with more than two messages");
+    while run.lacks(rows > 500, format_args!("{rows} ranks with more than two messages")) {
+        run.cases(1_500, |random, calls| {
+            let case = some_case(random);
+            let tables = Tables::new(&case.old, &case.new);
+            for p in 0..case.ranks() {
+                let part = case.old_part(p);
+                let length = calls.build_all_length(&part, &tables, p);
+                rows += u32::from(length.count > 2);
+                let more = random.pick(&[0, 1, 31, 500]);
+                let before: Vec<u8> = (0..length.length as usize + more).map(|_| random.next() as u8).collect();
+                let (got, _) = calls.build_all(&part, &tables, p, case.epoch, &before);
+                assert_eq!(got, length);
+            }
+        });
+    }
 }
 
 fn build_lengths(run: &mut Run) {

@@ -40,7 +40,8 @@ fn every_corners(run: &mut Run) {
         }
     }
     run.cases(100_000, |random, calls| {
-        let mut any = |small| if random.below(2) == 0 { random.below(small) as u32 } else { random.below(1 << 32) as u32 };
+        let mut any =
+            |small| if random.below(2) == 0 { random.below(small) as u32 } else { random.below(1 << 32) as u32 };
         let (shape, face) = (any(8), any(8));
         calls.corners(shape, face);
     });
@@ -127,26 +128,30 @@ fn every_two_faces(run: &mut Run) {
 fn random_sound(run: &mut Run) {
     let (mut boundaries, mut own, mut twice, mut turned) = (0, 0, 0, 0);
     let mut shapes = BTreeSet::new();
-    run.cases(60_000, |random, calls| {
-        let trees = meshes::count(random);
-        let mesh = meshes::sound(random, trees);
-        assert_eq!(calls.check_mesh(&mesh), 0);
-        let mut met = BTreeSet::new();
-        for (end, corners) in meshes::ends(&mesh) {
-            let there = link(&mesh, end);
-            let neighbour = there.neighbour as usize;
-            shapes.insert((meshes::record(&mesh, end.0).shape, meshes::record(&mesh, neighbour).shape));
-            turned += u64::from(there.orientation == corners - 1);
-            if end == (neighbour, there.face as usize) {
-                boundaries += 1;
-            } else if neighbour == end.0 {
-                own += 1;
-            } else if !met.insert((end.0, neighbour)) {
-                twice += 1;
+    while run.lacks(
+        boundaries > 10_000 && own > 10_000 && twice > 10_000 && turned > 10_000,
+        format_args!("{boundaries}, {own}, {twice}, {turned}"),
+    ) {
+        run.cases(60_000, |random, calls| {
+            let trees = meshes::count(random);
+            let mesh = meshes::sound(random, trees);
+            assert_eq!(calls.check_mesh(&mesh), 0);
+            let mut met = BTreeSet::new();
+            for (end, corners) in meshes::ends(&mesh) {
+                let there = link(&mesh, end);
+                let neighbour = there.neighbour as usize;
+                shapes.insert((meshes::record(&mesh, end.0).shape, meshes::record(&mesh, neighbour).shape));
+                turned += u64::from(there.orientation == corners - 1);
+                if end == (neighbour, there.face as usize) {
+                    boundaries += 1;
+                } else if neighbour == end.0 {
+                    own += 1;
+                } else if !met.insert((end.0, neighbour)) {
+                    twice += 1;
+                }
             }
-        }
-    });
-    assert!(boundaries > 10_000 && own > 10_000 && twice > 10_000 && turned > 10_000);
+        });
+    }
     // two of dimension 2; of dimension 3 all but hexahedron and tetrahedron can meet
     assert_eq!(shapes.len(), 2 * 2 + 4 * 4 - 2);
 }
@@ -213,16 +218,17 @@ fn one_field(run: &mut Run) {
 
 fn several_fields(run: &mut Run) {
     let mut sound = 0;
-    run.cases(60_000, |random, calls| {
-        let trees = meshes::count(random);
-        let mesh = meshes::sound(random, trees);
-        for _ in 0..6 {
-            sound += u64::from(calls.check_mesh(&meshes::several_fields(random, &mesh)) == 0);
-        }
-        let changed = meshes::several_fields(random, &mesh);
-        calls.check_mesh(&meshes::one_field(random, &changed));
-    });
-    assert!(sound > 10_000, "only {sound} sound");
+    while run.lacks(sound > 10_000, format_args!("only {sound} sound")) {
+        run.cases(60_000, |random, calls| {
+            let trees = meshes::count(random);
+            let mesh = meshes::sound(random, trees);
+            for _ in 0..6 {
+                sound += u64::from(calls.check_mesh(&meshes::several_fields(random, &mesh)) == 0);
+            }
+            let changed = meshes::several_fields(random, &mesh);
+            calls.check_mesh(&meshes::one_field(random, &changed));
+        });
+    }
 }
 
 fn any_header(run: &mut Run) {
@@ -281,26 +287,27 @@ fn any_bytes(run: &mut Run) {
 
 fn any_data(run: &mut Run) {
     let mut answers = [0; 8];
-    run.cases(60_000, |random, calls| {
-        let trees = meshes::count(random);
-        let mut mesh = meshes::sound(random, trees);
-        if random.chance(128) {
-            mesh = meshes::several_fields(random, &mesh);
-        }
-        let before = calls.check_mesh(&mesh);
-        for tree in 0..trees {
-            if random.chance(200) {
-                meshes::fill_data(random, &mut mesh, tree);
-            } else {
-                // as if it were another record
-                let from = place(random.below(trees as u64) as usize) + random.pick(&[0, 8, 16]);
-                mesh.copy_within(from..from + 24, place(tree) + 40);
+    while run.lacks(answers[0] > 5_000 && answers[7] > 5_000, format_args!("{answers:?}")) {
+        run.cases(60_000, |random, calls| {
+            let trees = meshes::count(random);
+            let mut mesh = meshes::sound(random, trees);
+            if random.chance(128) {
+                mesh = meshes::several_fields(random, &mesh);
             }
-        }
-        assert_eq!(calls.check_mesh(&mesh), before);
-        answers[before as usize] += 1;
-    });
-    assert!(answers[0] > 5_000 && answers[7] > 5_000, "{answers:?}");
+            let before = calls.check_mesh(&mesh);
+            for tree in 0..trees {
+                if random.chance(200) {
+                    meshes::fill_data(random, &mut mesh, tree);
+                } else {
+                    // as if it were another record
+                    let from = place(random.below(trees as u64) as usize) + random.pick(&[0, 8, 16]);
+                    mesh.copy_within(from..from + 24, place(tree) + 40);
+                }
+            }
+            assert_eq!(calls.check_mesh(&mesh), before);
+            answers[before as usize] += 1;
+        });
+    }
 }
 
 fn tree_limits(run: &mut Run) {

@@ -304,31 +304,36 @@ fn all_messages(calls: &mut Calls, case: &Case) -> BTreeMap<[u32; 2], Vec<u8>> {
 
 fn every_pair(run: &mut Run) {
     let mut messages = 0;
-    run.cases(2, |random, calls| {
-        for (ranks, trees) in [(1, 1), (2, 1), (1, 2), (2, 2), (3, 2), (2, 3), (2, 4), (3, 3)] {
-            let all = cases::every_table(ranks, trees);
-            for old in &all {
-                for new in &all {
-                    let mesh = meshes::sound(random, trees as usize);
-                    let case = Case { mesh, old: bytes_of(old), new: bytes_of(new), epoch: random.next() as u32 };
-                    messages += all_messages(calls, &case).len();
+    while run.lacks(messages > 5_000, format_args!("{messages} messages")) {
+        run.cases(2, |random, calls| {
+            for (ranks, trees) in [(1, 1), (2, 1), (1, 2), (2, 2), (3, 2), (2, 3), (2, 4), (3, 3)] {
+                let all = cases::every_table(ranks, trees);
+                for old in &all {
+                    for new in &all {
+                        let mesh = meshes::sound(random, trees as usize);
+                        let case = Case { mesh, old: bytes_of(old), new: bytes_of(new), epoch: random.next() as u32 };
+                        messages += all_messages(calls, &case).len();
+                    }
                 }
             }
-        }
-    });
-    assert!(messages > 5_000, "{messages} messages");
+        });
+    }
 }
 
 fn random_messages(run: &mut Run) {
     let (mut messages, mut with_ghosts) = (0, 0);
-    run.cases(2_000, |random, calls| {
-        let case = any_case(random, 24);
-        for message in all_messages(calls, &case).values() {
-            messages += 1;
-            with_ghosts += u32::from(number_at(message, 28) > 2);
-        }
-    });
-    assert!(messages > 2_000 && with_ghosts > 500, "{messages} messages, {with_ghosts} with three ghosts or more");
+    while run.lacks(
+        messages > 2_000 && with_ghosts > 500,
+        format_args!("{messages} messages, {with_ghosts} with three ghosts or more"),
+    ) {
+        run.cases(2_000, |random, calls| {
+            let case = any_case(random, 24);
+            for message in all_messages(calls, &case).values() {
+                messages += 1;
+                with_ghosts += u32::from(number_at(message, 28) > 2);
+            }
+        });
+    }
 }
 
 /// Of the library's own bytes alone: what a rank gets is, sorted, the trees and ghosts of its new part, each once.
@@ -446,18 +451,19 @@ fn one_field_damaged(run: &mut Run) {
 
 fn several_damaged(run: &mut Run) {
     let mut fine = 0;
-    run.cases(6_000, |random, calls| {
-        let case = any_case(random, 12);
-        let message = any_message(random, &case);
-        for _ in 0..8 {
-            let other = several_fields(random, &message);
-            fine += u32::from(calls.check_message(&other) == 0 && other != message);
-            if message_model::check_message(&other) == 0 {
-                calls.check_message(&one_field(random, &other));
+    while run.lacks(fine > 5_000, format_args!("only {fine} in layout")) {
+        run.cases(6_000, |random, calls| {
+            let case = any_case(random, 12);
+            let message = any_message(random, &case);
+            for _ in 0..8 {
+                let other = several_fields(random, &message);
+                fine += u32::from(calls.check_message(&other) == 0 && other != message);
+                if message_model::check_message(&other) == 0 {
+                    calls.check_message(&one_field(random, &other));
+                }
             }
-        }
-    });
-    assert!(fine > 5_000, "only {fine} in layout");
+        });
+    }
 }
 
 fn any_bytes(run: &mut Run) {
@@ -501,58 +507,60 @@ fn any_bytes(run: &mut Run) {
 }
 
 fn each_byte_of_part(run: &mut Run) {
-    let mut cases = vec![(Case::triangles(), [1, 1]), (Case::triangles(), [1, 2]), (Case::triangles(), [0, 0])];
-    run.cases(20, |random, _| {
-        let case = any_case(random, 5);
-        let message = any_message(random, &case);
-        cases.push((case, [number_at(&message, 16), number_at(&message, 20)]));
-    });
     let mut built = 0;
-    for (case, ends) in &cases {
-        let tables = tables_of(case);
-        let mut part = case.old_part(ends[0]);
-        for at in 0..part.len() {
-            let byte = part[at];
-            for value in other_values(byte) {
-                part[at] = value;
-                let (got, _) = run.calls.build_message(&part, &tables, *ends, 9, &[0xEE; 1_600]);
-                built += u32::from(got.refusal == 0);
+    while run.lacks(built > 1_000, format_args!("{built} built")) {
+        let mut cases = vec![(Case::triangles(), [1, 1]), (Case::triangles(), [1, 2]), (Case::triangles(), [0, 0])];
+        run.cases(20, |random, _| {
+            let case = any_case(random, 5);
+            let message = any_message(random, &case);
+            cases.push((case, [number_at(&message, 16), number_at(&message, 20)]));
+        });
+        for (case, ends) in &cases {
+            let tables = tables_of(case);
+            let mut part = case.old_part(ends[0]);
+            for at in 0..part.len() {
+                let byte = part[at];
+                for value in other_values(byte) {
+                    part[at] = value;
+                    let (got, _) = run.calls.build_message(&part, &tables, *ends, 9, &[0xEE; 1_600]);
+                    built += u32::from(got.refusal == 0);
+                }
+                part[at] = byte;
             }
-            part[at] = byte;
-        }
-        let longer = [&part[..], &[0; 9]].concat();
-        for length in 0..longer.len() {
-            run.calls.build_message(&longer[..length], &tables, *ends, 9, &[0xEE; 1_600]);
-            run.calls.message_length(&longer[..length], &tables, *ends);
+            let longer = [&part[..], &[0; 9]].concat();
+            for length in 0..longer.len() {
+                run.calls.build_message(&longer[..length], &tables, *ends, 9, &[0xEE; 1_600]);
+                run.calls.message_length(&longer[..length], &tables, *ends);
+            }
         }
     }
-    assert!(built > 1_000, "{built} built");
 }
 
 /// Parts that are sound, but of no mesh that the other ranks have, give messages too.
 fn damaged_parts(run: &mut Run) {
     let mut built = 0;
-    run.cases(5_000, |random, calls| {
-        let trees = meshes::count(random).min(12);
-        let of_part = part::Case::random(random, trees);
-        let ranks = of_part.table.len() / 8 - 1;
-        let new = bytes_of(&cases::table(random, ranks, trees as u32));
-        let tables = Tables::new(&of_part.table, &new);
-        for _ in 0..6 {
-            let part = if random.chance(128) {
-                part::several_fields(random, &of_part)
-            } else {
-                part::one_field(random, &of_part)
-            };
-            let ends = [of_part.rank, random.below(ranks as u64) as u32];
-            let message = calls.message(&part, &tables, ends, 1);
-            if let Some(message) = message {
-                built += 1;
-                assert_eq!(calls.check_message(&message), 0);
+    while run.lacks(built > 3_000, format_args!("{built} built")) {
+        run.cases(5_000, |random, calls| {
+            let trees = meshes::count(random).min(12);
+            let of_part = part::Case::random(random, trees);
+            let ranks = of_part.table.len() / 8 - 1;
+            let new = bytes_of(&cases::table(random, ranks, trees as u32));
+            let tables = Tables::new(&of_part.table, &new);
+            for _ in 0..6 {
+                let part = if random.chance(128) {
+                    part::several_fields(random, &of_part)
+                } else {
+                    part::one_field(random, &of_part)
+                };
+                let ends = [of_part.rank, random.below(ranks as u64) as u32];
+                let message = calls.message(&part, &tables, ends, 1);
+                if let Some(message) = message {
+                    built += 1;
+                    assert_eq!(calls.check_message(&message), 0);
+                }
             }
-        }
-    });
-    assert!(built > 3_000, "{built} built");
+        });
+    }
 }
 
 fn each_byte_of_tables(run: &mut Run) {
@@ -579,34 +587,35 @@ fn each_byte_of_tables(run: &mut Run) {
 
 fn other_tables(run: &mut Run) {
     let mut refused = [0; 10];
-    run.cases(6_000, |random, calls| {
-        let case = any_case(random, 8);
-        let ranks = case.ranks();
-        let any_rank = |random: &mut Random| {
-            if random.chance(240) {
-                random.below(u64::from(ranks) + 1) as u32
-            } else {
-                cases::number(random)
-            }
-        };
-        let part = case.old_part(random.below(ranks.into()) as u32);
-        for _ in 0..4 {
-            let (other_ranks, other_trees) = (random.number(1, 5) as usize, random.number(1, 9));
-            let other = cases::table(random, other_ranks, other_trees);
-            let spoilt = cases::spoilt_table(random, other.clone());
-            let pick = |random: &mut Random, good: &Vec<u8>| match random.below(16) {
-                0 => bytes_of(&other),
-                1 => bytes_of(&spoilt),
-                _ => good.clone(),
+    while run.lacks([0, 3, 4, 5, 8, 9].iter().all(|&number| refused[number] > 100), format_args!("{refused:?}")) {
+        run.cases(6_000, |random, calls| {
+            let case = any_case(random, 8);
+            let ranks = case.ranks();
+            let any_rank = |random: &mut Random| {
+                if random.chance(240) {
+                    random.below(u64::from(ranks) + 1) as u32
+                } else {
+                    cases::number(random)
+                }
             };
-            let tables = Tables::new(&pick(random, &case.old), &pick(random, &case.new));
-            let ends = [any_rank(random), any_rank(random)];
-            let got = calls.message_length(&part, &tables, ends);
-            refused[got.refusal as usize] += 1;
-            calls.build_message(&part, &tables, ends, cases::number(random), &vec![1; got.length as usize]);
-        }
-    });
-    assert!([0, 3, 4, 5, 8, 9].iter().all(|&number| refused[number] > 100), "{refused:?}");
+            let part = case.old_part(random.below(ranks.into()) as u32);
+            for _ in 0..4 {
+                let (other_ranks, other_trees) = (random.number(1, 5) as usize, random.number(1, 9));
+                let other = cases::table(random, other_ranks, other_trees);
+                let spoilt = cases::spoilt_table(random, other.clone());
+                let pick = |random: &mut Random, good: &Vec<u8>| match random.below(16) {
+                    0 => bytes_of(&other),
+                    1 => bytes_of(&spoilt),
+                    _ => good.clone(),
+                };
+                let tables = Tables::new(&pick(random, &case.old), &pick(random, &case.new));
+                let ends = [any_rank(random), any_rank(random)];
+                let got = calls.message_length(&part, &tables, ends);
+                refused[got.refusal as usize] += 1;
+                calls.build_message(&part, &tables, ends, cases::number(random), &vec![1; got.length as usize]);
+            }
+        });
+    }
 }
 
 /// Each argument good or bad by itself: the smallest number of those that fail.

@@ -527,36 +527,40 @@ fn everything(calls: &mut Calls, mesh: &[u8], table: &[u8], rank: u32) -> Vec<u8
 
 fn every_table(run: &mut Run) {
     let mut parts = 0;
-    run.cases(12, |random, calls| {
-        for (ranks, trees) in [(1, 1), (2, 1), (3, 1), (1, 2), (2, 2), (3, 2), (2, 3), (3, 3)] {
-            let mesh = meshes::sound(random, trees as usize);
-            for table in cases::every_table(ranks, trees) {
-                for rank in 0..ranks {
-                    everything(calls, &mesh, &bytes_of(&table), rank as u32);
-                    parts += 1;
+    while run.lacks(parts > 1_000, format_args!("{parts} parts")) {
+        run.cases(12, |random, calls| {
+            for (ranks, trees) in [(1, 1), (2, 1), (3, 1), (1, 2), (2, 2), (3, 2), (2, 3), (3, 3)] {
+                let mesh = meshes::sound(random, trees as usize);
+                for table in cases::every_table(ranks, trees) {
+                    for rank in 0..ranks {
+                        everything(calls, &mesh, &bytes_of(&table), rank as u32);
+                        parts += 1;
+                    }
                 }
             }
-        }
-    });
-    assert!(parts > 1_000, "{parts} parts");
+        });
+    }
 }
 
 fn random_parts(run: &mut Run) {
     let (mut empty, mut all, mut many) = (0, 0, 0);
-    run.cases(1_500, |random, calls| {
-        let trees = meshes::count(random).min(24);
-        let mesh = meshes::sound(random, trees);
-        let ranks = random.number(1, 6);
-        let table = bytes_of(&cases::table(random, ranks as usize, trees as u32));
-        for rank in 0..ranks {
-            let part = everything(calls, &mesh, &table, rank);
-            let (count, ghosts) = (number_at(&part, 20), number_at(&part, 24));
-            empty += u32::from(count == 0);
-            all += u32::from(count as usize == trees);
-            many += u32::from(ghosts > 5);
-        }
-    });
-    assert!(empty > 50 && all > 50 && many > 50, "{empty} empty, {all} whole, {many} with many ghosts");
+    while run
+        .lacks(empty > 50 && all > 50 && many > 50, format_args!("{empty} empty, {all} whole, {many} with many ghosts"))
+    {
+        run.cases(1_500, |random, calls| {
+            let trees = meshes::count(random).min(24);
+            let mesh = meshes::sound(random, trees);
+            let ranks = random.number(1, 6);
+            let table = bytes_of(&cases::table(random, ranks as usize, trees as u32));
+            for rank in 0..ranks {
+                let part = everything(calls, &mesh, &table, rank);
+                let (count, ghosts) = (number_at(&part, 20), number_at(&part, 24));
+                empty += u32::from(count == 0);
+                all += u32::from(count as usize == trees);
+                many += u32::from(ghosts > 5);
+            }
+        });
+    }
     // many ranks; cut and checked only
     run.cases(40, |random, calls| {
         let trees = random.number(1, 200) as usize;
@@ -576,53 +580,54 @@ fn random_parts(run: &mut Run) {
 /// tree of the part; two parts agree on every record that both have.
 fn each_link(run: &mut Run) {
     let mut kinds = [0; 4];
-    run.cases(150, |random, calls| {
-        let trees = meshes::count(random).min(20);
-        let mesh = meshes::sound(random, trees);
-        let ranks = random.number(1, 5);
-        let table = bytes_of(&cases::table(random, ranks as usize, trees as u32));
-        let core = |k: usize| &mesh[meshes::place(k)..meshes::place(k) + GHOST];
-        for rank in 0..ranks {
-            let length = calls.part_length(&mesh, &table, rank).length as usize;
-            let (_, part) = calls.cut_part(&mesh, &table, rank, &vec![0; length]);
-            let range = calls.table_range(&table, rank);
-            let (first, count) = (range.first as usize, range.count as usize);
-            let ghosts: Vec<&[u8]> = part[HEADER + TREE * count..].chunks(GHOST).collect();
-            let mut met = BTreeSet::new();
-            for local in 0..count {
-                let record = meshes::record(&mesh, first + local);
-                for face in 0..6 {
-                    let got = calls.neighbour_of(&part, &table, rank, local as u32, face as u32);
-                    kinds[got.kind as usize] += 1;
-                    assert_eq!(got.shape, record.shape.into());
-                    let index = got.index as usize;
-                    let there = match got.kind {
-                        1 => {
-                            assert!(face >= record.faces().len());
-                            continue;
+    while run.lacks(kinds.iter().all(|&kind| kind > 1_000), format_args!("{kinds:?}")) {
+        run.cases(150, |random, calls| {
+            let trees = meshes::count(random).min(20);
+            let mesh = meshes::sound(random, trees);
+            let ranks = random.number(1, 5);
+            let table = bytes_of(&cases::table(random, ranks as usize, trees as u32));
+            let core = |k: usize| &mesh[meshes::place(k)..meshes::place(k) + GHOST];
+            for rank in 0..ranks {
+                let length = calls.part_length(&mesh, &table, rank).length as usize;
+                let (_, part) = calls.cut_part(&mesh, &table, rank, &vec![0; length]);
+                let range = calls.table_range(&table, rank);
+                let (first, count) = (range.first as usize, range.count as usize);
+                let ghosts: Vec<&[u8]> = part[HEADER + TREE * count..].chunks(GHOST).collect();
+                let mut met = BTreeSet::new();
+                for local in 0..count {
+                    let record = meshes::record(&mesh, first + local);
+                    for face in 0..6 {
+                        let got = calls.neighbour_of(&part, &table, rank, local as u32, face as u32);
+                        kinds[got.kind as usize] += 1;
+                        assert_eq!(got.shape, record.shape.into());
+                        let index = got.index as usize;
+                        let there = match got.kind {
+                            1 => {
+                                assert!(face >= record.faces().len());
+                                continue;
+                            }
+                            0 | 2 => first + index,
+                            _ => number_at(ghosts[index - count], 0) as usize,
+                        };
+                        let link = Link { neighbour: there as u32, face: got.face, orientation: got.orientation };
+                        assert_eq!(link, record.link(face), "tree {}, face {face}", first + local);
+                        assert_eq!(got.kind == 0, there == first + local && got.face as usize == face);
+                        if got.kind == 3 {
+                            met.insert(there);
                         }
-                        0 | 2 => first + index,
-                        _ => number_at(ghosts[index - count], 0) as usize,
-                    };
-                    let link = Link { neighbour: there as u32, face: got.face, orientation: got.orientation };
-                    assert_eq!(link, record.link(face), "tree {}, face {face}", first + local);
-                    assert_eq!(got.kind == 0, there == first + local && got.face as usize == face);
-                    if got.kind == 3 {
-                        met.insert(there);
                     }
+                    let at = HEADER + TREE * local;
+                    let data = meshes::place(first + local) + 38..meshes::place(first + local + 1);
+                    assert_eq!(part[at + 38..at + 64], mesh[data], "region and tree data");
                 }
-                let at = HEADER + TREE * local;
-                let data = meshes::place(first + local) + 38..meshes::place(first + local + 1);
-                assert_eq!(part[at + 38..at + 64], mesh[data], "region and tree data");
+                let numbers: Vec<usize> = ghosts.iter().map(|ghost| number_at(ghost, 0) as usize).collect();
+                assert_eq!(numbers, met.into_iter().collect::<Vec<usize>>(), "each ghost once, ascending");
+                for (&ghost, &number) in ghosts.iter().zip(&numbers) {
+                    assert_eq!(ghost, core(number), "ghost {number}");
+                }
             }
-            let numbers: Vec<usize> = ghosts.iter().map(|ghost| number_at(ghost, 0) as usize).collect();
-            assert_eq!(numbers, met.into_iter().collect::<Vec<usize>>(), "each ghost once, ascending");
-            for (&ghost, &number) in ghosts.iter().zip(&numbers) {
-                assert_eq!(ghost, core(number), "ghost {number}");
-            }
-        }
-    });
-    assert!(kinds.iter().all(|&kind| kind > 1_000), "{kinds:?}");
+        });
+    }
 }
 
 fn each_buffer(run: &mut Run) {
@@ -722,45 +727,47 @@ fn one_field_damaged(run: &mut Run) {
 
 fn several_damaged(run: &mut Run) {
     let mut sound = 0;
-    run.cases(8_000, |random, calls| {
-        let trees = meshes::count(random).min(16);
-        let case = Case::random(random, trees);
-        for at in 0..12 {
-            let part = several_fields(random, &case);
-            sound += u32::from(check_and_ask(calls, &part, &case, at) == 0 && part != case.part);
-        }
-        let twice = Case { part: several_fields(random, &case), ..case };
-        if part_model::check_part(&twice.part, &twice.table, twice.rank) == 0 {
-            check_and_ask(calls, &several_fields(random, &twice), &twice, 0);
-        }
-    });
-    assert!(sound > 5_000, "only {sound} sound again");
+    while run.lacks(sound > 5_000, format_args!("only {sound} sound again")) {
+        run.cases(8_000, |random, calls| {
+            let trees = meshes::count(random).min(16);
+            let case = Case::random(random, trees);
+            for at in 0..12 {
+                let part = several_fields(random, &case);
+                sound += u32::from(check_and_ask(calls, &part, &case, at) == 0 && part != case.part);
+            }
+            let twice = Case { part: several_fields(random, &case), ..case };
+            if part_model::check_part(&twice.part, &twice.table, twice.rank) == 0 {
+                check_and_ask(calls, &several_fields(random, &twice), &twice, 0);
+            }
+        });
+    }
 }
 
 fn other_tables(run: &mut Run) {
     let mut refused = [0; 9];
-    run.cases(8_000, |random, calls| {
-        let trees = meshes::count(random).min(9);
-        let case = Case::random(random, trees);
-        let ranks = case.table.len() / 8 - 1;
-        // the same table and each rank; another table; other counts
-        for rank in 0..=ranks as u32 {
-            refused[calls.check_part(&case.part, &case.table, rank) as usize] += 1;
-        }
-        let other = bytes_of(&cases::table(random, ranks, trees as u32));
-        refused[calls.check_part(&case.part, &other, case.rank) as usize] += 1;
-        let (other_ranks, other_trees) = (random.number(1, 5), random.number(1, 9));
-        let other = cases::table(random, other_ranks as usize, other_trees);
-        let spoilt = cases::spoilt_table(random, other.clone());
-        for table in [other, spoilt] {
-            let table = bytes_of(&table);
-            refused[calls.check_part(&case.part, &table, case.rank) as usize] += 1;
-            calls.neighbour_of(&case.part, &table, case.rank, 0, 0);
-            calls.part_length(&case.mesh, &table, case.rank);
-            calls.cut_part(&case.mesh, &table, case.rank, &vec![3; case.part.len()]);
-        }
-    });
-    assert!([0, 3, 5, 8].iter().all(|&number| refused[number] > 1_000), "{refused:?}");
+    while run.lacks([0, 3, 5, 8].iter().all(|&number| refused[number] > 1_000), format_args!("{refused:?}")) {
+        run.cases(8_000, |random, calls| {
+            let trees = meshes::count(random).min(9);
+            let case = Case::random(random, trees);
+            let ranks = case.table.len() / 8 - 1;
+            // the same table and each rank; another table; other counts
+            for rank in 0..=ranks as u32 {
+                refused[calls.check_part(&case.part, &case.table, rank) as usize] += 1;
+            }
+            let other = bytes_of(&cases::table(random, ranks, trees as u32));
+            refused[calls.check_part(&case.part, &other, case.rank) as usize] += 1;
+            let (other_ranks, other_trees) = (random.number(1, 5), random.number(1, 9));
+            let other = cases::table(random, other_ranks as usize, other_trees);
+            let spoilt = cases::spoilt_table(random, other.clone());
+            for table in [other, spoilt] {
+                let table = bytes_of(&table);
+                refused[calls.check_part(&case.part, &table, case.rank) as usize] += 1;
+                calls.neighbour_of(&case.part, &table, case.rank, 0, 0);
+                calls.part_length(&case.mesh, &table, case.rank);
+                calls.cut_part(&case.mesh, &table, case.rank, &vec![3; case.part.len()]);
+            }
+        });
+    }
 }
 
 fn any_bytes(run: &mut Run) {
@@ -805,44 +812,46 @@ fn any_bytes(run: &mut Run) {
 
 fn any_data(run: &mut Run) {
     let mut answers = [0; 9];
-    run.cases(5_000, |random, calls| {
-        let trees = meshes::count(random).min(12);
-        let case = Case::random(random, trees);
-        let mut part = if random.chance(128) { several_fields(random, &case) } else { case.part.clone() };
-        let before = check_and_ask(calls, &part, &case, 0);
-        for local in 0..case.share().count() as usize {
-            let at = HEADER + TREE * local;
-            part[at + 40..at + 64].copy_from_slice(&random.bytes(24));
-        }
-        assert_eq!(check_and_ask(calls, &part, &case, 0), before);
-        answers[before as usize] += 1;
-    });
-    assert!(answers[0] > 1_000 && answers[8] > 500, "{answers:?}");
+    while run.lacks(answers[0] > 1_000 && answers[8] > 500, format_args!("{answers:?}")) {
+        run.cases(5_000, |random, calls| {
+            let trees = meshes::count(random).min(12);
+            let case = Case::random(random, trees);
+            let mut part = if random.chance(128) { several_fields(random, &case) } else { case.part.clone() };
+            let before = check_and_ask(calls, &part, &case, 0);
+            for local in 0..case.share().count() as usize {
+                let at = HEADER + TREE * local;
+                part[at + 40..at + 64].copy_from_slice(&random.bytes(24));
+            }
+            assert_eq!(check_and_ask(calls, &part, &case, 0), before);
+            answers[before as usize] += 1;
+        });
+    }
 }
 
 fn damaged_meshes(run: &mut Run) {
     let mut refused = [0; 8];
-    run.cases(10_000, |random, calls| {
-        let trees = meshes::count(random).min(12);
-        let case = Case::random(random, trees);
-        for at in 0..4 {
-            let damaged = match at {
-                0 | 1 => meshes::one_field(random, &case.mesh),
-                2 => meshes::several_fields(random, &case.mesh),
-                _ => case.mesh[..random.below(case.mesh.len() as u64) as usize].to_vec(),
-            };
-            let got = calls.part_length(&damaged, &case.table, case.rank);
-            let (cut, _) = calls.cut_part(&damaged, &case.table, case.rank, &vec![9; got.length as usize]);
-            assert_eq!(got, cut);
-            refused[got.refusal as usize] += 1;
-        }
-        // one tree more or less than the table's K
-        let other = if trees > 1 && random.chance(128) { trees - 1 } else { trees + 1 };
-        let mesh = meshes::sound(random, other);
-        assert_eq!(calls.part_length(&mesh, &case.table, case.rank).refusal, 7);
-        assert_eq!(calls.cut_part(&mesh, &case.table, case.rank, &[9; 40]).0.refusal, 7);
-    });
-    assert!(refused[0] > 1_000 && refused[7] > 1_000, "{refused:?}");
+    while run.lacks(refused[0] > 1_000 && refused[7] > 1_000, format_args!("{refused:?}")) {
+        run.cases(10_000, |random, calls| {
+            let trees = meshes::count(random).min(12);
+            let case = Case::random(random, trees);
+            for at in 0..4 {
+                let damaged = match at {
+                    0 | 1 => meshes::one_field(random, &case.mesh),
+                    2 => meshes::several_fields(random, &case.mesh),
+                    _ => case.mesh[..random.below(case.mesh.len() as u64) as usize].to_vec(),
+                };
+                let got = calls.part_length(&damaged, &case.table, case.rank);
+                let (cut, _) = calls.cut_part(&damaged, &case.table, case.rank, &vec![9; got.length as usize]);
+                assert_eq!(got, cut);
+                refused[got.refusal as usize] += 1;
+            }
+            // one tree more or less than the table's K
+            let other = if trees > 1 && random.chance(128) { trees - 1 } else { trees + 1 };
+            let mesh = meshes::sound(random, other);
+            assert_eq!(calls.part_length(&mesh, &case.table, case.rank).refusal, 7);
+            assert_eq!(calls.cut_part(&mesh, &case.table, case.rank, &[9; 40]).0.refusal, 7);
+        });
+    }
 }
 
 /// Each argument good or bad by itself: the smallest number of those that fail.
@@ -898,33 +907,34 @@ fn any_index(run: &mut Run) {
 
 fn lookups(run: &mut Run) {
     let mut which = [0; 3];
-    run.cases(40_000, |random, calls| {
-        // few numbers, so that they come twice and in both; a tail that would have the number
-        let numbers = random.pick(&[1, 2, 4, 30]);
-        let mut records = |size: usize| {
-            let length = size as u64 * random.below(6) + random.below(size as u64);
-            let mut bytes = random.bytes(length as usize);
-            for at in (0..bytes.len()).step_by(size) {
-                if at + 4 <= bytes.len() {
-                    put(&mut bytes, at, random.below(numbers) as u32);
+    while run.lacks(which.iter().all(|&number| number > 10_000), format_args!("{which:?}")) {
+        run.cases(40_000, |random, calls| {
+            // few numbers, so that they come twice and in both; a tail that would have the number
+            let numbers = random.pick(&[1, 2, 4, 30]);
+            let mut records = |size: usize| {
+                let length = size as u64 * random.below(6) + random.below(size as u64);
+                let mut bytes = random.bytes(length as usize);
+                for at in (0..bytes.len()).step_by(size) {
+                    if at + 4 <= bytes.len() {
+                        put(&mut bytes, at, random.below(numbers) as u32);
+                    }
                 }
+                bytes
+            };
+            let (trees, ghosts) = (records(TREE), records(GHOST));
+            for number in 0..numbers.min(5) as u32 {
+                which[calls.lookup(&trees, &ghosts, number).which as usize] += 1;
             }
-            bytes
-        };
-        let (trees, ghosts) = (records(TREE), records(GHOST));
-        for number in 0..numbers.min(5) as u32 {
-            which[calls.lookup(&trees, &ghosts, number).which as usize] += 1;
-        }
-        let number = cases::number(random);
-        calls.lookup(&trees, &ghosts, number);
-        calls.lookup(&ghosts, &trees, number);
-        let length = random.below(300) as usize;
-        let any = random.bytes(length);
-        let number = if any.len() > 3 { number_at(&any, 0) } else { 0 };
-        calls.lookup(&any, &trees, number);
-        calls.lookup(&trees, &any, number);
-    });
-    assert!(which.iter().all(|&number| number > 10_000), "{which:?}");
+            let number = cases::number(random);
+            calls.lookup(&trees, &ghosts, number);
+            calls.lookup(&ghosts, &trees, number);
+            let length = random.below(300) as usize;
+            let any = random.bytes(length);
+            let number = if any.len() > 3 { number_at(&any, 0) } else { 0 };
+            calls.lookup(&any, &trees, number);
+            calls.lookup(&trees, &any, number);
+        });
+    }
     // a single number that differs in one bit
     for bit in 0..32 {
         let mut record = vec![0; TREE];

@@ -235,24 +235,25 @@ fn both_sides(run: &mut Run) {
 
 fn each_buffer(run: &mut Run) {
     let mut short = 0;
-    run.cases(300, |random, calls| {
-        let (ranks, trees) = (random.number(1, 10), random.number(1, 30));
-        let old = cases::table(random, ranks as usize, trees);
-        let new = cases::table(random, ranks as usize, trees);
-        let mut tables = Tables::of(&old, &new);
-        for rank in 0..ranks {
-            for room in 0..=ranks as usize + 2 {
-                let before: Vec<u32> = (0..room).map(|_| random.next() as u32).collect();
-                let (send, _) = calls.send_set(&mut tables, rank, &before);
-                let (receive, _) = calls.receive_set(&mut tables, rank, &before);
-                for got in [send, receive] {
-                    assert!(got.refusal == 0 || got.refusal == 22 && room < ranks as usize);
-                    short += u32::from(got.refusal == 22);
+    while run.lacks(short > 1_000, format_args!("{short} too short")) {
+        run.cases(300, |random, calls| {
+            let (ranks, trees) = (random.number(1, 10), random.number(1, 30));
+            let old = cases::table(random, ranks as usize, trees);
+            let new = cases::table(random, ranks as usize, trees);
+            let mut tables = Tables::of(&old, &new);
+            for rank in 0..ranks {
+                for room in 0..=ranks as usize + 2 {
+                    let before: Vec<u32> = (0..room).map(|_| random.next() as u32).collect();
+                    let (send, _) = calls.send_set(&mut tables, rank, &before);
+                    let (receive, _) = calls.receive_set(&mut tables, rank, &before);
+                    for got in [send, receive] {
+                        assert!(got.refusal == 0 || got.refusal == 22 && room < ranks as usize);
+                        short += u32::from(got.refusal == 22);
+                    }
                 }
             }
-        }
-    });
-    assert!(short > 1_000, "{short} too short");
+        });
+    }
 }
 
 const SMALL_PAIRS: [(&[i64], &[i64]); 4] = [
@@ -337,26 +338,27 @@ fn out_of_range(run: &mut Run) {
 
 fn other_tables(run: &mut Run) {
     let mut differed = 0;
-    run.cases(10_000, |random, calls| {
-        let (ranks, trees) = (random.number(1, 4), random.number(1, 4));
-        let (other_ranks, other_trees) = (random.number(1, 4), random.number(1, 4));
-        let mut old = cases::table(random, ranks as usize, trees);
-        let mut new = cases::table(random, other_ranks as usize, other_trees);
-        if random.chance(32) {
-            old = cases::spoilt_table(random, old);
-        }
-        if random.chance(32) {
-            new = cases::spoilt_table(random, new);
-        }
-        let mut tables = Tables::of(&old, &new);
-        let (a, b) = (random.number(0, 4), random.number(0, 4));
-        differed += u32::from(calls.sender_of(&mut tables, a, b).refusal == 4);
-        calls.trees_sent(&mut tables, a, b);
-        let room = random.below(5) as usize;
-        calls.send_set(&mut tables, a, &vec![8; room]);
-        calls.receive_set(&mut tables, b, &vec![8; room]);
-    });
-    assert!(differed > 3_000, "{differed} differed");
+    while run.lacks(differed > 3_000, format_args!("{differed} differed")) {
+        run.cases(10_000, |random, calls| {
+            let (ranks, trees) = (random.number(1, 4), random.number(1, 4));
+            let (other_ranks, other_trees) = (random.number(1, 4), random.number(1, 4));
+            let mut old = cases::table(random, ranks as usize, trees);
+            let mut new = cases::table(random, other_ranks as usize, other_trees);
+            if random.chance(32) {
+                old = cases::spoilt_table(random, old);
+            }
+            if random.chance(32) {
+                new = cases::spoilt_table(random, new);
+            }
+            let mut tables = Tables::of(&old, &new);
+            let (a, b) = (random.number(0, 4), random.number(0, 4));
+            differed += u32::from(calls.sender_of(&mut tables, a, b).refusal == 4);
+            calls.trees_sent(&mut tables, a, b);
+            let room = random.below(5) as usize;
+            calls.send_set(&mut tables, a, &vec![8; room]);
+            calls.receive_set(&mut tables, b, &vec![8; room]);
+        });
+    }
 }
 
 /// A null pointer with count 0 is an empty list: the answers are those of the checks.

@@ -367,33 +367,36 @@ fn random_part(random: &mut Random) -> (Vec<u8>, Vec<u8>, u32) {
 
 fn random_parts(run: &mut Run) {
     let (mut some, mut all, mut dimensions) = (0, 0, [0; 2]);
-    run.cases(2_000, |random, calls| {
-        let (mut part, table, rank) = random_part(random);
-        fill_boxes(random, &mut part);
-        let n = number_at(&part, 20) as usize;
-        dimensions[number_at(&part, 0) as usize - 2] += 1;
-        for _ in 0..10 {
-            let probe = if random.chance(40) { spoilt_probe(random) } else { some_probe(random) };
-            let mut part = part.clone();
-            if n > 0 && random.chance(24) {
-                let tree = random.below(n as u64) as usize;
-                put(&mut part, HEADER + TREE * tree + 40 + 4 * random.below(6) as usize, random.pick(&values()));
+    while run.lacks(
+        some > 1_000 && all > 300 && dimensions.iter().all(|&parts| parts > 500),
+        format_args!("{some} times some of the trees, {all} times all"),
+    ) {
+        run.cases(2_000, |random, calls| {
+            let (mut part, table, rank) = random_part(random);
+            fill_boxes(random, &mut part);
+            let n = number_at(&part, 20) as usize;
+            dimensions[number_at(&part, 0) as usize - 2] += 1;
+            for _ in 0..10 {
+                let probe = if random.chance(40) { spoilt_probe(random) } else { some_probe(random) };
+                let mut part = part.clone();
+                if n > 0 && random.chance(24) {
+                    let tree = random.below(n as u64) as usize;
+                    put(&mut part, HEADER + TREE * tree + 40 + 4 * random.below(6) as usize, random.pick(&values()));
+                }
+                let room = random.pick(&[0, 1, n / 2, n, n + 3]);
+                let before: Vec<u32> = (0..room).map(|_| random.next() as u32).collect();
+                let (got, _) = calls.trees_near(&part, &table, rank, probe, &before);
+                if got.refusal == 22 {
+                    // as many as there are, and one short
+                    let met = near(&part, &table, rank, probe, n).unwrap().len();
+                    assert_eq!(calls.trees_near(&part, &table, rank, probe, &vec![9; met]).0.refusal, 0);
+                    assert_eq!(calls.trees_near(&part, &table, rank, probe, &vec![9; met - 1]).0.refusal, 22);
+                }
+                some += u32::from(got.count > 0 && (got.count as usize) < n);
+                all += u32::from(got.count > 1 && got.count as usize == n);
             }
-            let room = random.pick(&[0, 1, n / 2, n, n + 3]);
-            let before: Vec<u32> = (0..room).map(|_| random.next() as u32).collect();
-            let (got, _) = calls.trees_near(&part, &table, rank, probe, &before);
-            if got.refusal == 22 {
-                // as many as there are, and one short
-                let met = near(&part, &table, rank, probe, n).unwrap().len();
-                assert_eq!(calls.trees_near(&part, &table, rank, probe, &vec![9; met]).0.refusal, 0);
-                assert_eq!(calls.trees_near(&part, &table, rank, probe, &vec![9; met - 1]).0.refusal, 22);
-            }
-            some += u32::from(got.count > 0 && (got.count as usize) < n);
-            all += u32::from(got.count > 1 && got.count as usize == n);
-        }
-    });
-    assert!(some > 1_000 && all > 300, "{some} times some of the trees, {all} times all");
-    assert!(dimensions.iter().all(|&parts| parts > 500), "{dimensions:?} parts of each dimension");
+        });
+    }
 }
 
 fn any_bits(run: &mut Run) {
@@ -409,25 +412,26 @@ fn any_bits(run: &mut Run) {
 
 fn slabs(run: &mut Run) {
     let mut met = 0;
-    run.cases(500, |random, calls| {
-        let (mut part, table, rank) = random_part(random);
-        fill_boxes(random, &mut part);
-        let at = [(); 3].map(|()| some_number(random));
-        let mut listed = |probe| {
-            let (got, list) = calls.trees_near(&part, &table, rank, probe, &[0; 60]);
-            assert_eq!(got.refusal, 0);
-            list[..got.count as usize].to_vec()
-        };
-        let point = listed(Point(at));
-        let slabs = [0, 1, 2].map(|axis| listed(Slab(axis as u32, at[axis], at[axis])));
-        let in_all: Vec<u32> =
-            slabs[0].iter().copied().filter(|tree| slabs[1].contains(tree) && slabs[2].contains(tree)).collect();
-        assert_eq!(point, in_all);
-        let below = listed(HalfSpace(1, at[1]));
-        assert_eq!(below, listed(Slab(1, MINUS_INFINITY, at[1])));
-        met += point.len();
-    });
-    assert!(met > 100, "{met} trees at points");
+    while run.lacks(met > 100, format_args!("{met} trees at points")) {
+        run.cases(500, |random, calls| {
+            let (mut part, table, rank) = random_part(random);
+            fill_boxes(random, &mut part);
+            let at = [(); 3].map(|()| some_number(random));
+            let mut listed = |probe| {
+                let (got, list) = calls.trees_near(&part, &table, rank, probe, &[0; 60]);
+                assert_eq!(got.refusal, 0);
+                list[..got.count as usize].to_vec()
+            };
+            let point = listed(Point(at));
+            let slabs = [0, 1, 2].map(|axis| listed(Slab(axis as u32, at[axis], at[axis])));
+            let in_all: Vec<u32> =
+                slabs[0].iter().copied().filter(|tree| slabs[1].contains(tree) && slabs[2].contains(tree)).collect();
+            assert_eq!(point, in_all);
+            let below = listed(HalfSpace(1, at[1]));
+            assert_eq!(below, listed(Slab(1, MINUS_INFINITY, at[1])));
+            met += point.len();
+        });
+    }
 }
 
 fn by_hand(run: &mut Run) {

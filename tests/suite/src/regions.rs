@@ -138,48 +138,49 @@ fn limits(run: &mut Run) {
 
 fn kept(run: &mut Run) {
     let mut differ = 0;
-    run.cases(300, |random, calls| {
-        let trees = meshes::count(random).min(12);
-        let mut case = Case::random(random, trees, 3);
-        for tree in 0..trees {
-            let value = random.below(REGIONS as u64) as u16;
-            case.mesh[region_at(place(tree))].copy_from_slice(&value.to_le_bytes());
-        }
-        assert_eq!(calls.check_mesh(&case.mesh), 0);
-        let of_tree = |number: u32| region(&case.mesh, place(number as usize));
-        for tree in 0..trees as u32 {
-            let met = meshes::record(&case.mesh, tree as usize);
-            differ += met.met().iter().filter(|&&other| of_tree(other) != of_tree(tree)).count();
-        }
-        let tables = Tables::new(&case.old, &case.new);
-        for rank in 0..3 {
-            let dimension = number_at(&case.mesh, 0);
-            let length = calls.area_length(&tables, rank, dimension).length as usize;
-            let (_, mut area) = calls.open_area(&tables, rank, dimension, case.epoch, &vec![0; length]);
-            for sender in 0..3 {
-                let length = calls.part_length(&case.mesh, &case.old, sender).length as usize;
-                let (_, part) = calls.cut_part(&case.mesh, &case.old, sender, &vec![0; length]);
-                let length = calls.message_length(&part, &tables, [sender, rank]);
-                if length.refusal == 9 {
-                    continue;
+    while run.lacks(differ > 1_000, format_args!("{differ} links between different regions")) {
+        run.cases(300, |random, calls| {
+            let trees = meshes::count(random).min(12);
+            let mut case = Case::random(random, trees, 3);
+            for tree in 0..trees {
+                let value = random.below(REGIONS as u64) as u16;
+                case.mesh[region_at(place(tree))].copy_from_slice(&value.to_le_bytes());
+            }
+            assert_eq!(calls.check_mesh(&case.mesh), 0);
+            let of_tree = |number: u32| region(&case.mesh, place(number as usize));
+            for tree in 0..trees as u32 {
+                let met = meshes::record(&case.mesh, tree as usize);
+                differ += met.met().iter().filter(|&&other| of_tree(other) != of_tree(tree)).count();
+            }
+            let tables = Tables::new(&case.old, &case.new);
+            for rank in 0..3 {
+                let dimension = number_at(&case.mesh, 0);
+                let length = calls.area_length(&tables, rank, dimension).length as usize;
+                let (_, mut area) = calls.open_area(&tables, rank, dimension, case.epoch, &vec![0; length]);
+                for sender in 0..3 {
+                    let length = calls.part_length(&case.mesh, &case.old, sender).length as usize;
+                    let (_, part) = calls.cut_part(&case.mesh, &case.old, sender, &vec![0; length]);
+                    let length = calls.message_length(&part, &tables, [sender, rank]);
+                    if length.refusal == 9 {
+                        continue;
+                    }
+                    let room = vec![0; length.length as usize];
+                    let (_, message) = calls.build_message(&part, &tables, [sender, rank], case.epoch, &room);
+                    let (got, after) = calls.deliver(&area, &message);
+                    assert_eq!(got, 0);
+                    area = after;
                 }
-                let room = vec![0; length.length as usize];
-                let (_, message) = calls.build_message(&part, &tables, [sender, rank], case.epoch, &room);
-                let (got, after) = calls.deliver(&area, &message);
-                assert_eq!(got, 0);
-                area = after;
+                let length = calls.part_of_area_length(&area);
+                assert_eq!(length.refusal, 0);
+                let (_, part) = calls.close_area(&area, &vec![0; length.length as usize]);
+                let (n, g) = (number_at(&part, 20) as usize, number_at(&part, 24) as usize);
+                let records = (0..n).map(|at| HEADER + TREE * at).chain((0..g).map(|at| HEADER + TREE * n + 40 * at));
+                for record in records {
+                    assert_eq!(region(&part, record), of_tree(number_at(&part, record)));
+                }
             }
-            let length = calls.part_of_area_length(&area);
-            assert_eq!(length.refusal, 0);
-            let (_, part) = calls.close_area(&area, &vec![0; length.length as usize]);
-            let (n, g) = (number_at(&part, 20) as usize, number_at(&part, 24) as usize);
-            let records = (0..n).map(|at| HEADER + TREE * at).chain((0..g).map(|at| HEADER + TREE * n + 40 * at));
-            for record in records {
-                assert_eq!(region(&part, record), of_tree(number_at(&part, record)));
-            }
-        }
-    });
-    assert!(differ > 1_000, "{differ} links between different regions");
+        });
+    }
 }
 
 /// What the release before regions wrote for the document's triangles: the part of rank 1 under the old table, and its
@@ -221,27 +222,28 @@ fn saved(run: &mut Run) {
 
 fn counts(run: &mut Run) {
     let mut many = 0;
-    run.cases(400, |random, calls| {
-        let trees = meshes::count(random);
-        let mut mesh = meshes::sound(random, trees);
-        let some: Vec<u16> = (0..random.pick(&[1, 2, 5])).map(|_| random.below(REGIONS as u64) as u16).collect();
-        for tree in 0..trees {
-            mesh[region_at(place(tree))].copy_from_slice(&random.pick(&some).to_le_bytes());
-        }
-        let ranks = random.number(1, 4);
-        let table = bytes_of(&cases::table(random, ranks as usize, trees as u32));
-        for rank in 0..ranks {
-            let length = calls.part_length(&mesh, &table, rank).length as usize;
-            let (_, part) = calls.cut_part(&mesh, &table, rank, &vec![0; length]);
-            let room = random.pick(&[REGIONS, REGIONS + 1, REGIONS + 300]);
-            let before: Vec<u32> = (0..room).map(|_| random.next() as u32).collect();
-            let (got, after) = calls.region_counts(&part, &table, rank, &before);
-            assert_eq!(got, 0);
-            assert_eq!(after[..REGIONS].iter().sum::<u32>(), number_at(&part, 20));
-            many += u32::from(after[..REGIONS].iter().any(|&count| count > 5));
-        }
-    });
-    assert!(many > 50, "{many} parts with many trees of one region");
+    while run.lacks(many > 50, format_args!("{many} parts with many trees of one region")) {
+        run.cases(400, |random, calls| {
+            let trees = meshes::count(random);
+            let mut mesh = meshes::sound(random, trees);
+            let some: Vec<u16> = (0..random.pick(&[1, 2, 5])).map(|_| random.below(REGIONS as u64) as u16).collect();
+            for tree in 0..trees {
+                mesh[region_at(place(tree))].copy_from_slice(&random.pick(&some).to_le_bytes());
+            }
+            let ranks = random.number(1, 4);
+            let table = bytes_of(&cases::table(random, ranks as usize, trees as u32));
+            for rank in 0..ranks {
+                let length = calls.part_length(&mesh, &table, rank).length as usize;
+                let (_, part) = calls.cut_part(&mesh, &table, rank, &vec![0; length]);
+                let room = random.pick(&[REGIONS, REGIONS + 1, REGIONS + 300]);
+                let before: Vec<u32> = (0..room).map(|_| random.next() as u32).collect();
+                let (got, after) = calls.region_counts(&part, &table, rank, &before);
+                assert_eq!(got, 0);
+                assert_eq!(after[..REGIONS].iter().sum::<u32>(), number_at(&part, 20));
+                many += u32::from(after[..REGIONS].iter().any(|&count| count > 5));
+            }
+        });
+    }
 }
 
 fn refusals(run: &mut Run) {

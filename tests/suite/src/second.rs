@@ -271,113 +271,119 @@ fn message_by_mesh(case: &Case, p: u32, q: u32) -> Option<Vec<u8>> {
 
 fn once(run: &mut Run) {
     let (mut ghosts_sent, mut kept) = (0, 0);
-    run.cases(300, |random, _| {
-        let (trees, ranks) = (meshes::count(random).min(20), random.number(1, 6) as usize);
-        let case = Case::random(random, trees, ranks);
-        let messages = case.messages();
-        for q in 0..ranks as u32 {
-            let part = case.new_part(q);
-            let part = Part::decode(&part, &Share::new(&case.new, q).unwrap());
-            let (mut came, mut ghosts_came): (Vec<u32>, Vec<u32>) = (Vec::new(), Vec::new());
-            for p in 0..ranks as u32 {
-                assert_eq!(messages.get(&[p, q]), message_by_mesh(&case, p, q).as_ref(), "{p} to {q}");
-                if let Some(message) = messages.get(&[p, q]) {
-                    let message = Message::decode(message).expect("in layout");
-                    came.extend(message.records.iter().map(|tree| tree.record.number));
-                    ghosts_came.extend(message.ghosts.iter().map(|ghost| ghost.number));
-                    ghosts_sent += message.ghosts.len();
-                    kept += u32::from(p == q && !message.ghosts.is_empty());
+    while run.lacks(ghosts_sent > 1_000 && kept > 100, format_args!("{ghosts_sent} ghosts, {kept} kept")) {
+        run.cases(300, |random, _| {
+            let (trees, ranks) = (meshes::count(random).min(20), random.number(1, 6) as usize);
+            let case = Case::random(random, trees, ranks);
+            let messages = case.messages();
+            for q in 0..ranks as u32 {
+                let part = case.new_part(q);
+                let part = Part::decode(&part, &Share::new(&case.new, q).unwrap());
+                let (mut came, mut ghosts_came): (Vec<u32>, Vec<u32>) = (Vec::new(), Vec::new());
+                for p in 0..ranks as u32 {
+                    assert_eq!(messages.get(&[p, q]), message_by_mesh(&case, p, q).as_ref(), "{p} to {q}");
+                    if let Some(message) = messages.get(&[p, q]) {
+                        let message = Message::decode(message).expect("in layout");
+                        came.extend(message.records.iter().map(|tree| tree.record.number));
+                        ghosts_came.extend(message.ghosts.iter().map(|ghost| ghost.number));
+                        ghosts_sent += message.ghosts.len();
+                        kept += u32::from(p == q && !message.ghosts.is_empty());
+                    }
                 }
+                came.sort_unstable();
+                ghosts_came.sort_unstable();
+                assert_eq!(came, part.trees.iter().map(|tree| tree.record.number).collect::<Vec<u32>>());
+                assert_eq!(ghosts_came, part.ghosts.iter().map(|ghost| ghost.number).collect::<Vec<u32>>());
             }
-            came.sort_unstable();
-            ghosts_came.sort_unstable();
-            assert_eq!(came, part.trees.iter().map(|tree| tree.record.number).collect::<Vec<u32>>());
-            assert_eq!(ghosts_came, part.ghosts.iter().map(|ghost| ghost.number).collect::<Vec<u32>>());
-        }
-    });
-    assert!(ghosts_sent > 1_000 && kept > 100, "{ghosts_sent} ghosts, {kept} kept");
+        });
+    }
 }
 
 /// Whatever the order, the area is that of the heard set: each state is reached from each that lacks one sender.
 fn orders(run: &mut Run) {
     let mut of_senders = [0; 6];
-    run.cases(1_500, |random, _| {
-        let ranks = random.number(1, 6) as usize;
-        let trees = meshes::count(random).min(12);
-        let case = if random.chance(128) { Case::gathering(random) } else { Case::random(random, trees, ranks) };
-        let messages = case.messages();
-        for q in 0..case.ranks() {
-            let mine: Vec<(u32, &Vec<u8>)> =
-                messages.iter().filter(|(ends, _)| ends[1] == q).map(|(ends, message)| (ends[0], message)).collect();
-            if mine.len() > 5 {
-                continue;
-            }
-            of_senders[mine.len()] += 1;
-            let mut areas: Vec<Option<Vec<u8>>> = vec![None; 1 << mine.len()];
-            areas[0] = Some(case.fresh(q));
-            for heard in 0..areas.len() {
-                let area = areas[heard].clone().expect("reached from a smaller one");
-                let senders = heard.count_ones();
-                assert_eq!(progress(&area), Ok((senders, mine.len() as u32)));
-                let all = heard == areas.len() - 1;
-                assert_eq!(close_area(&area, None), if all { Ok(case.new_part(q)) } else { Err(20) });
-                for (at, (_, message)) in mine.iter().enumerate() {
-                    let got = deliver(&area, message);
-                    if heard >> at & 1 == 1 {
-                        assert_eq!(got, Err(15));
-                        continue;
-                    }
-                    let next = &mut areas[heard | 1 << at];
-                    match next {
-                        Some(next) => assert_eq!(got.as_ref(), Ok(&*next), "heard {heard:b}, then {at}"),
-                        None => *next = Some(got.expect("a first delivery")),
+    while run.lacks(of_senders.iter().all(|&number| number > 20), format_args!("{of_senders:?}")) {
+        run.cases(1_500, |random, _| {
+            let ranks = random.number(1, 6) as usize;
+            let trees = meshes::count(random).min(12);
+            let case = if random.chance(128) { Case::gathering(random) } else { Case::random(random, trees, ranks) };
+            let messages = case.messages();
+            for q in 0..case.ranks() {
+                let mine: Vec<(u32, &Vec<u8>)> = messages
+                    .iter()
+                    .filter(|(ends, _)| ends[1] == q)
+                    .map(|(ends, message)| (ends[0], message))
+                    .collect();
+                if mine.len() > 5 {
+                    continue;
+                }
+                of_senders[mine.len()] += 1;
+                let mut areas: Vec<Option<Vec<u8>>> = vec![None; 1 << mine.len()];
+                areas[0] = Some(case.fresh(q));
+                for heard in 0..areas.len() {
+                    let area = areas[heard].clone().expect("reached from a smaller one");
+                    let senders = heard.count_ones();
+                    assert_eq!(progress(&area), Ok((senders, mine.len() as u32)));
+                    let all = heard == areas.len() - 1;
+                    assert_eq!(close_area(&area, None), if all { Ok(case.new_part(q)) } else { Err(20) });
+                    for (at, (_, message)) in mine.iter().enumerate() {
+                        let got = deliver(&area, message);
+                        if heard >> at & 1 == 1 {
+                            assert_eq!(got, Err(15));
+                            continue;
+                        }
+                        let next = &mut areas[heard | 1 << at];
+                        match next {
+                            Some(next) => assert_eq!(got.as_ref(), Ok(&*next), "heard {heard:b}, then {at}"),
+                            None => *next = Some(got.expect("a first delivery")),
+                        }
                     }
                 }
             }
-        }
-    });
-    assert!(of_senders.iter().all(|&number| number > 20), "{of_senders:?}");
+        });
+    }
 }
 
 /// Lists of calls in every order, with a repeat, a stray and a close between any two of them.
 fn lists(run: &mut Run) {
     let mut closed = 0;
-    run.cases(200, |random, _| {
-        let case = Case::gathering(random);
-        let messages = case.messages();
-        for q in 0..case.ranks() {
-            let mine: Vec<&Vec<u8>> =
-                messages.iter().filter(|(ends, _)| ends[1] == q).map(|(_, message)| message).collect();
-            let strays: Vec<&Vec<u8>> =
-                messages.iter().filter(|(ends, _)| ends[1] != q).map(|(_, message)| message).collect();
-            if mine.len() > 4 {
-                continue;
-            }
-            let part = case.new_part(q);
-            let mut ends = BTreeSet::new();
-            for order in permutations(mine.len()) {
-                let mut area = case.fresh(q);
-                for (at, &next) in order.iter().enumerate() {
-                    assert_eq!(close_area(&area, Some(random.below(9) as usize)), Err(20));
-                    if at > 0 {
-                        let again = random.pick(&order[..at]);
-                        assert_eq!(deliver(&area, mine[again]), Err(15));
-                    }
-                    if !strays.is_empty() {
-                        let stray: &Vec<u8> = random.pick(&strays);
-                        assert_eq!(deliver(&area, stray), Err(13));
-                    }
-                    area = deliver(&area, mine[next]).expect("a first delivery");
+    while run.lacks(closed > 500, format_args!("{closed} closed")) {
+        run.cases(200, |random, _| {
+            let case = Case::gathering(random);
+            let messages = case.messages();
+            for q in 0..case.ranks() {
+                let mine: Vec<&Vec<u8>> =
+                    messages.iter().filter(|(ends, _)| ends[1] == q).map(|(_, message)| message).collect();
+                let strays: Vec<&Vec<u8>> =
+                    messages.iter().filter(|(ends, _)| ends[1] != q).map(|(_, message)| message).collect();
+                if mine.len() > 4 {
+                    continue;
                 }
-                assert_eq!(close_area(&area, Some(part.len() - 1)), Err(22));
-                assert_eq!(close_area(&area, Some(part.len())), Ok(part.clone()));
-                closed += 1;
-                ends.insert(area);
+                let part = case.new_part(q);
+                let mut ends = BTreeSet::new();
+                for order in permutations(mine.len()) {
+                    let mut area = case.fresh(q);
+                    for (at, &next) in order.iter().enumerate() {
+                        assert_eq!(close_area(&area, Some(random.below(9) as usize)), Err(20));
+                        if at > 0 {
+                            let again = random.pick(&order[..at]);
+                            assert_eq!(deliver(&area, mine[again]), Err(15));
+                        }
+                        if !strays.is_empty() {
+                            let stray: &Vec<u8> = random.pick(&strays);
+                            assert_eq!(deliver(&area, stray), Err(13));
+                        }
+                        area = deliver(&area, mine[next]).expect("a first delivery");
+                    }
+                    assert_eq!(close_area(&area, Some(part.len() - 1)), Err(22));
+                    assert_eq!(close_area(&area, Some(part.len())), Ok(part.clone()));
+                    closed += 1;
+                    ends.insert(area);
+                }
+                assert_eq!(ends.len(), 1);
             }
-            assert_eq!(ends.len(), 1);
-        }
-    });
-    assert!(closed > 500, "{closed} closed");
+        });
+    }
 }
 
 /// What the later checks say of crafted areas and messages.

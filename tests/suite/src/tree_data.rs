@@ -90,30 +90,31 @@ fn same_message(
 
 fn unsent(run: &mut Run) {
     let (mut hidden_of_built, mut shown) = (0, 0);
-    run.cases(400, |random, calls| {
-        let case = any_case(random, 24);
-        let tables = Tables::new(&case.old, &case.new);
-        let pair = Pair::new(&case.old, &case.new).expect("two tables of a case");
-        for p in 0..case.ranks() {
-            let room = calls.part_length(&case.mesh, &case.old, p).length as usize;
-            let (_, part) = calls.cut_part(&case.mesh, &case.old, p, &vec![0; room]);
-            for q in 0..case.ranks() {
-                let sends = |k: u32| pair.sender(k, q) == Some(p);
-                let (other, hidden) = other_part(random, &part, |k| !sends(k));
-                assert_eq!(hidden > 0, other != part);
-                let (got, _) = same_message(random, calls, [&part, &other], &tables, [p, q], case.epoch);
-                hidden_of_built += if got.refusal == 0 { hidden } else { 0 };
-                // what is sent shows, so the calls read the part that they are given
-                let (sent, trees) = other_part(random, &part, sends);
-                let room = vec![0; calls.message_length(&part, &tables, [p, q]).length as usize];
-                let both = [&part, &sent].map(|part| calls.build_message(part, &tables, [p, q], case.epoch, &room));
-                assert_eq!(both[0].0, both[1].0);
-                assert_eq!(trees > 0, both[0].1 != both[1].1);
-                shown += trees;
+    while run.lacks(hidden_of_built > 1_000 && shown > 1_000, format_args!("{hidden_of_built}, {shown}")) {
+        run.cases(400, |random, calls| {
+            let case = any_case(random, 24);
+            let tables = Tables::new(&case.old, &case.new);
+            let pair = Pair::new(&case.old, &case.new).expect("two tables of a case");
+            for p in 0..case.ranks() {
+                let room = calls.part_length(&case.mesh, &case.old, p).length as usize;
+                let (_, part) = calls.cut_part(&case.mesh, &case.old, p, &vec![0; room]);
+                for q in 0..case.ranks() {
+                    let sends = |k: u32| pair.sender(k, q) == Some(p);
+                    let (other, hidden) = other_part(random, &part, |k| !sends(k));
+                    assert_eq!(hidden > 0, other != part);
+                    let (got, _) = same_message(random, calls, [&part, &other], &tables, [p, q], case.epoch);
+                    hidden_of_built += if got.refusal == 0 { hidden } else { 0 };
+                    // what is sent shows, so the calls read the part that they are given
+                    let (sent, trees) = other_part(random, &part, sends);
+                    let room = vec![0; calls.message_length(&part, &tables, [p, q]).length as usize];
+                    let both = [&part, &sent].map(|part| calls.build_message(part, &tables, [p, q], case.epoch, &room));
+                    assert_eq!(both[0].0, both[1].0);
+                    assert_eq!(trees > 0, both[0].1 != both[1].1);
+                    shown += trees;
+                }
             }
-        }
-    });
-    assert!(hidden_of_built > 1_000 && shown > 1_000, "{hidden_of_built}, {shown}");
+        });
+    }
 }
 
 fn unsent_refused(run: &mut Run) {
@@ -155,35 +156,36 @@ fn unsent_refused(run: &mut Run) {
 
 fn unread(run: &mut Run) {
     let mut changed = 0;
-    run.cases(400, |random, calls| {
-        let trees = meshes::count(random).min(12);
-        let case = part::Case::random(random, trees);
-        let one = if random.chance(128) { case.part.clone() } else { part::one_field(random, &case) };
-        let (other, trees_changed) = other_part(random, &one, |_| true);
-        changed += trees_changed;
-        let (table, rank) = (&case.table, case.rank);
-        assert_eq!(calls.check_part(&one, table, rank), calls.check_part(&other, table, rank));
-        let count = Share::new(table, rank).expect("a rank of the table").count();
-        for local in 0..count + 1 {
-            for face in 0..7 {
-                let both = [&one, &other].map(|part| calls.neighbour_of(part, table, rank, local, face));
+    while run.lacks(changed > 500, format_args!("{changed}")) {
+        run.cases(400, |random, calls| {
+            let trees = meshes::count(random).min(12);
+            let case = part::Case::random(random, trees);
+            let one = if random.chance(128) { case.part.clone() } else { part::one_field(random, &case) };
+            let (other, trees_changed) = other_part(random, &one, |_| true);
+            changed += trees_changed;
+            let (table, rank) = (&case.table, case.rank);
+            assert_eq!(calls.check_part(&one, table, rank), calls.check_part(&other, table, rank));
+            let count = Share::new(table, rank).expect("a rank of the table").count();
+            for local in 0..count + 1 {
+                for face in 0..7 {
+                    let both = [&one, &other].map(|part| calls.neighbour_of(part, table, rank, local, face));
+                    assert_eq!(both[0], both[1]);
+                }
+            }
+            let both = [&one, &other].map(|part| calls.region_counts(part, table, rank, &[7; REGIONS + 1]));
+            assert_eq!(both[0], both[1]);
+            let ranks = case.share().ranks;
+            let new = bytes_of(&cases::table(random, ranks as usize, trees as u32));
+            let tables = Tables::new(table, &new);
+            for q in 0..ranks {
+                let length = calls.message_length(&one, &tables, [rank, q]);
+                assert_eq!(calls.message_length(&other, &tables, [rank, q]), length);
+                let before = buffer(random, length.length);
+                let both = [&one, &other].map(|part| calls.build_message(part, &tables, [rank, q], 3, &before).0);
                 assert_eq!(both[0], both[1]);
             }
-        }
-        let both = [&one, &other].map(|part| calls.region_counts(part, table, rank, &[7; REGIONS + 1]));
-        assert_eq!(both[0], both[1]);
-        let ranks = case.share().ranks;
-        let new = bytes_of(&cases::table(random, ranks as usize, trees as u32));
-        let tables = Tables::new(table, &new);
-        for q in 0..ranks {
-            let length = calls.message_length(&one, &tables, [rank, q]);
-            assert_eq!(calls.message_length(&other, &tables, [rank, q]), length);
-            let before = buffer(random, length.length);
-            let both = [&one, &other].map(|part| calls.build_message(part, &tables, [rank, q], 3, &before).0);
-            assert_eq!(both[0], both[1]);
-        }
-    });
-    assert!(changed > 500, "{changed}");
+        });
+    }
 }
 
 /// What a rank builds, through the C interface, from its part of a mesh.
@@ -206,53 +208,54 @@ fn built(calls: &mut Calls, case: &Case, mesh: &[u8]) -> BTreeMap<[u32; 2], Vec<
 
 fn outside(run: &mut Run) {
     let (mut closed, mut strays, mut hidden) = (0, 0, 0);
-    run.cases(500, |random, calls| {
-        let case = any_case(random, 16);
-        let q = random.number(0, case.ranks() - 1);
-        let share = Share::new(&case.new, q).expect("a rank of the table");
-        let mut mesh = case.mesh.clone();
-        for tree in (0..meshes::trees(&mesh)).filter(|&tree| !share.holds(tree as u32)) {
-            change(random, &mut mesh, place(tree));
-            hidden += 1;
-        }
-        assert_eq!(calls.check_mesh(&mesh), 0);
-        let messages = built(calls, &case, &case.mesh);
-        let others = built(calls, &case, &mesh);
-        assert!(messages.keys().eq(others.keys()));
-        assert!(messages.iter().all(|(ends, message)| ends[1] != q || *message == others[ends]));
-        // both in the same buffer, which is longer than the area
-        let tables = Tables::new(&case.old, &case.new);
-        let length = calls.area_length(&tables, q, case.dimension()).length as usize;
-        let tail = random.pick(&[0, 1, 64]);
-        let before = random.bytes(length + tail);
-        let mut areas = [(); 2].map(|()| calls.open_area(&tables, q, case.dimension(), case.epoch, &before));
-        let ends: Vec<[u32; 2]> = messages.keys().copied().collect();
-        let for_q: Vec<[u32; 2]> = ends.iter().copied().filter(|ends| ends[1] == q).collect();
-        for _ in 0..random.below(3 * ends.len() as u64 + 2) {
-            assert_eq!(areas[0], areas[1]);
-            if random.chance(64) {
-                let room = random.below(600) as usize;
-                let out = random.bytes(room);
-                let both = [0, 1].map(|at| calls.close_area(&areas[at].1, &out));
-                assert_eq!(both[0], both[1]);
-                continue;
+    while run.lacks(closed > 50 && strays > 100 && hidden > 500, format_args!("{closed}, {strays}, {hidden}")) {
+        run.cases(500, |random, calls| {
+            let case = any_case(random, 16);
+            let q = random.number(0, case.ranks() - 1);
+            let share = Share::new(&case.new, q).expect("a rank of the table");
+            let mut mesh = case.mesh.clone();
+            for tree in (0..meshes::trees(&mesh)).filter(|&tree| !share.holds(tree as u32)) {
+                change(random, &mut mesh, place(tree));
+                hidden += 1;
             }
-            let ends = if for_q.is_empty() || random.chance(80) { random.pick(&ends) } else { random.pick(&for_q) };
-            let [one, other] = [&messages, &others].map(|messages| &messages[&ends]);
-            strays += u64::from(one != other);
-            let both = [calls.deliver(&areas[0].1, one), calls.deliver(&areas[1].1, other)];
+            assert_eq!(calls.check_mesh(&mesh), 0);
+            let messages = built(calls, &case, &case.mesh);
+            let others = built(calls, &case, &mesh);
+            assert!(messages.keys().eq(others.keys()));
+            assert!(messages.iter().all(|(ends, message)| ends[1] != q || *message == others[ends]));
+            // both in the same buffer, which is longer than the area
+            let tables = Tables::new(&case.old, &case.new);
+            let length = calls.area_length(&tables, q, case.dimension()).length as usize;
+            let tail = random.pick(&[0, 1, 64]);
+            let before = random.bytes(length + tail);
+            let mut areas = [(); 2].map(|()| calls.open_area(&tables, q, case.dimension(), case.epoch, &before));
+            let ends: Vec<[u32; 2]> = messages.keys().copied().collect();
+            let for_q: Vec<[u32; 2]> = ends.iter().copied().filter(|ends| ends[1] == q).collect();
+            for _ in 0..random.below(3 * ends.len() as u64 + 2) {
+                assert_eq!(areas[0], areas[1]);
+                if random.chance(64) {
+                    let room = random.below(600) as usize;
+                    let out = random.bytes(room);
+                    let both = [0, 1].map(|at| calls.close_area(&areas[at].1, &out));
+                    assert_eq!(both[0], both[1]);
+                    continue;
+                }
+                let ends = if for_q.is_empty() || random.chance(80) { random.pick(&ends) } else { random.pick(&for_q) };
+                let [one, other] = [&messages, &others].map(|messages| &messages[&ends]);
+                strays += u64::from(one != other);
+                let both = [calls.deliver(&areas[0].1, one), calls.deliver(&areas[1].1, other)];
+                assert_eq!(both[0], both[1]);
+                assert!(one == other || both[0].0 == 13);
+                (areas[0].1, areas[1].1) = (both[0].1.clone(), both[1].1.clone());
+            }
+            assert_eq!(areas[0], areas[1]);
+            assert_eq!(calls.progress_of(&areas[0].1), calls.progress_of(&areas[1].1));
+            let length = calls.part_of_area_length(&areas[0].1);
+            assert_eq!(calls.part_of_area_length(&areas[1].1), length);
+            let out = random.bytes(length.length as usize);
+            let both = [0, 1].map(|at| calls.close_area(&areas[at].1, &out));
             assert_eq!(both[0], both[1]);
-            assert!(one == other || both[0].0 == 13);
-            (areas[0].1, areas[1].1) = (both[0].1.clone(), both[1].1.clone());
-        }
-        assert_eq!(areas[0], areas[1]);
-        assert_eq!(calls.progress_of(&areas[0].1), calls.progress_of(&areas[1].1));
-        let length = calls.part_of_area_length(&areas[0].1);
-        assert_eq!(calls.part_of_area_length(&areas[1].1), length);
-        let out = random.bytes(length.length as usize);
-        let both = [0, 1].map(|at| calls.close_area(&areas[at].1, &out));
-        assert_eq!(both[0], both[1]);
-        closed += u64::from(both[0].0.refusal == 0);
-    });
-    assert!(closed > 50 && strays > 100 && hidden > 500, "{closed}, {strays}, {hidden}");
+            closed += u64::from(both[0].0.refusal == 0);
+        });
+    }
 }

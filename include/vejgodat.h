@@ -1596,8 +1596,9 @@ vejgodat_length     vejgodat_build_message (const uint8_t * part,
  * if \a sender is not below P; \ref VEJGODAT_PART (8) if the part isn't sound
  * for the old table and the sender. A rank that sends nothing has no message,
  * and that is no refusal.
- * Cost: O(P) for the tables and the receivers and that of
- * \ref vejgodat_check_part, once; then for each message its trees and their
+ * Cost: O(P) for the check of the tables and that of
+ * \ref vejgodat_check_part, once; then for each rank whose new range may meet
+ * the sender's old one a test, and for each message its trees and their
  * neighbours, and K / 8 bytes of a set of 128 KiB on the stack.
  *
  * \param [in] part       The part of \a sender under the old table; any bytes.

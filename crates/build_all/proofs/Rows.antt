@@ -6,17 +6,18 @@ use native.Mathlib.Omega.{arith}
 use mathlib.Core.Path.{_≡_, refl, sym, ap, ap₂, _∙_}
 use mathlib.Core.Bool.{Bool, true, false, cond, _&&_}
 use mathlib.Core.List.{List, [], _∷_, _++_, append-assoc, append-nil}
-use lib.Dec.{eqb}
+use lib.Dec.{leb, eqb}
 use lib.ListN.{length, take, drop, length-append, length-drop}
 use lib.Seq.{take-all, drop-drop, drop-length}
+use borrow.Author.Tests.{leb-true}
 use borrow.Rule.Slice.PartMut.{putMid, post-is}
 use Rattle.encoding.specs.Below.{sumBelow, keptBelow}
 use Rattle.encoding.specs.Pieces.{splice}
-use Rattle.encoding.proofs.Below.{either, sum-mono, count-zero, count-none, any-none, any-false}
+use Rattle.encoding.proofs.Below.{tests, either, sum-mono, count-zero, count-none, any-none, any-false}
 use Rattle.encoding.proofs.Pieces.{length-splice, splice-none, splice-then}
 use Rattle.offsets.specs.Limits.{maxTrees}
 use Rattle.offsets.specs.Table.{ranks, trees, holds}
-use Rattle.pattern.specs.Means.{PairNear, lowerRank, upperRank}
+use Rattle.pattern.specs.Means.{PairNear, WindowOf, lowerRank, upperRank, exchangesTree}
 use Rattle.pattern.specs.Sender.{sender, sends, sentFirst, sentCount}
 use Rattle.pattern.specs.Sets.{sendsTo, sendSet}
 use Rattle.message.specs.Build.{partMessage}
@@ -74,6 +75,31 @@ module _ (part old new : List ℕ) (p epoch : ℕ) where
   -- those to more ranks are no shorter
   pub below-rises : (m n : ℕ) → m ≤ n → length (messagesBelow part old new p epoch m) ≤ length (messagesBelow part old new p epoch n)
   below-rises m n h = omega (arith, below-sum m, below-sum n, sum-mono m n (λ i. length (messageTo part old new p epoch i)) h)
+
+  -- p exchanges nothing with q: there is no message
+  to-nobody : (q : ℕ) → exchangesTree old new p true q ≡ false → messageTo part old new p epoch q ≡ []
+  unfolding exchangesTree messageTo
+  to-nobody q e = let s : sendsTo old new p q ≡ false = e in rw s
+
+  -- nor any from n on
+  below-past : (n m : ℕ) → n ≤ m → ((i : ℕ) → n ≤ i → i < m → exchangesTree old new p true i ≡ false) → messagesBelow part old new p epoch m ≡ messagesBelow part old new p epoch n
+  unfolding messagesBelow
+  below-past n zero h none = let e : n ≡ 0 = omega arith in ap (messagesBelow part old new p epoch) (sym e)
+  below-past n (suc m) h none =
+      either (leb n m)
+      (λ e.
+      ap₂ (λ (a b : List ℕ). a ++ b) (below-past n m (leb-true n m e) (λ i l u. none i l (omega arith))) (to-nobody m (none m (leb-true n m e) (omega arith)))
+      ∙ append-nil (messagesBelow part old new p epoch n))
+      (λ e. let d : n ≡ suc m = omega tests in ap (messagesBelow part old new p epoch) (sym d))
+
+  module _ {first end : ℕ} (w : WindowOf old new p true first end) where
+    -- there is no message to a rank before the window
+    pub below-first : messagesBelow part old new p epoch first ≡ []
+    below-first = below-past 0 first (omega arith) (λ i l h. w .before i h) ∙ below-none
+
+    -- nor to one after it
+    pub below-end : messagesBelow part old new p epoch end ≡ messagesBelow part old new p epoch (ranks old)
+    below-end = sym (below-past end (ranks old) (w .within) (w .after))
 
 -- ---- one receiver
 
@@ -136,9 +162,9 @@ pub room-of : {n m k : ℕ} → n ≡ m → n ≤ k → m ≤ k
 room-of e h = omega arith
 
 -- the next of them
-pub to-next : {part old new : List ℕ} {p q P lower upper : ℕ} {marks₀ marks : List ℕ} → BuildFrom part old new p marks₀ → length marks ≡ length marks₀ → P ≡ ranks old → q < P → lower ≡ lowerRank old p → upper ≡ upperRank old p
+pub to-next : {part old new : List ℕ} {p q first end lower upper : ℕ} {marks₀ marks : List ℕ} → BuildFrom part old new p marks₀ → length marks ≡ length marks₀ → WindowOf old new p true first end → q < end → lower ≡ lowerRank old p → upper ≡ upperRank old p
     → BuildTo part old new p q lower upper marks
-to-next f e is-P h l u = record { sender = from-kept f e; below = omega arith; isLower = l; isUpper = u }
+to-next f e w h l u = record { sender = from-kept f e; below = omega (arith, w .within); isLower = l; isUpper = u }
 
 -- the bytes of those to the ranks below q
 pub record Adding (part old new : List ℕ) (p : ℕ) (marks₀ marks : List ℕ) (total q : ℕ) : Type 0 where
@@ -147,8 +173,8 @@ pub record Adding (part old new : List ℕ) (p : ℕ) (marks₀ marks : List ℕ
   pub long : (epoch : ℕ) → total ≡ length (messagesBelow part old new p epoch q)
 
 module _ (part old new : List ℕ) (p : ℕ) (marks₀ : List ℕ) where
-  pub add-start : Adding part old new p marks₀ marks₀ 0 0
-  add-start = record { same-length = refl; most = omega arith; long = λ epoch. sym (ap length (below-none part old new p epoch)) }
+  pub add-start : {first end : ℕ} → WindowOf old new p true first end → Adding part old new p marks₀ marks₀ 0 first
+  add-start w = record { same-length = refl; most = omega arith; long = λ epoch. sym (ap length (below-first part old new p epoch w)) }
 
   pub add-next : {marks after : List ℕ} {total q n : ℕ} → Adding part old new p marks₀ marks total q → length after ≡ length marks → ((epoch : ℕ) → n ≡ length (messageTo part old new p epoch q)) → n ≤ messageSize maxTrees maxTrees
       → Adding part old new p marks₀ after (total + n) (q + 1)
@@ -159,8 +185,10 @@ module _ (part old new : List ℕ) (p : ℕ) (marks₀ : List ℕ) where
         long = λ epoch. omega (arith, A .long epoch, l epoch, length-more part old new p epoch q);
       }
 
-  pub add-done : {marks : List ℕ} {total q P : ℕ} → Adding part old new p marks₀ marks total q → q ≤ P → P ≤ q → P ≡ ranks old → (epoch : ℕ) → total ≡ length (messagesBelow part old new p epoch (ranks old))
-  add-done {marks} {total} {q} A h l e epoch = let d : q ≡ ranks old = omega arith in A .long epoch ∙ ap (λ (k : ℕ). length (messagesBelow part old new p epoch k)) d
+  pub add-done : {marks : List ℕ} {total q first end : ℕ} → Adding part old new p marks₀ marks total q → q ≤ end → end ≤ q → WindowOf old new p true first end → (epoch : ℕ) → total ≡ length (messagesBelow part old new p epoch (ranks old))
+  add-done {marks} {total} {q} {first} {end} A h l w epoch =
+      let d : q ≡ end = omega arith in
+      A .long epoch ∙ ap (λ (k : ℕ). length (messagesBelow part old new p epoch k)) d ∙ ap length (below-end part old new p epoch w)
 
 -- those to the ranks below q are written
 pub record Writing (part old new : List ℕ) (p epoch : ℕ) (out₀ out : List ℕ) (at q : ℕ) : Type 0 where
@@ -181,40 +209,42 @@ unfolding splice
 splice-at out m at = ap (λ (l : List ℕ). take at out ++ (m ++ l)) (drop-drop (0 + length m) at out ∙ ap (λ (k : ℕ). drop k out) (more at (length m)))
 
 module _ (part old new : List ℕ) (p epoch : ℕ) (out₀ : List ℕ) where
-  pub write-start : Writing part old new p epoch out₀ out₀ 0 0
-  write-start =
+  pub write-start : {first end : ℕ} → WindowOf old new p true first end → Writing part old new p epoch out₀ out₀ 0 first
+  write-start w =
       record {
-        place = sym (ap length (below-none part old new p epoch));
+        place = sym (ap length (below-first part old new p epoch w));
         same-length = refl;
-        done = sym (splice-none out₀ 0) ∙ ap (splice out₀ 0) (sym (below-none part old new p epoch));
+        done = sym (splice-none out₀ 0) ∙ ap (splice out₀ 0) (sym (below-first part old new p epoch w));
       }
 
-  module _ {out : List ℕ} {at q P : ℕ} (W : Writing part old new p epoch out₀ out at q) (h : q < P) (is-P : P ≡ ranks old) (room : length (messagesBelow part old new p epoch (ranks old)) ≤ length out₀) where
+  module _ {out : List ℕ} {at q first end : ℕ} (W : Writing part old new p epoch out₀ out at q) (h : q < end) (w : WindowOf old new p true first end) (room : length (messagesBelow part old new p epoch (ranks old)) ≤ length out₀) where
     abbrev m : List ℕ
     m = messageTo part old new p epoch q
 
     pub write-room : at + length m ≤ length out
-    write-room = omega (arith, W .place, W .same-length, length-more part old new p epoch q, below-rises part old new p epoch (q + 1) (ranks old) (omega arith))
+    write-room = omega (arith, W .place, W .same-length, length-more part old new p epoch q, below-rises part old new p epoch (q + 1) (ranks old) (omega (arith, w .within)))
 
     pub rest-room : length m ≤ length (take (length out - at) (drop at out))
     rest-room = rw (rest-is out at) (omega (arith, write-room, length-drop at out))
 
     -- the message put into the rest of the buffer
     pub put-written : {last : List ℕ} → last ≡ splice (take (length out - at) (drop at out)) 0 m → putMid at (length out - at) out last ≡ splice out at m
-    put-written {last} w =
+    put-written {last} is-last =
         ap (λ (l : List ℕ). take at out ++ (last ++ l)) (post-is at (length out) out (omega (arith, write-room)) ∙ drop-length out)
-        ∙ ap (λ (l : List ℕ). take at out ++ l) (append-nil last ∙ w ∙ ap (λ (l : List ℕ). splice l 0 m) (rest-is out at))
+        ∙ ap (λ (l : List ℕ). take at out ++ l) (append-nil last ∙ is-last ∙ ap (λ (l : List ℕ). splice l 0 m) (rest-is out at))
         ∙ splice-at out m at
 
     pub write-next : {after : List ℕ} {n : ℕ} → n ≡ length m → after ≡ splice out at m → Writing part old new p epoch out₀ after (at + n) (q + 1)
-    write-next {after} {n} e w =
+    write-next {after} {n} e is-after =
         record {
           place = omega (arith, W .place, length-more part old new p epoch q);
-          same-length = ap length w ∙ length-splice out at m write-room ∙ W .same-length;
+          same-length = ap length is-after ∙ length-splice out at m write-room ∙ W .same-length;
           done =
-              splice-then out₀ 0 at (messagesBelow part old new p epoch q) m (sym (W .place)) (omega (arith, write-room, W .same-length)) (W .done) (w ∙ ap (λ (k : ℕ). splice out k m) (sym (zero-add at)))
+              splice-then out₀ 0 at (messagesBelow part old new p epoch q) m (sym (W .place)) (omega (arith, write-room, W .same-length)) (W .done) (is-after ∙ ap (λ (k : ℕ). splice out k m) (sym (zero-add at)))
               ∙ ap (splice out₀ 0) (sym (below-more part old new p epoch q));
         }
 
-  pub write-done : {out : List ℕ} {at q P : ℕ} → Writing part old new p epoch out₀ out at q → q ≤ P → P ≤ q → P ≡ ranks old → out ≡ splice out₀ 0 (messagesBelow part old new p epoch (ranks old))
-  write-done {out} {at} {q} W h l e = let d : q ≡ ranks old = omega arith in W .done ∙ ap (λ (k : ℕ). splice out₀ 0 (messagesBelow part old new p epoch k)) d
+  pub write-done : {out : List ℕ} {at q first end : ℕ} → Writing part old new p epoch out₀ out at q → q ≤ end → end ≤ q → WindowOf old new p true first end → out ≡ splice out₀ 0 (messagesBelow part old new p epoch (ranks old))
+  write-done {out} {at} {q} {first} {end} W h l w =
+      let d : q ≡ end = omega arith in
+      W .done ∙ ap (λ (k : ℕ). splice out₀ 0 (messagesBelow part old new p epoch k)) d ∙ ap (splice out₀ 0) (below-end part old new p epoch w)

@@ -15,6 +15,7 @@ use message_build::write::write_message;
 use pattern::range::lower_rank;
 use pattern::range::sent_near;
 use pattern::range::upper_rank;
+use pattern::window::window_of;
 
 // How long the message from p to q is, in any epoch; 0 where p sends q nothing. `lower` and `upper` are the ranks that have trees on either side of p.
 fn length_to(
@@ -67,17 +68,18 @@ fn write_to(
     ghost_at(n, g)
 }
 
-// How long the messages to all ranks are together.
+// How long the messages to all ranks are together. Only the ranks of the window are asked: p sends the others nothing.
 pub fn messages_length(part: &[u8], old: &[u8], new: &[u8], p: u32, marks: &mut [u64]) -> usize
     requires { ⌜ BuildFrom (now part) (now old) (now new) p (now marks) ⌝ }
     ensures { λ r. ⌜ ((epoch : ℕ) → r ≡ length (messagesBelow (now (part .entry)) (now (old .entry)) (now (new .entry)) p epoch (ranksOf (now (old .entry))))) × (r ≤ maxRanks * messageSize maxTrees maxTrees) ⌝ }
 {
-    let ranks = offsets::table::ranks(old) as u32;
+    let window = window_of(old, new, p as usize, true);
+    let end = window.end as u32;
     let lower = lower_rank(old, p as usize);
     let upper = upper_rank(old, p as usize);
     let mut total = 0;
-    let mut q = 0;
-    while q < ranks {
+    let mut q = window.first as u32;
+    while q < end {
         total += length_to(part, old, new, p, q, lower, upper, &mut *marks);
         q += 1;
     }
@@ -97,12 +99,13 @@ pub fn write_messages(
     requires { ⌜ BuildFrom (now part) (now old) (now new) p (now marks) × (length (messagesBelow (now part) (now old) (now new) p epoch (ranksOf (now old))) ≤ length (now out)) ⌝ }
     ensures { λ u. ⌜ now (out .exit) ≡ splice (now (out .entry)) 0 (messagesBelow (now (part .entry)) (now (old .entry)) (now (new .entry)) p epoch (ranksOf (now (old .entry)))) ⌝ }
 {
-    let ranks = offsets::table::ranks(old) as u32;
+    let window = window_of(old, new, p as usize, true);
+    let end = window.end as u32;
     let lower = lower_rank(old, p as usize);
     let upper = upper_rank(old, p as usize);
     let mut at = 0;
-    let mut q = 0;
-    while q < ranks {
+    let mut q = window.first as u32;
+    while q < end {
         at += write_to(
             part,
             old,

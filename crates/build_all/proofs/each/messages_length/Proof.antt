@@ -6,16 +6,16 @@ use Rattle.build_all.proofs.each.messages_length.Statement.{statement}
 use Rattle.build_all.proofs.each.messages_length.Tie as tie
 
 abbrev Inv-loop : tie.InvT-loop
-Inv-loop part old new p marks₀ ranks lower upper total₀ q₀ marks total q = (q ≤ ranks) × Adding part old new p marks₀ marks total q
+Inv-loop part old new p marks₀ end lower upper total₀ q₀ marks total q = (q ≤ end) × Adding part old new p marks₀ marks total q
 
 abbrev μ-loop : tie.MeasureT-loop
-μ-loop part old new p marks₀ ranks lower upper total₀ q₀ marks total q = ranks - q
+μ-loop part old new p marks₀ end lower upper total₀ q₀ marks total q = end - q
 
-ranks-requires : tie.Need-ranks-requires Inv-loop μ-loop
-ranks-requires c κs = search needs
+window-of-requires : tie.Need-window-of-requires Inv-loop μ-loop
+window-of-requires c κs = search needs
 
-cast-ranks : tie.Need-cast-ranks Inv-loop μ-loop
-cast-ranks c = search needs
+cast-end : tie.Need-cast-end Inv-loop μ-loop
+cast-end c = search needs
 
 lower-rank-requires : tie.Need-lower-rank-requires Inv-loop μ-loop
 lower-rank-requires c κs = search needs
@@ -23,26 +23,33 @@ lower-rank-requires c κs = search needs
 upper-rank-requires : tie.Need-upper-rank-requires Inv-loop μ-loop
 upper-rank-requires c κs = search needs
 
+cast-q : tie.Need-cast-q Inv-loop μ-loop
+cast-q c =
+    let window-of = c .before .before .before .before .window-of in
+    omega (arith, window-of .ensures .0 .ordered, window-of .ensures .1)
+
 loop-holds : tie.Need-loop-holds Inv-loop μ-loop
-loop-holds c = (omega arith, add-start _ _ _ _ _)
+loop-holds c =
+    let window-of = c .before .before .before .before .window-of in
+    (window-of .ensures .0 .ordered, add-start _ _ _ _ _ (window-of .ensures .0))
 
 length-to-requires : tie.Need-length-to-requires Inv-loop μ-loop
 length-to-requires c κs =
-    let pre = c .before .before .before .before .before .before .before .before .before .before .pre in
+    let pre = c .before .before .before .before .before .before .before .before .before .before .before .before .pre in
     let loop = c .before .before .loop in
-    let ranks = c .before .before .before .before .before .ranks in
+    let window-of = c .before .before .before .before .before .before .before .window-of in
     let loop-test = c .before .loop-test in
-    let lower-rank = c .before .before .before .before .lower-rank in
-    let upper-rank = c .before .before .before .upper-rank in
-    to-next pre (loop .inv .1 .same-length) (ranks .ensures .0) (loop-test .taken) (lower-rank .ensures .0) (upper-rank .ensures .0)
+    let lower-rank = c .before .before .before .before .before .lower-rank in
+    let upper-rank = c .before .before .before .before .upper-rank in
+    to-next pre (loop .inv .1 .same-length) (window-of .ensures .0) (loop-test .taken) (lower-rank .ensures .0) (upper-rank .ensures .0)
 
 add-total : tie.Need-add-total Inv-loop μ-loop
 add-total c =
     let loop = c .before .before .before .before .before .loop in
     let length-to = c .before .before .length-to in
-    let ranks = c .before .before .before .before .before .before .before .before .ranks in
+    let window-of = c .before .before .before .before .before .before .before .before .before .before .window-of in
     let loop-test = c .before .before .before .before .loop-test in
-    omega (arith, loop .inv .1 .most, length-to .ensures .1, ranks .ensures .1 .1, loop-test .taken)
+    omega (arith, loop .inv .1 .most, length-to .ensures .1, window-of .ensures .1, loop-test .taken)
 
 add-q : tie.Need-add-q Inv-loop μ-loop
 add-q c = omega (arith, c .before .before .before .before .loop-test .taken)
@@ -64,8 +71,8 @@ same-length c = c .before .loop .inv .1 .same-length
 returns : tie.Need-returns Inv-loop μ-loop
 returns c =
     let loop = c .before .loop in
-    let ranks = c .before .before .before .before .ranks in
-    (add-done _ _ _ _ _ (loop .inv .1) (loop .inv .0) (c .loop-test .left) (ranks .ensures .0), omega (arith, loop .inv .1 .most, loop .inv .0, ranks .ensures .1 .1))
+    let window-of = c .before .before .before .before .before .before .window-of in
+    (add-done _ _ _ _ _ (loop .inv .1) (loop .inv .0) (c .loop-test .left) (window-of .ensures .0), omega (arith, loop .inv .1 .most, loop .inv .0, window-of .ensures .1))
 
 pub messages-length-spec : {M : Type 1} → statement M
 messages-length-spec =
@@ -73,10 +80,11 @@ messages-length-spec =
     (tie.spec
     Inv-loop
     μ-loop
-    ranks-requires
-    cast-ranks
+    window-of-requires
+    cast-end
     lower-rank-requires
     upper-rank-requires
+    cast-q
     loop-holds
     length-to-requires
     add-total

@@ -10,9 +10,9 @@ use borrow.Author.Tests.{leb-true, ltb-true, lt-ltb, eqb-true, eqb-false}
 use Rattle.encoding.specs.Below.{anyBelow, leastBelow, countBelow, sumBelow}
 use Rattle.encoding.specs.Numbers.{u32At}
 use Rattle.encoding.specs.Pieces.{piece, splice}
-use Rattle.encoding.proofs.Below.{either, tests, and-fst, and-snd, count-same, count-initial, sum-more, least-lt, count-add}
+use Rattle.encoding.proofs.Below.{either, tests, and-fst, and-snd, count-same, count-none, count-initial, sum-more, least-lt, count-add}
 use Rattle.bits.specs.Bits.{bitOf, inSet}
-use Rattle.bits.proofs.Bits.{set-count}
+use Rattle.bits.proofs.Bits.{bit-zero, set-count}
 use Rattle.records.specs.Record.{coreSize, numberOf}
 use Rattle.part.specs.Layout.{treePlace, ghostPlace}
 use Rattle.part.specs.Cut.{renamed}
@@ -169,6 +169,13 @@ module _ (ws : List ℕ) where
         many = ap₂ (λ (a b : ℕ). a + b) (c .many ∙ sym (set-count ws i)) e ∙ sym (sum-more i onesAt) ∙ set-count ws (i + 1);
         few = omega (arith, c .few);
       }
+
+  -- a word without members
+  pub count-skip : {i count : ℕ} → Counted ws i count → i < length ws → getD ws i 0 ≡ 0 → Counted ws (i + 1) count
+  count-skip {i} {count} c h z =
+      let none : 0 ≡ countBelow 64 (bitOf (getD ws i 0)) = sym (ap (λ (w : ℕ). countBelow 64 (bitOf w)) z ∙ count-none 64 (bitOf 0) (λ b l. bit-zero b)) in
+      let next = count-word c h none (omega arith) in
+      record { within = next .within; many = omega (arith, next .many); few = omega (arith, c .few) }
 
   pub count-end : {i count : ℕ} → Counted ws i count → length ws ≤ i → count ≡ countBelow (64 * length ws) (inSet ws)
   count-end {i} c h =

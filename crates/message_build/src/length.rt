@@ -10,7 +10,7 @@ ghost use Rattle.part.specs.Part.{partK};
 ghost use Rattle.message_ghosts.specs.Means.{markWords, Room, SendingRange};
 ghost use Rattle.message_build.specs.Means.{Going};
 
-// How many members a set has, by the ones in its words.
+// How many members a set has, by the ones in its words. Most words of a large mesh have none, and to see that is faster than to count them.
 pub fn member_count(marks: &[u64]) -> u32
     requires { ⌜ length (now marks) ≤ 16384 ⌝ }
     ensures { λ r. ⌜ r ≡ countBelow (64 * length (now (marks .entry))) (inSet (now (marks .entry))) ⌝ }
@@ -18,8 +18,11 @@ pub fn member_count(marks: &[u64]) -> u32
     let mut count = 0;
     let mut i = 0;
     while i < marks.len() {
-        count += bits::word::ones(marks[i]);
+        let word = marks[i];
         i += 1;
+        if word != 0 {
+            count += bits::word::ones(word);
+        }
     }
     count
 }

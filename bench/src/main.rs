@@ -38,6 +38,7 @@ groups! {
     faults
     columns
     many
+    growth
 }
 
 const RANKS: i64 = 1_024;

@@ -8,16 +8,16 @@ use crate::{brick, bytes_of, now, shorter};
 use std::hint::black_box;
 
 #[repr(C)]
-struct Many {
-    refusal: u32,
-    count: u32,
-    length: u64,
+pub struct Many {
+    pub refusal: u32,
+    pub count: u32,
+    pub length: u64,
 }
 
 #[repr(C)]
-struct Count {
-    refusal: u32,
-    count: u32,
+pub struct Count {
+    pub refusal: u32,
+    pub count: u32,
 }
 
 extern "C" {
@@ -43,14 +43,14 @@ extern "C" {
     ) -> Count;
 }
 
-fn build_all(part: &[u8], [old, new]: [&[u8]; 2], p: u32, out: &mut [u8]) -> Many {
+pub fn build_all(part: &[u8], [old, new]: [&[u8]; 2], p: u32, out: &mut [u8]) -> Many {
     let (a, b) = ((old.as_ptr(), old.len()), (new.as_ptr(), new.len()));
     unsafe {
         vejgodat_build_all(part.as_ptr(), part.len(), a.0, a.1, b.0, b.1, p, 1, out.as_mut_ptr(), out.len())
     }
 }
 
-fn deliver_all(area: &mut [u8], messages: &[u8], answers: &mut [u32]) -> Count {
+pub fn deliver_all(area: &mut [u8], messages: &[u8], answers: &mut [u32]) -> Count {
     unsafe {
         vejgodat_deliver_all(
             area.as_mut_ptr(),
@@ -64,7 +64,7 @@ fn deliver_all(area: &mut [u8], messages: &[u8], answers: &mut [u32]) -> Count {
 }
 
 /// The shortest time in nanoseconds, with something made anew before each turn.
-fn shortest<T>(repeats: usize, make: impl Fn() -> T, mut turn: impl FnMut(&mut T)) -> f64 {
+pub fn shortest<T>(repeats: usize, make: impl Fn() -> T, mut turn: impl FnMut(&mut T)) -> f64 {
     let mut best = f64::INFINITY;
     for _ in 0..repeats {
         let mut it = make();

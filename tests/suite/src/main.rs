@@ -7,6 +7,8 @@ mod cases;
 mod faults_model;
 mod headers_model;
 mod library;
+#[allow(dead_code)]
+mod machine;
 mod memory;
 mod mesh_cases;
 mod mesh_model;

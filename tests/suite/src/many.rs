@@ -4,6 +4,7 @@ use crate::area_model;
 use crate::calls::{show, written, Calls, Tables};
 use crate::cases;
 use crate::library::Length;
+use crate::machine::{self, Links};
 use crate::mesh_cases as meshes;
 use crate::message_model::{self, message_of};
 use crate::model::{bytes_of, Answer, Pair};
@@ -29,6 +30,7 @@ pub const TESTS: &[Test] = &[
     ("many: areas with each byte changed", deliver_areas),
     ("many: bytes of no message", deliver_bytes),
     ("many: a tree to and from a thousand ranks", thousand),
+    ("many: the whole machine, every part compared", whole_machine),
     ("many: null pointers with count 0", null),
     ("seen: each refusal from build_all and deliver_all", seen_refusals),
 ];
@@ -549,6 +551,18 @@ fn build_row(calls: &mut Calls, part: &[u8], tables: &Tables, p: u32, room: usiz
     let (a, a_len, b, b_len) = calls.put_tables(tables);
     let got = unsafe { vejgodat_build_all(at, part.len(), a, a_len, b, b_len, p, 1, out, room) };
     (got, calls.out.bytes().to_vec())
+}
+
+/// All ranks of a machine repartition: what bench/scale does up to 16,384 ranks.
+fn whole_machine(run: &mut Run) {
+    for links in [Links::Brick, Links::Random] {
+        for (ranks, power) in [(4, 4), (16, 10), (64, 10), (256, 12)] {
+            let mesh = machine::mesh(links, power);
+            let sums = machine::repartition(&mesh, ranks, 4, run.seed);
+            assert!(sums.messages >= sums.least_messages && sums.bytes > sums.least_bytes);
+            run.calls.seen.calls += sums.calls;
+        }
+    }
 }
 
 fn null(run: &mut Run) {

@@ -1,0 +1,2 @@
+-- What the functions that look at the links of records find.
+pub mod Means

@@ -1,33 +1,30 @@
 -- What the functions that check a part find is what the definitions say.
-use Prim.Native.Nat.{ℕ, _+_, _-_, _*_, _≤_, _<_}
+use Prim.Native.Nat.{ℕ, _+_, _-_, _≤_, _<_}
 use native.Mathlib.Omega.{arith}
-use mathlib.Core.Path.{_≡_, refl, sym, ap, fun-ext, _∙_}
+use mathlib.Core.Path.{_≡_, refl, sym, ap, _∙_}
 use mathlib.Core.Bool.{Bool, true, false, cond, not, _&&_, and-false}
 use mathlib.Core.List.{List}
 use lib.Dec.{ltb, eqb}
 use lib.ListN.{length}
 use borrow.Author.Tests.{ltb-true, lt-ltb, le-ltb, eq-eqb, ne-eqb, eqb-true}
-use Rattle.encoding.specs.Below.{allBelow, countBelow, leastBelow, sumBelow}
+use Rattle.encoding.specs.Below.{leastBelow}
 use Rattle.encoding.specs.Numbers.{u32At}
 use Rattle.encoding.specs.Pieces.{piece, Bytes}
-use Rattle.encoding.proofs.Below.{tests, either, clash, iff-eq, all-at, and-fst, and-snd, and-intro, least-same}
-use Rattle.records.specs.Shape.{faceCount}
-use Rattle.records.specs.Record.{coreSize, numberOf, shapeOf, neighbourOf, boundaryOk}
+use Rattle.encoding.proofs.Below.{tests, either, clash, iff-eq, and-fst, and-snd, least-same}
+use Rattle.records.specs.Record.{coreSize, numberOf, neighbourOf, boundaryOk}
 use Rattle.mesh.specs.Mesh.{dimensionOk}
 use Rattle.offsets.specs.Table.{ranks, entry, trees, firstTree, endTree, treeCount}
 use Rattle.offsets.proofs.Tables.{count-add, end-trees, trees-high}
 use Rattle.part.specs.Layout.{treePlace, ghostPlace, partSize}
-use Rattle.positions.specs.Means.{hasNumber, positionOf, memberPosition, Numbered, Indexed}
+use Rattle.positions.specs.Means.{hasNumber, positionOf, memberPosition, Indexed}
 use Rattle.positions.proofs.Positions.{index-position}
-use Rattle.part.specs.Means.{recordPlace, viewSound, inRange, numberAt, Ascending, ghostCore, ghostHas, RankKnown, partLinked}
+use Rattle.part.specs.Means.{recordPlace, viewSound, inRange, ghostCore, ghostHas, RankKnown, partLinked}
 use Rattle.part.proofs.Sound.{part-sound-is}
 use Rattle.part.specs.Part.{partDimension, partK, partFirst, partCount, partGhostCount, storedTree, storedGhost, globalNumber, globalTree, partHeaderSound, partSound}
-use Rattle.mesh.specs.Means.{linkByDimension, SeenAs}
-use Rattle.ghost_links.specs.Means.{formAlone, ghostUps, ghostDowns, ghostFromOneEnd, SummedAs, coreFrom, GhostsMarked}
-use Rattle.part_check.specs.Means.{treeTo, treeFace, treeFits, treeNumbered, ghostBehind, ghostNumbered, numbersSound, recordsSound, treeUp, treeDown, treeUps, treeDowns, evenLinks, treeFaceDown, treeFromOneEnd, treeSeen, recordsFromOneEnd, PartLaid, PartNumbered, PartCounted, TreeKnown}
+use Rattle.mesh.specs.Means.{linkByDimension}
+use Rattle.part_check.specs.Means.{treeTo, treeFace, treeFits, treeNumbered, ghostBehind, ghostNumbered, recordsSound, PartLaid, TreeKnown}
 use Rattle.part.proofs.Global.{global-alike, global-neighbour}
-use Rattle.part_check.proofs.Judging.{numbered-few, ghosts-ascend, lookedUp, Seen, view-is}
-use Rattle.part_check.proofs.FromOneEnd.{trees-seen, records-from-one-end}
+use Rattle.part_check.proofs.Judging.{lookedUp, Seen, view-is}
 use Rattle.part_check.proofs.ByDimension.{records-by-dimension}
 use Rattle.part.proofs.Search.{number-there}
 
@@ -54,37 +51,6 @@ module _ (part : List ℕ) (i : ℕ) {at : ℕ} (here : at ≡ treePlace i) wher
   unfolding storedTree
   tree-here = rw here
 
-  -- where a link leads, with what stands in the record
-  module _ (f : ℕ) {j : ℕ} (read : j ≡ neighbourOf (piece part at coreSize) f) where
-    pub neighbour-low : {b : ℕ} → j < b → neighbourOf (storedTree part i) f < b
-    unfolding storedTree
-    neighbour-low h = rw (← here, ← read) h
-
-    pub neighbour-under : {b : ℕ} → neighbourOf (storedTree part i) f < b → j < b
-    unfolding storedTree
-    neighbour-under h = rw (← here, ← read) at h
-
-    module _ (n : ℕ) where
-      up-read : (ltb i j && ltb j n) ≡ treeUp n (storedTree part) i f
-      unfolding treeUp storedTree
-      up-read = rw (← here, ← read)
-
-      module _ (higher : (ltb i j && ltb j n) ≡ true) where
-        pub up-counts : true ≡ treeUp n (storedTree part) i f
-        up-counts = sym (sym up-read ∙ higher)
-
-        pub up-no-down : treeDown n (storedTree part) i f ≡ false
-        unfolding treeDown
-        up-no-down = rw (← up-counts)
-
-      module _ (other : (ltb i j && ltb j n) ≡ false) where
-        pub down-no-up : treeUp n (storedTree part) i f ≡ false
-        down-no-up = sym up-read ∙ other
-
-        pub down-counts : not (eqb j i) ≡ treeDown n (storedTree part) i f
-        unfolding treeDown storedTree
-        down-counts = let no : treeUp n (storedTree part) i f ≡ false = down-no-up in rw (no, ← here, ← read)
-
   module _ (D n g : ℕ) where
     module _ (f : ℕ) {j : ℕ} (read : j ≡ neighbourOf (piece part at coreSize) f) where
       pub face-tree : {to : ℕ} {r : Bool} → j < n → to ≡ treePlace j → r ≡ linkByDimension D i (piece part at coreSize) f (piece part to coreSize)
@@ -101,27 +67,8 @@ module _ (part : List ℕ) (i : ℕ) {at : ℕ} (here : at ≡ treePlace i) wher
       unfolding treeFace treeTo storedTree
       face-none h l = rw (← here, ← read, le-ltb j n h, le-ltb (j - n) g l)
 
-      -- a link up is only counted
-      pub up-passes : (ltb i j && ltb j n) ≡ true → treeFaceDown (linkByDimension D) n g (storedTree part) (ghostCore part n) i f ≡ true
-      unfolding treeFaceDown
-      up-passes h = rw (← up-counts f read n h)
-
-      -- any other has to obey the rules
-      module _ (other : (ltb i j && ltb j n) ≡ false) where
-        pub down-is : {r : Bool} → r ≡ treeFits (linkByDimension D) n g (storedTree part) (ghostCore part n) i f → treeFaceDown (linkByDimension D) n g (storedTree part) (ghostCore part n) i f ≡ r
-        unfolding treeFaceDown
-        down-is e = rw (down-no-up f read n other) (sym e)
-
-        pub down-outside : n + g ≤ j → treeFaceDown (linkByDimension D) n g (storedTree part) (ghostCore part n) i f ≡ false
-        unfolding treeFaceDown treeFits
-        down-outside h = rw (down-no-up f read n other, ← face-none (omega arith) (omega arith), and-false)
-
       -- the rules: the form of the face, then the link
       module _ {b : Bool} (edge : b ≡ boundaryOk i (piece part at coreSize) f) where
-        pub fits-not : b ≡ false → false ≡ treeFits (linkByDimension D) n g (storedTree part) (ghostCore part n) i f
-        unfolding treeFits storedTree
-        fits-not h = rw (← here, ← edge, h)
-
         fits-face : {r : Bool} → b ≡ true → r ≡ treeFace (linkByDimension D) n g (storedTree part) (ghostCore part n) i f → r ≡ treeFits (linkByDimension D) n g (storedTree part) (ghostCore part n) i f
         unfolding treeFits
         fits-face h q = let there : boundaryOk i (storedTree part i) f ≡ true = rw (← tree-here, ← edge) h in rw (there, q)
@@ -164,118 +111,12 @@ module _ (part : List ℕ) (n j : ℕ) where
     ghost-numbered-is first K p q = rw (← here, ← number, p, q)
 
 module _ (part : List ℕ) (n g : ℕ) where
-  module _ (first K : ℕ) (known : PartNumbered part first n g K) where
-    pub ghosts-ascending : Ascending part (ghostPlace n 0) g
-    ghosts-ascending =
-        record {
-          fits = omega (arith, known .laid .long);
-          ascends = λ i j h l. rw (number-there part n g i, number-there part n g j) (ghosts-ascend first n g K (storedTree part) (ghostCore part n) (known .numbers) i j h l);
-        }
-
-    -- and have numbers that an index of 2^20 bits can hold
-    ghosts-low : (i : ℕ) → i < g → numberAt part (ghostPlace n 0) i < K
-    unfolding numbersSound ghostNumbered
-    ghosts-low i h =
-        let x : Bool = allBelow n (treeNumbered first (storedTree part)) in
-        let y : Bool = allBelow g (ghostNumbered first n (ghostCore part n) K) in
-        let low : Bool = ltb (numberOf (ghostCore part n i)) K in
-        let out : Bool = not (inRange first (first + n) (numberOf (ghostCore part n i))) in
-        let t : (low && out && ghostBehind (ghostCore part n) i) ≡ true = all-at g (ghostNumbered first n (ghostCore part n) K) (and-snd x y (known .numbers)) i h in
-        rw (number-there part n g i) (ltb-true _ _ (and-fst low out (and-fst (low && out) (ghostBehind (ghostCore part n) i) t)))
-
-    module _ {at : ℕ} (from : at ≡ ghostPlace n 0) where
-      pub ghosts-numbered : Numbered part at g K
-      ghosts-numbered = rw from (record { ascending = ghosts-ascending; low = ghosts-low })
-
-      pub ghosts-marked : {ws behind : List ℕ} → K ≤ 64 * length ws → Indexed part at g ws behind → GhostsMarked part at g first n K ws behind
-      ghosts-marked room x = record { fits = omega (arith, from, known .laid .long); low = omega (arith, known .laid .within, known .laid .most); room = room; indexed = x }
-
-  -- they stand behind the trees
-  module _ {at : ℕ} (from : at ≡ ghostPlace n 0) where
-    ghosts-are : coreFrom part at ≡ ghostCore part n
-    unfolding coreFrom ghostCore
-    ghosts-are = fun-ext (λ j. ap (λ (p : ℕ). piece part p coreSize) (omega (arith, from)))
-
-    pub ghosts-read : (D first K : ℕ) {ok : Bool} {ups downs : ℕ}
-        → SummedAs (allBelow g (ghostFromOneEnd (linkByDimension D) g (coreFrom part at) first n D K)) (sumBelow g (ghostUps first n g (coreFrom part at))) (sumBelow g (ghostDowns g (coreFrom part at))) (6 * g) ok ups downs
-        → SummedAs (allBelow g (ghostFromOneEnd (linkByDimension D) g (ghostCore part n) first n D K)) (sumBelow g (ghostUps first n g (ghostCore part n))) (sumBelow g (ghostDowns g (ghostCore part n))) (6 * g) ok ups downs
-    ghosts-read D first K s = rw ghosts-are at s
-
   -- the ghost that is looked up
   pub ghost-found : {ws behind : List ℕ} → Indexed part (ghostPlace n 0) g ws behind → (k : ℕ) {p : ℕ} → p ≡ memberPosition ws g k → p ≡ leastBelow g (ghostHas (ghostCore part n) k)
   unfolding positionOf hasNumber ghostHas
   ghost-found x k e =
       e ∙ index-position x k
       ∙ least-same g (hasNumber part (ghostPlace n 0) k) (ghostHas (ghostCore part n) k) (λ i h. ap (λ (y : ℕ). eqb y k) (number-there part n g i))
-
-pub tree-known : (part : List ℕ) (first n i : ℕ) {t : Bool} (a : Bool) → t ≡ treeNumbered first (storedTree part) i → (t && a) ≡ true → i < n → TreeKnown part first n i
-tree-known part first n i {t} a numbered passes h = record { below = h; number = sym numbered ∙ and-fst t a passes }
-
-module _ (part : List ℕ) (D first n g i : ℕ) {at : ℕ} (here : at ≡ treePlace i) {t a : Bool} (numbered : t ≡ treeNumbered first (storedTree part) i) (formed : a ≡ formAlone D (piece part at coreSize)) where
-  tree-formed : a ≡ formAlone D (storedTree part i)
-  unfolding storedTree
-  tree-formed = rw (← here) formed
-
-  pub tree-off : (t && a) ≡ false → treeSeen (linkByDimension D) first n g (storedTree part) (ghostCore part n) D i ≡ false
-  unfolding treeSeen treeFromOneEnd
-  tree-off h = rw (← numbered, ← tree-formed) (and-off t a _ h)
-
-  module _ (passes : (t && a) ≡ true) where
-    pub tree-seen : {shape faces : ℕ} {ok : Bool} {ups downs : ℕ} → shape ≡ shapeOf (piece part at coreSize) → faces ≡ faceCount shape
-        → SeenAs (allBelow faces (treeFaceDown (linkByDimension D) n g (storedTree part) (ghostCore part n) i)) (countBelow faces (treeUp n (storedTree part) i)) (countBelow faces (treeDown n (storedTree part) i)) ok ups downs
-        → SeenAs (treeSeen (linkByDimension D) first n g (storedTree part) (ghostCore part n) D i) (treeUps n (storedTree part) i) (treeDowns n (storedTree part) i) ok ups downs
-    unfolding treeSeen treeFromOneEnd treeUps treeDowns
-    tree-seen shaped counted s =
-        let own : faceCount (shapeOf (storedTree part i)) ≡ _ = ap (λ r. faceCount (shapeOf r)) (sym (tree-here part i here)) ∙ sym (counted ∙ ap faceCount shaped) in
-        let x : treeNumbered first (storedTree part) i ≡ true = sym numbered ∙ and-fst t a passes in
-        let y : formAlone D (storedTree part i) ≡ true = sym tree-formed ∙ and-snd t a passes in
-        rw (x, y, own) s
-
--- ---- over all records
-
-pub part-counted : (part : List ℕ) (first n g K : ℕ) → PartLaid part first n g K → {x : Bool} → x ≡ allBelow g (ghostNumbered first n (ghostCore part n) K) → x ≡ true → PartCounted part first n g
-part-counted part first n g K laid ghosts some =
-    record {
-      long = laid .long;
-      low = omega (arith, laid .within, laid .most);
-      few = omega (arith, laid .most, numbered-few first n g K (ghostCore part n) (all-at g (ghostNumbered first n (ghostCore part n) K) (sym ghosts ∙ some)));
-    }
-
-module _ (part : List ℕ) (D first n g K : ℕ) (laid : PartLaid part first n g K) {x : Bool} (ghosts : x ≡ allBelow g (ghostNumbered first n (ghostCore part n) K)) where
-  abbrev sound : Bool
-  sound = recordsSound (linkByDimension D) first n g (storedTree part) (ghostCore part n) D K
-
-  records-are : sound ≡ recordsFromOneEnd (linkByDimension D) first n g (storedTree part) (ghostCore part n) D K
-  records-are = sym (records-from-one-end D first n g K (storedTree part) (ghostCore part n) (laid .within))
-
-  pub records-no-ghosts : x ≡ false → false ≡ sound
-  unfolding recordsFromOneEnd
-  records-no-ghosts h = sym (records-are ∙ rw (← ghosts, h))
-
-  module _ (some : x ≡ true) where
-    module _ {most ups downs : ℕ} {y : Bool} (trees : SummedAs (allBelow n (treeSeen (linkByDimension D) first n g (storedTree part) (ghostCore part n) D)) (sumBelow n (treeUps n (storedTree part))) (sumBelow n (treeDowns n (storedTree part))) most y ups downs) where
-      pub records-no-trees : y ≡ false → false ≡ sound
-      unfolding recordsFromOneEnd
-      records-no-trees h = sym (records-are ∙ rw (← ghosts, some, ← trees .tested, h))
-
-      module _ (passes : y ≡ true) where
-        pub numbers-known : PartNumbered part first n g K
-        unfolding numbersSound
-        numbers-known =
-            record {
-              laid = laid;
-              numbers = and-intro (allBelow n (treeNumbered first (storedTree part))) (allBelow g (ghostNumbered first n (ghostCore part n) K))
-                  (and-fst (allBelow n (treeNumbered first (storedTree part))) _ (sym (trees-seen D first n g (storedTree part) (ghostCore part n)) ∙ sym (trees .tested) ∙ passes)) (sym ghosts ∙ some);
-            }
-
-        module _ {room more less : ℕ} {z : Bool} (seen : SummedAs (allBelow g (ghostFromOneEnd (linkByDimension D) g (ghostCore part n) first n D K)) (sumBelow g (ghostUps first n g (ghostCore part n))) (sumBelow g (ghostDowns g (ghostCore part n))) room z more less) where
-          pub records-off : z ≡ false → false ≡ sound
-          unfolding recordsFromOneEnd
-          records-off h = sym (records-are ∙ rw (← ghosts, some, ← trees .tested, passes, ← seen .tested, h))
-
-          pub records-read : z ≡ true → eqb (ups + more) (downs + less) ≡ sound
-          unfolding recordsFromOneEnd evenLinks
-          records-read h = sym (records-are ∙ rw (← ghosts, some, ← trees .tested, passes, ← seen .tested, h, ← trees .upward passes, ← trees .downward passes, ← seen .upward h, ← seen .downward h))
 
 -- ---- the header and the whole
 

@@ -4,4 +4,5 @@ pub mod Judging
 pub mod FromOneEnd
 pub mod ByDimension
 pub mod Checking
+pub mod OneLoop
 pub mod PlainTrees

@@ -5,20 +5,19 @@ use mathlib.Core.Bool.{Bool, true, cond, not, _&&_, _||_}
 use mathlib.Core.List.{List}
 use lib.Dec.{ltb, eqb}
 use borrow.Author.Tests.{eq-eqb}
-use Rattle.encoding.specs.Below.{allBelow, countBelow}
+use Rattle.encoding.specs.Below.{allBelow}
 use Rattle.encoding.specs.Pieces.{piece}
 use Rattle.encoding.proofs.Below.{and-fst, and-snd, all-at, all-intro}
-use Rattle.records.specs.Shape.{shapeOk, dimensionOf}
+use Rattle.records.specs.Shape.{dimensionOf}
 use Rattle.records.specs.Record.{coreSize, shapeOf, neighbourOf, codeOf, boundaryOk, inForm}
 use Rattle.records.specs.Means.{alikeForm}
-use Rattle.records.proofs.Forms.{alike-used, alike-zeros, alike-region, alike-number, alike-shape, hexahedron-faces, hexahedron-form}
-use Rattle.mesh.specs.Means.{linkByDimension, SeenAs}
+use Rattle.records.proofs.Forms.{alike-number, alike-shape, hexahedron-faces, hexahedron-form}
+use Rattle.mesh.specs.Means.{linkByDimension}
 use Rattle.mesh.proofs.PlainTrees.{plain-edge}
 use Rattle.part.specs.Layout.{treePlace}
 use Rattle.part.specs.Part.{storedTree}
 use Rattle.part.specs.Means.{recordPlace, ghostCore}
-use Rattle.ghost_links.specs.Means.{formAlone}
-use Rattle.part_check.specs.Means.{treeFace, treeFits, treeStored, treeNumbered, treeUp, treeDown, treeUps, treeDowns, treeFaceDown, treeFromOneEnd, treeSeen, TreeKnown, Hexahedron}
+use Rattle.part_check.specs.Means.{treeFace, treeFits, treeStored, treeNumbered, TreeKnown, Hexahedron}
 use Rattle.part_check.proofs.Checking.{fits-read}
 
 -- ---- a tree
@@ -28,19 +27,8 @@ module _ (first : ℕ) (tree : ℕ → List ℕ) (i : ℕ) (e : alikeForm 2 6 (f
   unfolding treeNumbered
   numbered = eq-eqb _ _ (alike-number 2 6 (first + i) (tree i) e)
 
-  alone : formAlone 3 (tree i) ≡ true
-  unfolding formAlone shapeOk dimensionOf
-  alone = rw (hexahedron-faces (first + i) (tree i) e, alike-used 2 6 (first + i) (tree i) e, alike-zeros 2 6 (first + i) (tree i) e, alike-region 2 6 (first + i) (tree i) e, alike-shape 2 6 (first + i) (tree i) e)
-
   module _ (n g : ℕ) (ghostly : ℕ → List ℕ) where
-    -- its links seen from one end
-    pub plain-seen : {ok : Bool} {ups downs : ℕ}
-        → SeenAs (allBelow 6 (treeFaceDown (linkByDimension 3) n g tree ghostly i)) (countBelow 6 (treeUp n tree i)) (countBelow 6 (treeDown n tree i)) ok ups downs
-        → SeenAs (treeSeen (linkByDimension 3) first n g tree ghostly 3 i) (treeUps n tree i) (treeDowns n tree i) ok ups downs
-    unfolding treeSeen treeFromOneEnd treeUps treeDowns
-    plain-seen s = rw (numbered, alone, hexahedron-faces (first + i) (tree i) e) s
-
-    -- and from this one
+    -- its links
     module _ (all : allBelow 6 (treeFits (linkByDimension 3) n g tree ghostly i) ≡ true) where
       both : (f : ℕ) → f < 6 → (boundaryOk i (tree i) f && treeFace (linkByDimension 3) n g tree ghostly i f) ≡ true
       unfolding treeFits

@@ -13,11 +13,10 @@ use Rattle.offsets.specs.Limits.{maxTrees}
 use Rattle.offsets.specs.Table.{firstTree}
 use Rattle.offsets.proofs.Tables.{trees-high}
 use Rattle.records.specs.Shape.{shapeOk, faceCount}
-use Rattle.records.specs.Record.{treeSize, numberOf, shapeOf, inForm}
+use Rattle.records.specs.Record.{numberOf, shapeOf, inForm}
 use Rattle.records.proofs.Forms.{form-shape}
 use Rattle.part.specs.Means.{isLocal, treeLink, ghostLink, localSound, ghostAfter, ghostBeside, ghostSound, viewSound, inRange, neighbourIn}
 use Rattle.mesh.specs.Means.{linkByDimension, linkBetween}
-use Rattle.positions.specs.Means.{Indexed}
 use Rattle.area.specs.Layout.{slotsPlace, ghostSlotsPlace}
 use Rattle.area.specs.Area.{areaDimension, areaK, areaP, areaRank, areaCount, areaGhosts, areaOld, areaNew, areaFirst, treeSlotCore, ghostSlot, areaSound}
 use Rattle.area.specs.Close.{allHeard}
@@ -28,7 +27,7 @@ use Rattle.area.proofs.Tabled.{tabled-long}
 use Rattle.area.proofs.Soundness.{sound-holds}
 use Rattle.area_theorems.proofs.Kept.{Ghosts}
 use Rattle.area_theorems.proofs.Again.{area-parts, sound-ghosts}
-use Rattle.close_check.specs.Means.{treeFrom, ghostFrom, Slots, SlotsNumbered, linkOfTree, linkOfGhost, treeJoins, ghostJoins, recordsJoin, joinSound, Complete, GhostsIndexed}
+use Rattle.close_check.specs.Means.{treeFrom, ghostFrom, Slots, SlotsNumbered, linkOfTree, linkOfGhost, treeJoins, ghostJoins, recordsJoin, joinSound, Complete}
 use Rattle.close_check.proofs.AreaSlots.{range-is, tree-slot, tree-number}
 use Rattle.close_check.proofs.Links.{tree-link-is, ghost-link-is}
 use Rattle.close_check.proofs.ByDimension.{records-by-dimension}
@@ -96,8 +95,11 @@ module _ (a : List ℕ) (bytes : Bytes a) (sound : areaSound a ≡ true) where
           ascends = held-ghosts .ascends;
         }
 
+    tree-formed : (i : ℕ) → i < areaCount a → inForm (areaFirst a + i) (treeFrom a (slotsPlace (areaP a)) i) ≡ true
+    tree-formed i h = and-fst (inForm (first + i) (tree i)) (eqb (numberOf (tree i)) (first + i)) (form-number i h)
+
     tree-shaped : (i : ℕ) → i < areaCount a → shapeOk (shapeOf (treeFrom a (slotsPlace (areaP a)) i)) ≡ true
-    tree-shaped i h = form-shape (first + i) (tree i) (and-fst (inForm (first + i) (tree i)) (eqb (numberOf (tree i)) (first + i)) (form-number i h))
+    tree-shaped i h = form-shape (first + i) (tree i) (tree-formed i h)
 
     ghost-shaped : (j : ℕ) → j < areaGhosts a → shapeOk (shapeOf (ghostFrom a (slotsPlace (areaP a)) (areaCount a) j)) ≡ true
     ghost-shaped j h = form-shape (numberOf (ghostly j)) (ghostly j) (held-ghosts .form j h)
@@ -108,7 +110,7 @@ module _ (a : List ℕ) (bytes : Bytes a) (sound : areaSound a ≡ true) where
           slots = area-slots;
           below = held-ghosts .below;
           range = omega (arith, H .treesAre, range-trees a H);
-          treesShaped = tree-shaped;
+          treesFormed = tree-formed;
           ghostsFormed = held-ghosts .form;
           few = omega (arith, H .treesAre, trees-high (areaOld a) (H .tables .oldBytes) (H .tables .oldRanks) (H .tables .oldValid));
         }
@@ -149,7 +151,7 @@ module _ (a : List ℕ) (bytes : Bytes a) (sound : areaSound a ≡ true) where
 
 -- the same with what the code has read
 module _ (a new : List ℕ) (bytes : Bytes a) (C : Complete a new) {rank first : ℕ} (is-rank : rank ≡ areaRank a) (is-first : first ≡ firstTree new rank) where
-  first-is : first ≡ areaFirst a
+  pub first-is : first ≡ areaFirst a
   unfolding areaFirst
   first-is = is-first ∙ rw (C .isNew, is-rank)
 
@@ -162,19 +164,6 @@ module _ (a new : List ℕ) (bytes : Bytes a) (C : Complete a new) {rank first :
 
     pub join-read : {D K : ℕ} {r : Bool} → D ≡ areaDimension a → K ≡ areaK a → r ≡ recordsJoin (linkByDimension D) a at first n g D K → r ≡ joinSound a
     join-read d k e = e ∙ rw (is-at, is-P, first-is, is-n, is-g, d, k) (sym (join-is a bytes (C .sound) (C .all)))
-
--- and with the index of the ghosts
-module _ {a : List ℕ} (bytes : Bytes a) (C : Complete a (areaNew a)) {first P at n g : ℕ} (is-first : first ≡ areaFirst a) (is-P : P ≡ areaP a) (is-at : at ≡ slotsPlace P) (is-n : n ≡ areaCount a) (is-g : g ≡ areaGhosts a) where
-  first-entry : first ≡ firstTree (areaNew a) (areaRank a)
-  unfolding areaFirst
-  first-entry = is-first
-
-  pub slots-by : {marks behind : List ℕ} {K : ℕ} → GhostsIndexed a marks behind → K ≡ areaK a → areaK a ≤ 64 * length marks → SlotsNumbered a at first n g K × Indexed a (at + treeSize * n) g marks behind × (K ≤ 64 * length marks)
-  unfolding ghostSlotsPlace
-  slots-by x k room = (numbered-read a (areaNew a) bytes C refl first-entry is-P is-at is-n is-g k, rw (is-at, is-P, is-n, is-g) x, omega (arith, k))
-
-  pub joined-by : {D K : ℕ} {r : Bool} → D ≡ areaDimension a → K ≡ areaK a → r ≡ recordsJoin (linkByDimension D) a at first n g D K → r ≡ joinSound a
-  joined-by = join-read a (areaNew a) bytes C refl first-entry is-P is-at is-n is-g
 
 -- the new table has the rank's entries
 pub complete-long : {a new : List ℕ} {rank : ℕ} → Complete a new → rank ≡ areaRank a → 8 * (rank + 1 + 1) ≤ length new

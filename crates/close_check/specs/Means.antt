@@ -5,18 +5,18 @@ use mathlib.Core.Bool.{Bool, true, false, cond, _&&_}
 use mathlib.Core.List.{List}
 use lib.Dec.{ltb, eqb}
 use lib.ListN.{length}
-use Rattle.encoding.specs.Below.{allBelow, anyBelow, countBelow, sumBelow}
+use Rattle.encoding.specs.Below.{allBelow, anyBelow}
 use Rattle.encoding.specs.Pieces.{piece}
 use Rattle.offsets.specs.Limits.{maxTrees}
 use Rattle.pattern.specs.Sets.{getsFrom}
-use Rattle.records.specs.Shape.{shapeOk, dimensionOf, faceCount}
+use Rattle.records.specs.Shape.{dimensionOf, faceCount}
 use Rattle.records.specs.Record.{coreSize, treeSize, numberOf, shapeOf, neighbourOf, inForm}
 use Rattle.mesh.specs.Link.{orientationOk}
 use Rattle.mesh.specs.Means.{linkByDimension}
-use Rattle.ghost_links.specs.Means.{ghostUps, ghostDowns, ghostFromOneEnd}
 use Rattle.part.specs.Means.{held, heldCore, viewSound, inRange, neighbourIn}
 use Rattle.positions.specs.Means.{Indexed}
-use Rattle.area.specs.Layout.{ghostSlotsPlace}
+use Rattle.linked.specs.declared.layout.Records.{Records}
+use Rattle.area.specs.Layout.{slotsPlace, ghostSlotsPlace}
 use Rattle.area.specs.Area.{areaDimension, areaK, areaP, areaRank, areaCount, areaGhosts, areaOld, areaNew, areaFirst, heard, treeSlotCore, ghostSlot, areaSound}
 use Rattle.area.specs.Close.{allHeard}
 use Rattle.area.specs.Means.{HeaderHolds}
@@ -43,13 +43,13 @@ pub record Slots (a : List ℕ) (at first n g : ℕ) : Type 0 where
   pub outside : (j : ℕ) → j < g → inRange first (first + n) (numberOf (ghostFrom a at n j)) ≡ false
   pub ascends : (i j : ℕ) → i < j → j < g → numberOf (ghostFrom a at n i) < numberOf (ghostFrom a at n j)
 
--- and whose numbers are below K, whose trees have a shape and whose ghosts are in form
+-- and whose numbers are below K, whose records are in form
 pub record SlotsNumbered (a : List ℕ) (at first n g K : ℕ) : Type 0 where
   pub slots : Slots a at first n g
   pub below : (j : ℕ) → j < g → numberOf (ghostFrom a at n j) < K
   pub range : first + n ≤ K
   pub few : K ≤ maxTrees
-  pub treesShaped : (i : ℕ) → i < n → shapeOk (shapeOf (treeFrom a at i)) ≡ true
+  pub treesFormed : (i : ℕ) → i < n → inForm (first + i) (treeFrom a at i) ≡ true
   pub ghostsFormed : (j : ℕ) → j < g → inForm (numberOf (ghostFrom a at n j)) (ghostFrom a at n j) ≡ true
 
 -- the tests of the records, by either rule of a link: mesh's linkBetween, or its linkByDimension, which reads links by the dimension; proofs/ByDimension.antt: over all records both find the same
@@ -87,39 +87,6 @@ module _ (link : ℕ → List ℕ → ℕ → List ℕ → Bool) (a : List ℕ) 
   unfoldable pub recordsJoin : ℕ → ℕ → Bool
   recordsJoin D K = allBelow n (treeJoins D) && allBelow g (ghostJoins D K)
 
--- ---- each link looked at from one end, and a count: between a tree and a ghost from the tree, else from the record with the higher number. The tests of ghosts are ghost_links'. In proofs/FromOneEnd.antt: over all records it says what recordsJoin says by the dimension
-
--- the link of face f of tree i leads up, to a tree with a higher number; or down, to a tree with a lower one or out of the range
-module _ (a : List ℕ) (at first n : ℕ) where
-  unfoldable pub treeLeadsUp : ℕ → ℕ → Bool
-  treeLeadsUp i f = neighbourIn first (first + n) (treeFrom a at i) f && ltb (first + i) (neighbourOf (treeFrom a at i) f)
-
-  unfoldable pub treeLeadsDown : ℕ → ℕ → Bool
-  treeLeadsDown i f = cond (neighbourIn first (first + n) (treeFrom a at i) f) (ltb (neighbourOf (treeFrom a at i) f) (first + i)) true
-
-  -- how many links of tree i do
-  unfoldable pub treeUps : ℕ → ℕ
-  treeUps i = countBelow (faceCount (shapeOf (treeFrom a at i))) (treeLeadsUp i)
-
-  unfoldable pub treeDowns : ℕ → ℕ
-  treeDowns i = countBelow (faceCount (shapeOf (treeFrom a at i))) (treeLeadsDown i)
-
--- by a rule of a link
-module _ (link : ℕ → List ℕ → ℕ → List ℕ → Bool) where
-  -- a link of tree i leads up, or obeys the rule
-  unfoldable pub treeFace : List ℕ → ℕ → ℕ → ℕ → ℕ → ℕ → ℕ → Bool
-  treeFace a at first n g i f = cond (treeLeadsUp a at first n i f) true (linkOfTree link a at first n g i f)
-
-  unfoldable pub treeFromOneEnd : List ℕ → ℕ → ℕ → ℕ → ℕ → ℕ → ℕ → Bool
-  treeFromOneEnd a at first n g D i =
-      eqb (dimensionOf (shapeOf (treeFrom a at i))) D && allBelow (faceCount (shapeOf (treeFrom a at i))) (treeFace a at first n g i)
-
-  -- all records, and as many links up as down
-  unfoldable pub recordsFromOneEnd : List ℕ → ℕ → ℕ → ℕ → ℕ → ℕ → ℕ → Bool
-  recordsFromOneEnd a at first n g D K =
-      allBelow n (treeFromOneEnd a at first n g D) && allBelow g (ghostFromOneEnd link g (ghostFrom a at n) first n D K)
-      && eqb (sumBelow n (treeUps a at first n) + sumBelow g (ghostUps first n g (ghostFrom a at n))) (sumBelow n (treeDowns a at first n) + sumBelow g (ghostDowns g (ghostFrom a at n)))
-
 -- the records in an area's slots are those of a sound part; proofs/Reading.antt: with every due sender heard this is the joined part's soundness
 unfoldable pub joinSound : List ℕ → Bool
 joinSound a = viewSound (areaFirst a) (areaCount a) (areaGhosts a) (treeSlotCore a) (ghostSlot a) (areaDimension a) (areaK a)
@@ -130,6 +97,17 @@ pub record Complete (a new : List ℕ) : Type 0 where
   pub isNew : new ≡ areaNew a
   pub sound : areaSound a ≡ true
   pub all : allHeard a ≡ true
+
+-- the records in an area's slots
+pub record SlotsOf (a : List ℕ) (first : ℕ) (x : Records) : Type 0 where
+  pub head : x .head ≡ slotsPlace (areaP a)
+  pub tail : x .tail ≡ ghostSlotsPlace (areaP a) (areaCount a)
+  pub number : x .first .0 ≡ first
+  pub count : x .count ≡ areaCount a
+  pub ghosts : x .ghosts ≡ areaGhosts a
+  pub dimension : x .dimension ≡ areaDimension a
+  pub trees : x .trees ≡ areaK a
+  pub global : x .local ≡ false
 
 -- the index of an area's ghosts
 abbrev pub GhostsIndexed : List ℕ → List ℕ → List ℕ → Type 0

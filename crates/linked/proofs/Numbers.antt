@@ -19,6 +19,15 @@ use Rattle.ghost_links.proofs.Checking.{number-there}
 use Rattle.linked.specs.declared.layout.Records.{Records}
 use Rattle.linked.specs.Means.{ghostOf, ghostAfter, ghostNumbered, Laid, Marked, Numbered}
 
+-- numbers that ascend and are below K are no more than K
+module _ (number : ℕ → ℕ) (g K : ℕ) (ascends : (i j : ℕ) → i < j → j < g → number i < number j) (below : (j : ℕ) → j < g → number j < K) where
+  over : (j : ℕ) → j < g → j ≤ number j
+  over zero h = omega arith
+  over (suc j) h = omega (arith, over j (omega arith), ascends j (suc j) (omega arith) h)
+
+  pub few-ascending : g ≤ K
+  few-ascending = either (ltb K g) (λ p. let h : K < g = omega tests in omega (arith, over K h, below K h)) (λ p. omega tests)
+
 module _ (bs : List ℕ) (x : Records) where
   pub after-none : (j : ℕ) → j ≡ 0 → true ≡ ghostAfter bs x j
   unfolding ghostAfter
@@ -69,12 +78,8 @@ module _ (bs : List ℕ) (x : Records) where
     ascend i zero h l = absurd (omega arith)
     ascend i (suc j) h l = below-suc i j h (λ p. omega (arith, ascend i j p (omega arith), after j l)) (λ e. rw e (after j l))
 
-    over : (j : ℕ) → j < x .ghosts → j ≤ number j
-    over zero h = omega arith
-    over (suc j) h = omega (arith, over j (omega arith), after j h)
-
     pub few-ghosts : x .ghosts ≤ x .trees
-    few-ghosts = either (ltb (x .trees) (x .ghosts)) (λ p. let h : x .trees < x .ghosts = omega tests in omega (arith, over (x .trees) h, low (x .trees) h)) (λ p. omega tests)
+    few-ghosts = few-ascending number (x .ghosts) (x .trees) ascend low
 
     pub numbered : x .first .0 + x .count ≤ x .trees → x .trees ≤ maxTrees → Numbered bs x
     numbered w k = record { within = w; least = k; few = few-ghosts; below = low; outside = outer; ascends = ascend }

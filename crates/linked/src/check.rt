@@ -88,7 +88,7 @@ fn linked_of_many(bs: &[u8], x: Records) -> bool
 }
 
 // The same. To clear the words for all trees takes longer than to check a few records: up to 65,536 trees have fewer words.
-fn linked_of_all(bs: &[u8], x: Records) -> bool
+pub fn linked_of_all(bs: &[u8], x: Records) -> bool
     requires { ⌜ Laid (now bs) x × Numbered (now bs) x ⌝ }
     ensures { λ r. ⌜ r ≡ recordsLinked (now (bs .entry)) x ⌝ }
 {

@@ -1,57 +1,23 @@
-use Rattle.close_check.proofs.Joining.{slots-by, joined-by}
+use Rattle.close_check.proofs.OneLoop.{slots-marked, slots-numbered, slots-room, slots-join}
 use borrow.Author.Needs.{needs}
 use Rattle.close_check.proofs.join.join_by.Statement.{statement}
 use Rattle.close_check.proofs.join.join_by.Tie as tie
+use Rattle.close_check.proofs.join.join_by.Reads as reads
+use Rattle.close_check.proofs.join.join_by.Lts as lts
+use Rattle.close_check.proofs.join.slots_of.Reads as slots-of-reads
+use Rattle.linked.proofs.check.linked_by.Reads as linked-by-reads
 
-ranks-requires : tie.Need-ranks-requires
-ranks-requires c κs = search needs
+-- src/join.rt:44:36
+slots-of-requires : tie.Need-slots-of-requires
+slots-of-requires c κs = search needs
 
-slots-place-requires : tie.Need-slots-place-requires
-slots-place-requires c κs = search needs
+-- src/join.rt:44:5
+linked-by-requires : tie.Need-linked-by-requires
+linked-by-requires c κs = (slots-marked (λ i. c .before .before .before .shared-slice-known .given i .fits) (c .before .before .before .before .pre .0) (c .before .before .before .before .pre .1) (c .slots-of .ensures) (search needs) (c .before .before .before .before .pre .2), slots-numbered (λ i. c .before .before .before .shared-slice-known .given i .fits) (c .before .before .before .before .pre .0) (c .before .before .before .before .pre .1) (c .slots-of .ensures), slots-room (λ i. c .before .before .before .shared-slice-known .given i .fits) (c .before .before .before .before .pre .0) (c .before .before .before .before .pre .1) (c .slots-of .ensures) (c .before .before .before .before .pre .3))
 
-count-requires : tie.Need-count-requires
-count-requires c κs = search needs
-
-ghosts-requires : tie.Need-ghosts-requires
-ghosts-requires c κs = search needs
-
-dimension-requires : tie.Need-dimension-requires
-dimension-requires c κs = search needs
-
-trees-requires : tie.Need-trees-requires
-trees-requires c κs = search needs
-
-records-join-requires : tie.Need-records-join-requires
-records-join-requires c κs =
-    let shared-slice-known = c .before .before .before .before .before .before .before .before .shared-slice-known in
-    let pre = c .before .before .before .before .before .before .before .before .before .pre in
-    let ranks = c .before .before .before .before .before .ranks in
-    let slots-place = c .before .before .before .before .slots-place in
-    let count = c .before .before .before .count in
-    let ghosts = c .before .before .ghosts in
-    slots-by (λ i. shared-slice-known .given i .fits) (pre .0) (pre .1) (ranks .ensures) (slots-place .ensures .0) (count .ensures) (ghosts .ensures) (pre .2) (c .trees .ensures) (pre .3)
-
+-- src/join.rt:40:1
 returns : tie.Need-returns
-returns c =
-    let shared-slice-known = c .before .before .before .before .before .before .before .before .before .shared-slice-known in
-    let pre = c .before .before .before .before .before .before .before .before .before .before .pre in
-    let ranks = c .before .before .before .before .before .before .ranks in
-    let slots-place = c .before .before .before .before .before .slots-place in
-    let count = c .before .before .before .before .count in
-    let ghosts = c .before .before .before .ghosts in
-    let dimension = c .before .before .dimension in
-    let trees = c .before .trees in
-    joined-by (λ i. shared-slice-known .given i .fits) (pre .0) (pre .1) (ranks .ensures) (slots-place .ensures .0) (count .ensures) (ghosts .ensures) (dimension .ensures) (trees .ensures) (c .records-join .ensures)
+returns c = slots-join (λ i. c .before .before .before .before .shared-slice-known .given i .fits) (c .before .before .before .before .before .pre .0) (c .before .before .before .before .before .pre .1) (c .before .slots-of .ensures) (c .linked-by .ensures)
 
 pub join-by-spec : {M : Type 1} → statement M
-join-by-spec =
-    tie.close
-    (tie.spec
-    ranks-requires
-    slots-place-requires
-    count-requires
-    ghosts-requires
-    dimension-requires
-    trees-requires
-    records-join-requires
-    returns)
+join-by-spec = tie.close (tie.spec slots-of-requires linked-by-requires returns)

@@ -1,66 +1,39 @@
 use native.Mathlib.Omega.{arith}
-use Rattle.close_check.proofs.Joining.{complete-long, first-word, numbered-read, join-read}
+use Rattle.close_check.proofs.OneLoop.{slots-laid, slots-numbered, slots-join}
+use Rattle.close_check.proofs.Joining.{complete-long, first-word, first-is}
 use borrow.Author.Needs.{needs}
 use Rattle.close_check.proofs.join.join_sound.Statement.{statement}
 use Rattle.close_check.proofs.join.join_sound.Tie as tie
+use Rattle.close_check.proofs.join.join_sound.Reads as reads
+use Rattle.close_check.proofs.join.join_sound.Lts as lts
+use Rattle.area.proofs.read.rank.Reads as rank-reads
+use Rattle.close_check.proofs.join.slots_of.Reads as slots-of-reads
+use Rattle.linked.proofs.check.linked_of_all.Reads as linked-of-all-reads
+use Rattle.offsets.proofs.table.first_tree.Reads as first-tree-reads
 
+-- src/join.rt:35:49
 rank-requires : tie.Need-rank-requires
 rank-requires c κs = search needs
 
+-- src/join.rt:35:9
 first-tree-requires : tie.Need-first-tree-requires
 first-tree-requires c κs = omega (arith, complete-long (c .before .before .before .pre) (c .rank .ensures))
 
-ranks-requires : tie.Need-ranks-requires
-ranks-requires c κs = search needs
+-- src/join.rt:36:67
+cast-t6 : tie.Need-cast-t6
+cast-t6 c = omega (arith, first-word _ _ (λ i. c .before .before .before .shared-slice-known .given i .fits) (c .before .before .before .before .pre) (c .before .rank .ensures) (c .first-tree .ensures))
 
-slots-place-requires : tie.Need-slots-place-requires
-slots-place-requires c κs = search needs
+-- src/join.rt:36:40
+slots-of-requires : tie.Need-slots-of-requires
+slots-of-requires c κs = search needs
 
-cast-all-records-join : tie.Need-cast-all-records-join
-cast-all-records-join c =
-    let shared-slice-known = c .before .before .before .before .before .shared-slice-known in
-    let pre = c .before .before .before .before .before .before .pre in
-    let rank = c .before .before .before .rank in
-    let first-tree = c .before .before .first-tree in
-    omega (arith, first-word _ _ (λ i. shared-slice-known .given i .fits) pre (rank .ensures) (first-tree .ensures))
+-- src/join.rt:36:5
+linked-of-all-requires : tie.Need-linked-of-all-requires
+linked-of-all-requires c κs = (slots-laid (λ i. c .before .before .before .before .shared-slice-known .given i .fits) (c .before .before .before .before .before .pre) (first-is _ _ (λ i. c .before .before .before .before .shared-slice-known .given i .fits) (c .before .before .before .before .before .pre) (c .before .before .rank .ensures) (c .before .first-tree .ensures)) (c .slots-of .ensures) (search needs), slots-numbered (λ i. c .before .before .before .before .shared-slice-known .given i .fits) (c .before .before .before .before .before .pre) (first-is _ _ (λ i. c .before .before .before .before .shared-slice-known .given i .fits) (c .before .before .before .before .before .pre) (c .before .before .rank .ensures) (c .before .first-tree .ensures)) (c .slots-of .ensures))
 
-count-requires : tie.Need-count-requires
-count-requires c κs = search needs
-
-ghosts-requires : tie.Need-ghosts-requires
-ghosts-requires c κs = search needs
-
-dimension-requires : tie.Need-dimension-requires
-dimension-requires c κs = search needs
-
-trees-requires : tie.Need-trees-requires
-trees-requires c κs = search needs
-
-all-records-join-requires : tie.Need-all-records-join-requires
-all-records-join-requires c κs =
-    let shared-slice-known = c .before .before .before .before .before .before .before .before .before .shared-slice-known in
-    let pre = c .before .before .before .before .before .before .before .before .before .before .pre in
-    let rank = c .before .before .before .before .before .before .before .rank in
-    let first-tree = c .before .before .before .before .before .before .first-tree in
-    let ranks = c .before .before .before .before .before .ranks in
-    let slots-place = c .before .before .before .before .slots-place in
-    let count = c .before .before .before .count in
-    let ghosts = c .before .before .ghosts in
-    numbered-read _ _ (λ i. shared-slice-known .given i .fits) pre (rank .ensures) (first-tree .ensures) (ranks .ensures) (slots-place .ensures .0) (count .ensures) (ghosts .ensures) (c .trees .ensures)
-
+-- src/join.rt:31:1
 returns : tie.Need-returns
-returns c =
-    let shared-slice-known = c .before .before .before .before .before .before .before .before .before .before .shared-slice-known in
-    let pre = c .before .before .before .before .before .before .before .before .before .before .before .pre in
-    let rank = c .before .before .before .before .before .before .before .before .rank in
-    let first-tree = c .before .before .before .before .before .before .before .first-tree in
-    let ranks = c .before .before .before .before .before .before .ranks in
-    let slots-place = c .before .before .before .before .before .slots-place in
-    let count = c .before .before .before .before .count in
-    let ghosts = c .before .before .before .ghosts in
-    let dimension = c .before .before .dimension in
-    let trees = c .before .trees in
-    join-read _ _ (λ i. shared-slice-known .given i .fits) pre (rank .ensures) (first-tree .ensures) (ranks .ensures) (slots-place .ensures .0) (count .ensures) (ghosts .ensures) (dimension .ensures) (trees .ensures) (c .all-records-join .ensures)
+returns c = slots-join (λ i. c .before .before .before .before .before .shared-slice-known .given i .fits) (c .before .before .before .before .before .before .pre) (first-is _ _ (λ i. c .before .before .before .before .before .shared-slice-known .given i .fits) (c .before .before .before .before .before .before .pre) (c .before .before .before .rank .ensures) (c .before .before .first-tree .ensures)) (c .before .slots-of .ensures) (c .linked-of-all .ensures)
 
 pub join-sound-spec : {M : Type 1} → statement M
 join-sound-spec =
@@ -68,12 +41,7 @@ join-sound-spec =
     (tie.spec
     rank-requires
     first-tree-requires
-    ranks-requires
-    slots-place-requires
-    cast-all-records-join
-    count-requires
-    ghosts-requires
-    dimension-requires
-    trees-requires
-    all-records-join-requires
+    cast-t6
+    slots-of-requires
+    linked-of-all-requires
     returns)

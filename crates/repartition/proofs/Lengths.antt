@@ -2,7 +2,7 @@
 use Prim.Native.Nat.{ℕ, _+_, _*_, _≤_, _<_}
 use native.Mathlib.Omega.{arith}
 use mathlib.Core.Path.{_≡_, refl, sym, ap, ap₂, _∙_}
-use mathlib.Core.Bool.{Bool, true, false, cond, not, _&&_}
+use mathlib.Core.Bool.{Bool, true, false, cond, not, _&&_, and-false}
 use mathlib.Core.List.{List, [], _∷_, _++_}
 use lib.Dec.{leb, eqb}
 use lib.ListN.{length, length-append, length-replicate}
@@ -35,6 +35,9 @@ use Rattle.ele_mesh.specs.Calls.{triangleMesh, triangleBytes, triangleRefusal, 
 use Rattle.part.specs.Checks.{rankChecks}
 use Rattle.part.specs.Cut.{cutPart}
 use Rattle.part_cut.specs.Calls.{cutChecks, partLengthOf, cutPartOf}
+use Rattle.restart.specs.Restart.{paddedTable, leftOutEmpty}
+use Rattle.restart.specs.Calls.{padChecks, padTable}
+use Rattle.restart.proofs.Writing.{padded-length}
 use Rattle.message.specs.Layout.{messageHeaderBytes}
 use Rattle.message.specs.Rule.{ruleMessage}
 use Rattle.message.specs.Build.{partMessage}
@@ -249,6 +252,15 @@ weights-tell ws ls =
     table-tells (length ws) (weightsOk ws && leavesOk ls) (weightedTable ws ls) (weightsRefusal ws ls) (table-length _ _ (length ws))
     (λ out t. rw (and-fst (weightsOk ws) (leavesOk ls) t, and-snd (weightsOk ws) (leavesOk ls) t)) (λ out t. rw t)
 
+pads-tell : (t : List ℕ) (P : ℕ) → TableTells P (ranksOk t && (valid t && leftOutEmpty t P)) (padTable t P)
+unfolding padTable padChecks firstFailed
+pads-tell t P =
+    table-tells P (ranksOk t && (valid t && leftOutEmpty t P)) (paddedTable t P) (λ out. firstFailed (padChecks t P ++ (check (leb (tableLength P) (length out)) 22 ∷ []))) (padded-length t P)
+    (λ out e.
+    let rest = and-snd (ranksOk t) (valid t && leftOutEmpty t P) e in
+    rw (and-fst (ranksOk t) (valid t && leftOutEmpty t P) e, and-fst (valid t) (leftOutEmpty t P) rest, and-snd (valid t) (leftOutEmpty t P) rest))
+    (λ out e. rw (e, and-false (ranksOk t)))
+
 pub lengths-agree : LengthsAgree
 lengths-agree =
     record {
@@ -263,4 +275,5 @@ lengths-agree =
       table-by-leaves = leaves-tell;
       table-by-blocks = blocks-tell;
       table-by-weights = weights-tell;
+      table-padded = pads-tell;
     }

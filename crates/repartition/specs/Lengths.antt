@@ -6,6 +6,7 @@ use mathlib.Core.List.{List}
 use lib.ListN.{length}
 use Rattle.encoding.specs.declared.answer.Length.{Length}
 use Rattle.encoding.specs.Answer.{lengthRefused}
+use Rattle.offsets.specs.Table.{ranksOk, valid}
 use Rattle.offsets_write.specs.Calls.{tableLengthAnswer, partitionOk, writeTable}
 use Rattle.leaf_shares.specs.Leaves.{leavesOk}
 use Rattle.leaves.specs.Weighted.{weightsOk}
@@ -14,6 +15,8 @@ use Rattle.leaves.specs.Calls.{tableFromLeaves, tableFromWeights, tableFromBloc
 use Rattle.brick.specs.Calls.{brickLengthOf, writeBrickOf}
 use Rattle.ele_mesh.specs.Calls.{triangleLength, importTriangle}
 use Rattle.part_cut.specs.Calls.{partLengthOf, cutPartOf}
+use Rattle.restart.specs.Restart.{leftOutEmpty}
+use Rattle.restart.specs.Calls.{padTable}
 use Rattle.message.specs.Calls.{messageLengthOf, buildMessageOf}
 use Rattle.build_all.specs.declared.Messages.{Messages}
 use Rattle.build_all.specs.Calls.{buildAllLengthOf, buildAllOf}
@@ -55,3 +58,4 @@ pub record LengthsAgree : Type 0 where
   pub table-by-leaves : (P : ℕ) (ls : List ℕ) → TableTells P (leavesOk ls) (tableFromLeaves P ls)
   pub table-by-blocks : (P : ℕ) (ls sums : List ℕ) → TableTells P (leavesOk ls && sumsOk ls sums) (tableFromBlocks P ls sums)
   pub table-by-weights : (ws ls : List ℕ) → TableTells (length ws) (weightsOk ws && leavesOk ls) (tableFromWeights ws ls)
+  pub table-padded : (t : List ℕ) (P : ℕ) → TableTells P (ranksOk t && (valid t && leftOutEmpty t P)) (padTable t P)

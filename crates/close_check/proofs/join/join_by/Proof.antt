@@ -13,11 +13,18 @@ slots-of-requires c κs = search needs
 
 -- src/join.rt:44:5
 linked-by-requires : tie.Need-linked-by-requires
-linked-by-requires c κs = (slots-marked (λ i. c .before .before .before .shared-slice-known .given i .fits) (c .before .before .before .before .pre .0) (c .before .before .before .before .pre .1) (c .slots-of .ensures) (search needs) (c .before .before .before .before .pre .2), slots-numbered (λ i. c .before .before .before .shared-slice-known .given i .fits) (c .before .before .before .before .pre .0) (c .before .before .before .before .pre .1) (c .slots-of .ensures), slots-room (λ i. c .before .before .before .shared-slice-known .given i .fits) (c .before .before .before .before .pre .0) (c .before .before .before .before .pre .1) (c .slots-of .ensures) (c .before .before .before .before .pre .3))
+linked-by-requires c κs =
+    let shared-slice-known = c .before .before .before .shared-slice-known in
+    let pre = c .before .before .before .before .pre in
+    (slots-marked (λ i. shared-slice-known .given i .fits) (pre .0) (pre .1) (c .slots-of .ensures) (search needs) (pre .2), slots-numbered (λ i. shared-slice-known .given i .fits) (pre .0) (pre .1) (c .slots-of .ensures), slots-room (λ i. shared-slice-known .given i .fits) (pre .0) (pre .1) (c .slots-of .ensures) (pre .3))
 
 -- src/join.rt:40:1
 returns : tie.Need-returns
-returns c = slots-join (λ i. c .before .before .before .before .shared-slice-known .given i .fits) (c .before .before .before .before .before .pre .0) (c .before .before .before .before .before .pre .1) (c .before .slots-of .ensures) (c .linked-by .ensures)
+returns c =
+    let shared-slice-known = c .before .before .before .before .shared-slice-known in
+    let pre = c .before .before .before .before .before .pre in
+    let slots-of = c .before .slots-of in
+    slots-join (λ i. shared-slice-known .given i .fits) (pre .0) (pre .1) (slots-of .ensures) (c .linked-by .ensures)
 
 pub join-by-spec : {M : Type 1} → statement M
 join-by-spec = tie.close (tie.spec slots-of-requires linked-by-requires returns)

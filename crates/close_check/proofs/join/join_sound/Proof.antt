@@ -21,7 +21,11 @@ first-tree-requires c κs = omega (arith, complete-long (c .before .before .befo
 
 -- src/join.rt:36:67
 cast-t6 : tie.Need-cast-t6
-cast-t6 c = omega (arith, first-word _ _ (λ i. c .before .before .before .shared-slice-known .given i .fits) (c .before .before .before .before .pre) (c .before .rank .ensures) (c .first-tree .ensures))
+cast-t6 c =
+    let shared-slice-known = c .before .before .before .shared-slice-known in
+    let pre = c .before .before .before .before .pre in
+    let rank = c .before .rank in
+    omega (arith, first-word _ _ (λ i. shared-slice-known .given i .fits) pre (rank .ensures) (c .first-tree .ensures))
 
 -- src/join.rt:36:40
 slots-of-requires : tie.Need-slots-of-requires
@@ -29,11 +33,22 @@ slots-of-requires c κs = search needs
 
 -- src/join.rt:36:5
 linked-of-all-requires : tie.Need-linked-of-all-requires
-linked-of-all-requires c κs = (slots-laid (λ i. c .before .before .before .before .shared-slice-known .given i .fits) (c .before .before .before .before .before .pre) (first-is _ _ (λ i. c .before .before .before .before .shared-slice-known .given i .fits) (c .before .before .before .before .before .pre) (c .before .before .rank .ensures) (c .before .first-tree .ensures)) (c .slots-of .ensures) (search needs), slots-numbered (λ i. c .before .before .before .before .shared-slice-known .given i .fits) (c .before .before .before .before .before .pre) (first-is _ _ (λ i. c .before .before .before .before .shared-slice-known .given i .fits) (c .before .before .before .before .before .pre) (c .before .before .rank .ensures) (c .before .first-tree .ensures)) (c .slots-of .ensures))
+linked-of-all-requires c κs =
+    let shared-slice-known = c .before .before .before .before .shared-slice-known in
+    let pre = c .before .before .before .before .before .pre in
+    let rank = c .before .before .rank in
+    let first-tree = c .before .first-tree in
+    (slots-laid (λ i. shared-slice-known .given i .fits) pre (first-is _ _ (λ i. shared-slice-known .given i .fits) pre (rank .ensures) (first-tree .ensures)) (c .slots-of .ensures) (search needs), slots-numbered (λ i. shared-slice-known .given i .fits) pre (first-is _ _ (λ i. shared-slice-known .given i .fits) pre (rank .ensures) (first-tree .ensures)) (c .slots-of .ensures))
 
 -- src/join.rt:31:1
 returns : tie.Need-returns
-returns c = slots-join (λ i. c .before .before .before .before .before .shared-slice-known .given i .fits) (c .before .before .before .before .before .before .pre) (first-is _ _ (λ i. c .before .before .before .before .before .shared-slice-known .given i .fits) (c .before .before .before .before .before .before .pre) (c .before .before .before .rank .ensures) (c .before .before .first-tree .ensures)) (c .before .slots-of .ensures) (c .linked-of-all .ensures)
+returns c =
+    let shared-slice-known = c .before .before .before .before .before .shared-slice-known in
+    let pre = c .before .before .before .before .before .before .pre in
+    let rank = c .before .before .before .rank in
+    let first-tree = c .before .before .first-tree in
+    let slots-of = c .before .slots-of in
+    slots-join (λ i. shared-slice-known .given i .fits) pre (first-is _ _ (λ i. shared-slice-known .given i .fits) pre (rank .ensures) (first-tree .ensures)) (slots-of .ensures) (c .linked-of-all .ensures)
 
 pub join-sound-spec : {M : Type 1} → statement M
 join-sound-spec =

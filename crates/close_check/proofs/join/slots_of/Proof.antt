@@ -43,7 +43,14 @@ trees-requires c κs = search needs
 
 -- src/join.rt:12:1
 returns : tie.Need-returns
-returns c = record { head = c .before .before .before .before .slots-place .ensures .0 ∙ ap slotsPlace (c .before .before .before .before .before .before .ranks .ensures); tail = c .before .before .before .ghost-slots-place .ensures .0 ∙ ap₂ ghostSlotsPlace (c .before .before .before .before .before .before .ranks .ensures) (c .before .before .before .before .before .count .ensures); number = refl; count = c .before .before .before .before .before .count .ensures; ghosts = c .before .before .ghosts .ensures; dimension = c .before .dimension .ensures; trees = c .trees .ensures; global = refl }
+returns c =
+    let slots-place = c .before .before .before .before .slots-place in
+    let ranks = c .before .before .before .before .before .before .ranks in
+    let ghost-slots-place = c .before .before .before .ghost-slots-place in
+    let at-count = c .before .before .before .before .before .count in
+    let at-ghosts = c .before .before .ghosts in
+    let at-dimension = c .before .dimension in
+    record { head = slots-place .ensures .0 ∙ ap slotsPlace (ranks .ensures); tail = ghost-slots-place .ensures .0 ∙ ap₂ ghostSlotsPlace (ranks .ensures) (at-count .ensures); number = refl; count = at-count .ensures; ghosts = at-ghosts .ensures; dimension = at-dimension .ensures; trees = c .trees .ensures; global = refl }
 
 pub slots-of-spec : {M : Type 1} → statement M
 slots-of-spec =

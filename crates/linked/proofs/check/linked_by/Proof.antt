@@ -18,15 +18,23 @@ trees-linked-requires c κs = search needs
 
 -- src/check.rt:59:9
 returns : tie.Need-returns
-returns c = trees-fail _ _ (c .before .before .before .before .before .before .pre .1) (sym (c .before .before .trees-linked .ensures .tested) ∙ not-true _ (c .if1 .taken))
+returns c =
+    let pre = c .before .before .before .before .before .before .pre in
+    let trees-linked = c .before .before .trees-linked in
+    trees-fail _ _ (pre .1) (sym (trees-linked .ensures .tested) ∙ not-true _ (c .if1 .taken))
 
 -- src/check.rt:62:9
 ghosts-linked-requires : tie.Need-ghosts-linked-requires
-ghosts-linked-requires c κs = (ghosts-marked _ _ (c .before .before .before .before .before .before .before .pre .0 .laid) (c .before .before .before .before .before .before .before .pre .1) (c .before .before .before .before .before .before .before .pre .0 .indexed) (c .before .before .before .before .before .before .before .pre .2), λ e. clash e refl)
+ghosts-linked-requires c κs =
+    let pre = c .before .before .before .before .before .before .before .pre in
+    (ghosts-marked _ _ (pre .0 .laid) (pre .1) (pre .0 .indexed) (pre .2), λ e. clash e refl)
 
 -- src/check.rt:75:9
 returns-2 : tie.Need-returns-2
-returns-2 c = ghosts-fail _ _ (c .before .before .before .before .before .before .before .before .before .before .pre .1) (sym (ghosts-read _ _ (c .before .before .ghosts-linked .ensures) .tested) ∙ not-true _ (c .if2 .taken))
+returns-2 c =
+    let pre = c .before .before .before .before .before .before .before .before .before .before .pre in
+    let ghosts-linked = c .before .before .ghosts-linked in
+    ghosts-fail _ _ (pre .1) (sym (ghosts-read _ _ (ghosts-linked .ensures) .tested) ∙ not-true _ (c .if2 .taken))
 
 -- src/check.rt:77:5
 add-result : tie.Need-add-result
@@ -38,7 +46,13 @@ add-result-2 c = search needs
 
 -- src/check.rt:53:1
 returns-3 : tie.Need-returns-3
-returns-3 c = links-counted _ _ (c .before .before .before .before .before .before .before .before .before .before .before .before .before .before .pre .1) (c .before .before .before .before .before .before .before .before .before .before .trees-linked .ensures) (not-false _ (c .before .before .before .before .before .before .before .before .if1 .left)) (ghosts-read _ _ (c .before .before .before .before .before .before .ghosts-linked .ensures)) (not-false _ (c .before .before .before .before .if2 .left))
+returns-3 c =
+    let pre = c .before .before .before .before .before .before .before .before .before .before .before .before .before .before .pre in
+    let trees-linked = c .before .before .before .before .before .before .before .before .before .before .trees-linked in
+    let if1 = c .before .before .before .before .before .before .before .before .if1 in
+    let ghosts-linked = c .before .before .before .before .before .before .ghosts-linked in
+    let if2 = c .before .before .before .before .if2 in
+    links-counted _ _ (pre .1) (trees-linked .ensures) (not-false _ (if1 .left)) (ghosts-read _ _ (ghosts-linked .ensures)) (not-false _ (if2 .left))
 
 pub linked-by-spec : {M : Type 1} → statement M
 linked-by-spec =

@@ -20,7 +20,10 @@ slice-aggregate-make-2 c = search needs
 
 -- src/check.rt:99:9
 make-requires : tie.Need-make-requires
-make-requires c κs = (numbers-below _ _ (c .before .before .before .before .before .pre .0) (c .before .before .before .before .before .pre .1), omega (arith, c .before .before .if1 .taken), blank 1024 (omega arith))
+make-requires c κs =
+    let pre = c .before .before .before .before .before .pre in
+    let if1 = c .before .before .if1 in
+    (numbers-below _ _ (pre .0) (pre .1), omega (arith, if1 .taken), blank 1024 (omega arith))
 
 -- src/check.rt:100:33
 slice-aggregate-linked-by : tie.Need-slice-aggregate-linked-by
@@ -32,7 +35,11 @@ slice-aggregate-linked-by-2 c = search needs
 
 -- src/check.rt:100:9
 linked-by-requires : tie.Need-linked-by-requires
-linked-by-requires c κs = (marked _ _ (c .before .before .before .before .before .before .before .before .before .before .pre .0) (c .before .before .before .before .before .before .before .before .before .before .pre .1) (c .before .before .before .before .make .ensures), c .before .before .before .before .before .before .before .before .before .before .pre .1, omega (arith, c .before .before .before .before .before .before .before .if1 .taken))
+linked-by-requires c κs =
+    let pre = c .before .before .before .before .before .before .before .before .before .before .pre in
+    let make = c .before .before .before .before .make in
+    let if1 = c .before .before .before .before .before .before .before .if1 in
+    (marked _ _ (pre .0) (pre .1) (make .ensures), pre .1, omega (arith, if1 .taken))
 
 -- src/check.rt:100:9
 returns : tie.Need-returns

@@ -19,7 +19,9 @@ slice-aggregate-make-2 c = search needs
 
 -- src/check.rt:87:5
 make-requires : tie.Need-make-requires
-make-requires c κs = (numbers-below _ _ (c .before .before .before .pre .0) (c .before .before .before .pre .1), omega (arith, c .before .before .before .pre .1 .least), blank 16384 (omega arith))
+make-requires c κs =
+    let pre = c .before .before .before .pre in
+    (numbers-below _ _ (pre .0) (pre .1), omega (arith, pre .1 .least), blank 16384 (omega arith))
 
 -- src/check.rt:88:22
 slice-aggregate-linked-by : tie.Need-slice-aggregate-linked-by
@@ -31,7 +33,10 @@ slice-aggregate-linked-by-2 c = search needs
 
 -- src/check.rt:88:5
 linked-by-requires : tie.Need-linked-by-requires
-linked-by-requires c κs = (marked _ _ (c .before .before .before .before .before .before .before .before .pre .0) (c .before .before .before .before .before .before .before .before .pre .1) (c .before .before .before .before .make .ensures), c .before .before .before .before .before .before .before .before .pre .1, omega (arith, c .before .before .before .before .before .before .before .before .pre .1 .least))
+linked-by-requires c κs =
+    let pre = c .before .before .before .before .before .before .before .before .pre in
+    let make = c .before .before .before .before .make in
+    (marked _ _ (pre .0) (pre .1) (make .ensures), pre .1, omega (arith, pre .1 .least))
 
 -- src/check.rt:81:1
 returns : tie.Need-returns

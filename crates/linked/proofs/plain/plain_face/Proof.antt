@@ -23,7 +23,11 @@ code-of-requires c κs = search needs
 
 -- src/plain.rt:55:1
 returns : tie.Need-returns
-returns c = λ t. plain-fits _ _ _ (c .before .tree-at .ensures) _ (c .before .before .before .before .before .before .pre .4) (c .before .before .before .before .before .before .pre .3) (c .before .before .before .before .before .before .pre .1) (c .before .before .before .before .before .before .pre .5) (c .before .before .before .before .before .before .pre .6) (c .code-of .ensures) (c .before .before .before .before .alike-ok .ensures) t
+returns c =
+    let tree-at = c .before .tree-at in
+    let pre = c .before .before .before .before .before .before .pre in
+    let alike-ok = c .before .before .before .before .alike-ok in
+    λ t. plain-fits _ _ _ (tree-at .ensures) _ (pre .4) (pre .3) (pre .1) (pre .5) (pre .6) (c .code-of .ensures) (alike-ok .ensures) t
 
 pub plain-face-spec : {M : Type 1} → statement M
 plain-face-spec = tie.close (tie.spec alike-ok-requires tree-at-requires code-of-requires returns)

@@ -31,11 +31,21 @@ returns c = c .before .before .before .before .loop .inv
 
 -- src/plain.rt:118:9
 add-ups : tie.Need-add-ups Inv-loop μ-loop
-add-ups c = omega (arith, c .before .before .before .before .before .loop .inv .few .0, c .before .before .before .before .before .loop .inv .within, c .before .before .before .plain-tree .ensures (not-false _ (c .before .if1 .left)) .few .0, c .before .before .before .before .before .before .before .pre .0 .most)
+add-ups c =
+    let loop = c .before .before .before .before .before .loop in
+    let plain-tree = c .before .before .before .plain-tree in
+    let if1 = c .before .if1 in
+    let pre = c .before .before .before .before .before .before .before .pre in
+    omega (arith, loop .inv .few .0, loop .inv .within, plain-tree .ensures (not-false _ (if1 .left)) .few .0, pre .0 .most)
 
 -- src/plain.rt:119:9
 add-downs : tie.Need-add-downs Inv-loop μ-loop
-add-downs c = omega (arith, c .before .before .before .before .before .before .loop .inv .few .1, c .before .before .before .before .before .before .loop .inv .within, c .before .before .before .before .plain-tree .ensures (not-false _ (c .before .before .if1 .left)) .few .1, c .before .before .before .before .before .before .before .before .pre .0 .most)
+add-downs c =
+    let loop = c .before .before .before .before .before .before .loop in
+    let plain-tree = c .before .before .before .before .plain-tree in
+    let if1 = c .before .before .if1 in
+    let pre = c .before .before .before .before .before .before .before .before .pre in
+    omega (arith, loop .inv .few .1, loop .inv .within, plain-tree .ensures (not-false _ (if1 .left)) .few .1, pre .0 .most)
 
 -- src/plain.rt:120:9
 add-next : tie.Need-add-next Inv-loop μ-loop
@@ -47,7 +57,12 @@ loop-less c = search needs
 
 -- src/plain.rt:113:5
 loop-again : tie.Need-loop-again Inv-loop μ-loop
-loop-again c = run-next _ _ _ _ _ (c .before .before .before .before .before .before .loop .inv) (c .before .before .before .before .plain-tree .ensures (not-false _ (c .before .before .if1 .left))) (not-false _ (c .before .before .if1 .left)) (c .before .before .before .before .before .loop-test .taken)
+loop-again c =
+    let loop = c .before .before .before .before .before .before .loop in
+    let plain-tree = c .before .before .before .before .plain-tree in
+    let if1 = c .before .before .if1 in
+    let loop-test = c .before .before .before .before .before .loop-test in
+    run-next _ _ _ _ _ (loop .inv) (plain-tree .ensures (not-false _ (if1 .left))) (not-false _ (if1 .left)) (loop-test .taken)
 
 -- src/plain.rt:105:1
 returns-2 : tie.Need-returns-2 Inv-loop μ-loop

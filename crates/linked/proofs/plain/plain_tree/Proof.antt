@@ -91,19 +91,35 @@ loop-less c = search needs
 
 -- src/plain.rt:80:5
 loop-again : tie.Need-loop-again Inv-loop μ-loop
-loop-again c = (omega arith, faces-up _ _ _ _ (c .before .before .before .before .before .before .loop .inv .1) (face-up _ _ _ (c .before .before .before .before .before .before .before .before .before .before .before .before .before .tree-at .ensures) _ (c .before .before .before .before .neighbour-of .ensures) (c .before .before .before .tree-of .ensures) (c .if3 .left) (c .before .before .before .before .before .before .before .before .before .before .before .before .before .before .before .pre .1) (c .before .before .if2 .taken)) (up-up _ _ _ (c .before .before .before .before .before .before .before .before .before .before .before .before .before .tree-at .ensures) _ (c .before .before .before .before .neighbour-of .ensures) (c .before .before .before .tree-of .ensures) (c .if3 .left) (c .before .before .before .before .before .before .before .before .before .before .before .before .before .before .before .pre .1) (c .before .before .if2 .taken)) (up-down _ _ _ (c .before .before .before .before .before .before .before .before .before .before .before .before .before .tree-at .ensures) _ (c .before .before .before .before .neighbour-of .ensures) (c .before .before .before .tree-of .ensures) (c .if3 .left) (c .before .before .before .before .before .before .before .before .before .before .before .before .before .before .before .pre .1) (c .before .before .if2 .taken)))
+loop-again c =
+    let loop = c .before .before .before .before .before .before .loop in
+    let tree-at = c .before .before .before .before .before .before .before .before .before .before .before .before .before .tree-at in
+    let neighbour-of = c .before .before .before .before .neighbour-of in
+    let tree-of = c .before .before .before .tree-of in
+    let pre = c .before .before .before .before .before .before .before .before .before .before .before .before .before .before .before .pre in
+    let if2 = c .before .before .if2 in
+    (omega arith, faces-up _ _ _ _ (loop .inv .1) (face-up _ _ _ (tree-at .ensures) _ (neighbour-of .ensures) (tree-of .ensures) (c .if3 .left) (pre .1) (if2 .taken)) (up-up _ _ _ (tree-at .ensures) _ (neighbour-of .ensures) (tree-of .ensures) (c .if3 .left) (pre .1) (if2 .taken)) (up-down _ _ _ (tree-at .ensures) _ (neighbour-of .ensures) (tree-of .ensures) (c .if3 .left) (pre .1) (if2 .taken)))
 
 -- src/plain.rt:91:17
 plain-face-requires : tie.Need-plain-face-requires Inv-loop μ-loop
-plain-face-requires c κs = (
-  c .before .before .before .before .before .before .before .before .before .before .before .before .before .pre .0,
-  plain-known _ _ _ (c .before .before .before .before .before .before .before .before .before .before .before .tree-at .ensures) (c .before .before .before .before .before .before .before .before .before .before .numbered .ensures) refl (c .before .before .before .before .before .before .before .before .shape-of .ensures) (c .before .before .before .before .before .before .before .zeros-ok .ensures) (c .before .before .before .before .before .before .region-ok .ensures) (not-false _ (c .before .before .before .before .before .if1 .left)) (c .before .before .before .before .before .before .before .before .before .before .before .before .before .pre .1),
-  omega arith,
-  c .if2 .left,
-  place-read _ _ _ (c .before .before .before .before .before .before .before .before .before .before .before .tree-at .ensures) _ (c .before .before .neighbour-of .ensures) (c .before .tree-of .ensures),
-  plain-shape _ _ _ (c .before .before .before .before .before .before .before .before .before .before .before .tree-at .ensures) (c .before .before .before .before .before .before .before .before .before .before .numbered .ensures) refl (c .before .before .before .before .before .before .before .before .shape-of .ensures) (c .before .before .before .before .before .before .before .zeros-ok .ensures) (c .before .before .before .before .before .before .region-ok .ensures) (not-false _ (c .before .before .before .before .before .if1 .left)),
-  plain-space _ _ _ (c .before .before .before .before .before .before .before .before .before .before .before .tree-at .ensures) (c .before .before .before .before .before .before .before .before .before .before .numbered .ensures) refl (c .before .before .before .before .before .before .before .before .shape-of .ensures) (c .before .before .before .before .before .before .before .zeros-ok .ensures) (c .before .before .before .before .before .before .region-ok .ensures) (not-false _ (c .before .before .before .before .before .if1 .left)),
-)
+plain-face-requires c κs =
+    let pre = c .before .before .before .before .before .before .before .before .before .before .before .before .before .pre in
+    let tree-at = c .before .before .before .before .before .before .before .before .before .before .before .tree-at in
+    let numbered = c .before .before .before .before .before .before .before .before .before .before .numbered in
+    let shape-of = c .before .before .before .before .before .before .before .before .shape-of in
+    let zeros-ok = c .before .before .before .before .before .before .before .zeros-ok in
+    let region-ok = c .before .before .before .before .before .before .region-ok in
+    let if1 = c .before .before .before .before .before .if1 in
+    let neighbour-of = c .before .before .neighbour-of in
+    let tree-of = c .before .tree-of in (
+      pre .0,
+      plain-known _ _ _ (tree-at .ensures) (numbered .ensures) refl (shape-of .ensures) (zeros-ok .ensures) (region-ok .ensures) (not-false _ (if1 .left)) (pre .1),
+      omega arith,
+      c .if2 .left,
+      place-read _ _ _ (tree-at .ensures) _ (neighbour-of .ensures) (tree-of .ensures),
+      plain-shape _ _ _ (tree-at .ensures) (numbered .ensures) refl (shape-of .ensures) (zeros-ok .ensures) (region-ok .ensures) (not-false _ (if1 .left)),
+      plain-space _ _ _ (tree-at .ensures) (numbered .ensures) refl (shape-of .ensures) (zeros-ok .ensures) (region-ok .ensures) (not-false _ (if1 .left)),
+    )
 
 -- src/plain.rt:92:17
 refused-requires-3 : tie.Need-refused-requires-3 Inv-loop μ-loop
@@ -127,17 +143,30 @@ loop-less-2 c = search needs
 
 -- src/plain.rt:80:5
 loop-again-2 : tie.Need-loop-again-2 Inv-loop μ-loop
-loop-again-2 c = (
-  omega arith,
-  faces-down _ _ _ _ (c .before .before .before .before .before .before .before .loop .inv .1)
-      (face-down _ _ _ (c .before .before .before .before .before .before .before .before .before .before .before .before .before .before .tree-at .ensures) _ (c .before .before .before .before .before .neighbour-of .ensures) (c .before .before .before .before .tree-of .ensures) (omega (arith, c .before .before .before .before .before .before .before .before .before .before .before .before .before .before .before .before .pre .1, c .before .before .before .if2 .left)) (c .before .before .before .before .before .before .before .before .before .before .before .before .before .before .before .before .pre .1) (c .before .before .before .if2 .left) (c .before .before .plain-face .ensures (not-false _ (c .before .if4 .left))))
-      (down-up _ _ _ (c .before .before .before .before .before .before .before .before .before .before .before .before .before .before .tree-at .ensures) _ (c .before .before .before .before .before .neighbour-of .ensures) (c .before .before .before .before .tree-of .ensures) (omega (arith, c .before .before .before .before .before .before .before .before .before .before .before .before .before .before .before .before .pre .1, c .before .before .before .if2 .left)) (c .before .before .before .before .before .before .before .before .before .before .before .before .before .before .before .before .pre .1) (c .before .before .before .if2 .left)) (c .one .ensures)
-      (down-down _ _ _ (c .before .before .before .before .before .before .before .before .before .before .before .before .before .before .tree-at .ensures) _ (c .before .before .before .before .before .neighbour-of .ensures) (c .before .before .before .before .tree-of .ensures) (omega (arith, c .before .before .before .before .before .before .before .before .before .before .before .before .before .before .before .before .pre .1, c .before .before .before .if2 .left)) (c .before .before .before .before .before .before .before .before .before .before .before .before .before .before .before .before .pre .1) (c .before .before .before .if2 .left)),
-)
+loop-again-2 c =
+    let loop = c .before .before .before .before .before .before .before .loop in
+    let tree-at = c .before .before .before .before .before .before .before .before .before .before .before .before .before .before .tree-at in
+    let neighbour-of = c .before .before .before .before .before .neighbour-of in
+    let tree-of = c .before .before .before .before .tree-of in
+    let pre = c .before .before .before .before .before .before .before .before .before .before .before .before .before .before .before .before .pre in
+    let if2 = c .before .before .before .if2 in
+    let plain-face = c .before .before .plain-face in
+    let if4 = c .before .if4 in (
+      omega arith,
+      faces-down _ _ _ _ (loop .inv .1) (face-down _ _ _ (tree-at .ensures) _ (neighbour-of .ensures) (tree-of .ensures) (omega (arith, pre .1, if2 .left)) (pre .1) (if2 .left) (plain-face .ensures (not-false _ (if4 .left)))) (down-up _ _ _ (tree-at .ensures) _ (neighbour-of .ensures) (tree-of .ensures) (omega (arith, pre .1, if2 .left)) (pre .1) (if2 .left)) (c .one .ensures) (down-down _ _ _ (tree-at .ensures) _ (neighbour-of .ensures) (tree-of .ensures) (omega (arith, pre .1, if2 .left)) (pre .1) (if2 .left)),
+    )
 
 -- src/plain.rt:64:1
 returns-4 : tie.Need-returns-4 Inv-loop μ-loop
-returns-4 c = λ t. plain-seen _ _ _ (c .before .before .before .before .before .before .before .before .tree-at .ensures) (c .before .before .before .before .before .before .before .numbered .ensures) refl (c .before .before .before .before .before .shape-of .ensures) (c .before .before .before .before .zeros-ok .ensures) (c .before .before .before .region-ok .ensures) (not-false _ (c .before .before .if1 .left)) (faces-all _ _ _ _ (c .before .loop .inv .1) _ (c .before .loop .inv .0) (omega arith) (omega arith))
+returns-4 c =
+    let tree-at = c .before .before .before .before .before .before .before .before .tree-at in
+    let numbered = c .before .before .before .before .before .before .before .numbered in
+    let shape-of = c .before .before .before .before .before .shape-of in
+    let zeros-ok = c .before .before .before .before .zeros-ok in
+    let region-ok = c .before .before .before .region-ok in
+    let if1 = c .before .before .if1 in
+    let loop = c .before .loop in
+    λ t. plain-seen _ _ _ (tree-at .ensures) (numbered .ensures) refl (shape-of .ensures) (zeros-ok .ensures) (region-ok .ensures) (not-false _ (if1 .left)) (faces-all _ _ _ _ (loop .inv .1) _ (loop .inv .0) (omega arith) (omega arith))
 
 pub plain-tree-spec : {M : Type 1} → statement M
 plain-tree-spec =

@@ -29,7 +29,11 @@ add-if1 c = search needs
 
 -- src/trees.rt:132:9
 returns : tie.Need-returns
-returns c = fits-none _ _ _ (c .before .before .before .before .before .tree-at .ensures) _ (c .before .before .before .before .neighbour-of .ensures) (c .before .before .before .place-of .ensures) (c .if1 .taken)
+returns c =
+    let tree-at = c .before .before .before .before .before .tree-at in
+    let neighbour-of = c .before .before .before .before .neighbour-of in
+    let place-of = c .before .before .before .place-of in
+    fits-none _ _ _ (tree-at .ensures) _ (neighbour-of .ensures) (place-of .ensures) (c .if1 .taken)
 
 -- src/trees.rt:134:9
 edge-ok-requires : tie.Need-edge-ok-requires
@@ -41,11 +45,20 @@ returns-2 c = fits-edge _ _ _ _ (c .before .edge-ok .ensures) (not-true _ (c .if
 
 -- src/trees.rt:137:5
 held-ok-requires : tie.Need-held-ok-requires
-held-ok-requires c κs = (c .before .before .before .before .before .before .before .before .before .before .before .pre .0 .laid, c .before .before .before .before .before .before .before .before .before .before .before .pre .1, c .before .before .before .before .before .before .before .before .before .before .before .pre .2, c .before .before .if1 .left)
+held-ok-requires c κs =
+    let pre = c .before .before .before .before .before .before .before .before .before .before .before .pre in
+    let if1 = c .before .before .if1 in
+    (pre .0 .laid, pre .1, pre .2, if1 .left)
 
 -- src/trees.rt:118:1
 returns-3 : tie.Need-returns-3
-returns-3 c = fits-read _ _ _ (c .before .before .before .before .before .before .before .before .tree-at .ensures) _ (c .before .before .before .before .before .before .before .neighbour-of .ensures) (c .before .before .before .before .before .before .place-of .ensures) (c .before .before .edge-ok .ensures) (not-false _ (c .before .if2 .left)) (c .held-ok .ensures)
+returns-3 c =
+    let tree-at = c .before .before .before .before .before .before .before .before .tree-at in
+    let neighbour-of = c .before .before .before .before .before .before .before .neighbour-of in
+    let place-of = c .before .before .before .before .before .before .place-of in
+    let edge-ok = c .before .before .edge-ok in
+    let if2 = c .before .if2 in
+    fits-read _ _ _ (tree-at .ensures) _ (neighbour-of .ensures) (place-of .ensures) (edge-ok .ensures) (not-false _ (if2 .left)) (c .held-ok .ensures)
 
 pub face-ok-spec : {M : Type 1} → statement M
 face-ok-spec =

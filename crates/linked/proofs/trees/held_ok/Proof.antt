@@ -20,11 +20,19 @@ record-at-requires c κs = search needs
 
 -- src/trees.rt:112:9
 link-ok-requires : tie.Need-link-ok-requires
-link-ok-requires c κs = (omega (arith, c .before .before .before .before .before .tree-at .ensures, c .before .before .before .before .before .before .before .pre .0 .trees, c .before .before .before .before .before .before .before .pre .1 .below), c .before .before .before .before .before .before .before .pre .2, place-fits _ _ (c .before .before .before .before .before .before .before .pre .0) _ (c .before .before .before .before .before .before .before .pre .3) (c .before .before .before .before .record-at .ensures))
+link-ok-requires c κs =
+    let tree-at = c .before .before .before .before .before .tree-at in
+    let pre = c .before .before .before .before .before .before .before .pre in
+    let record-at = c .before .before .before .before .record-at in
+    (omega (arith, tree-at .ensures, pre .0 .trees, pre .1 .below), pre .2, place-fits _ _ (pre .0) _ (pre .3) (record-at .ensures))
 
 -- src/trees.rt:112:9
 returns : tie.Need-returns
-returns c = held-local _ _ _ (c .before .before .before .before .before .before .tree-at .ensures) _ _ (c .before .before .before .before .before .record-at .ensures) (c .before .if1 .taken) (c .link-ok .ensures)
+returns c =
+    let tree-at = c .before .before .before .before .before .before .tree-at in
+    let record-at = c .before .before .before .before .before .record-at in
+    let if1 = c .before .if1 in
+    held-local _ _ _ (tree-at .ensures) _ _ (record-at .ensures) (if1 .taken) (c .link-ok .ensures)
 
 -- src/trees.rt:114:30
 number-of-requires : tie.Need-number-of-requires
@@ -32,11 +40,21 @@ number-of-requires c κs = search needs
 
 -- src/trees.rt:114:5
 link-ok-requires-2 : tie.Need-link-ok-requires-2
-link-ok-requires-2 c κs = (omega (arith, c .before .before .before .before .before .before .tree-at .ensures, c .before .before .before .before .before .before .before .before .pre .0 .trees, c .before .before .before .before .before .before .before .before .pre .1 .below), c .before .before .before .before .before .before .before .before .pre .2, place-fits _ _ (c .before .before .before .before .before .before .before .before .pre .0) _ (c .before .before .before .before .before .before .before .before .pre .3) (c .before .before .before .before .before .record-at .ensures))
+link-ok-requires-2 c κs =
+    let tree-at = c .before .before .before .before .before .before .tree-at in
+    let pre = c .before .before .before .before .before .before .before .before .pre in
+    let record-at = c .before .before .before .before .before .record-at in
+    (omega (arith, tree-at .ensures, pre .0 .trees, pre .1 .below), pre .2, place-fits _ _ (pre .0) _ (pre .3) (record-at .ensures))
 
 -- src/trees.rt:105:1
 returns-2 : tie.Need-returns-2
-returns-2 c = held-global _ _ _ (c .before .before .before .before .before .before .before .tree-at .ensures) _ _ (c .before .before .before .before .before .before .record-at .ensures) (c .before .before .if1 .left) (c .before .before .before .before .before .before .before .before .before .pre .1) (c .before .before .before .before .before .before .before .before .before .pre .3) (c .before .number-of .ensures) (c .link-ok2 .ensures)
+returns-2 c =
+    let tree-at = c .before .before .before .before .before .before .before .tree-at in
+    let record-at = c .before .before .before .before .before .before .record-at in
+    let if1 = c .before .before .if1 in
+    let pre = c .before .before .before .before .before .before .before .before .before .pre in
+    let number-of = c .before .number-of in
+    held-global _ _ _ (tree-at .ensures) _ _ (record-at .ensures) (if1 .left) (pre .1) (pre .3) (number-of .ensures) (c .link-ok2 .ensures)
 
 pub held-ok-spec : {M : Type 1} → statement M
 held-ok-spec =

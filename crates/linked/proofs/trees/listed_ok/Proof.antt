@@ -28,11 +28,19 @@ sub-face-ok c = omega (arith, next-digit _ _ _ (not-listed _ _ _) (c .before .lo
 
 -- src/trees.rt:184:13
 face-ok-requires : tie.Need-face-ok-requires Inv-loop μ-loop
-face-ok-requires c κs = let next = next-passes _ _ _ (not-listed _ _ _) (c .before .loop .inv) (c .loop-test .taken) (c .before .before .before .before .before .pre .2) in (c .before .before .before .before .before .pre .0, c .before .before .before .before .before .pre .1, omega (arith, next .1, c .before .before .before .before .before .pre .2))
+face-ok-requires c κs =
+    let loop = c .before .loop in
+    let pre = c .before .before .before .before .before .pre in
+    let next = next-passes _ _ _ (not-listed _ _ _) (loop .inv) (c .loop-test .taken) (pre .2) in (pre .0, pre .1, omega (arith, next .1, pre .2))
 
 -- src/trees.rt:185:13
 returns : tie.Need-returns Inv-loop μ-loop
-returns c = let next = next-passes _ _ _ (not-listed _ _ _) (c .before .before .before .loop .inv) (c .before .before .loop-test .taken) (c .before .before .before .before .before .before .before .pre .2) in sym (all-fails _ _ _ (next .1) (listed-fits _ _ _ _ (next .0) ∙ sym (c .before .face-ok .ensures) ∙ not-true _ (c .if1 .taken)))
+returns c =
+    let loop = c .before .before .before .loop in
+    let loop-test = c .before .before .loop-test in
+    let pre = c .before .before .before .before .before .before .before .pre in
+    let face-ok = c .before .face-ok in
+    let next = next-passes _ _ _ (not-listed _ _ _) (loop .inv) (loop-test .taken) (pre .2) in sym (all-fails _ _ _ (next .1) (listed-fits _ _ _ _ (next .0) ∙ sym (face-ok .ensures) ∙ not-true _ (c .if1 .taken)))
 
 -- src/trees.rt:183:5
 loop-less : tie.Need-loop-less Inv-loop μ-loop
@@ -40,7 +48,12 @@ loop-less c = search needs
 
 -- src/trees.rt:183:5
 loop-again : tie.Need-loop-again Inv-loop μ-loop
-loop-again c = let next = next-passes _ _ _ (not-listed _ _ _) (c .before .before .before .loop .inv) (c .before .before .loop-test .taken) (c .before .before .before .before .before .before .before .pre .2) in left-next _ _ _ (not-listed _ _ _) (c .before .before .before .loop .inv) (c .before .before .loop-test .taken) (c .before .before .before .before .before .before .before .pre .2) (listed-fits _ _ _ _ (next .0) ∙ sym (c .before .face-ok .ensures) ∙ not-false _ (c .if1 .left))
+loop-again c =
+    let loop = c .before .before .before .loop in
+    let loop-test = c .before .before .loop-test in
+    let pre = c .before .before .before .before .before .before .before .pre in
+    let face-ok = c .before .face-ok in
+    let next = next-passes _ _ _ (not-listed _ _ _) (loop .inv) (loop-test .taken) (pre .2) in left-next _ _ _ (not-listed _ _ _) (loop .inv) (loop-test .taken) (pre .2) (listed-fits _ _ _ _ (next .0) ∙ sym (face-ok .ensures) ∙ not-false _ (c .if1 .left))
 
 -- src/trees.rt:170:1
 returns-2 : tie.Need-returns-2 Inv-loop μ-loop

@@ -30,7 +30,11 @@ to-local-requires c κs = range-both _ _ _ (sym (c .before .in-range .ensures) �
 
 -- src/trees.rt:82:9
 returns-2 : tie.Need-returns-2
-returns-2 c = placed-in _ _ _ (c .before .before .before .before .before .before .if1 .left) (sym (c .before .before .in-range .ensures) ∙ c .before .if2 .taken) (c .to-local .ensures)
+returns-2 c =
+    let if1 = c .before .before .before .before .before .before .if1 in
+    let in-range = c .before .before .in-range in
+    let if2 = c .before .if2 in
+    placed-in _ _ _ (if1 .left) (sym (in-range .ensures) ∙ if2 .taken) (c .to-local .ensures)
 
 -- src/trees.rt:86:9
 find-requires : tie.Need-find-requires
@@ -42,7 +46,13 @@ ghost-index-requires c κs = search needs
 
 -- src/trees.rt:72:1
 returns-3 : tie.Need-returns-3
-returns-3 c = placed-out _ _ (c .before .before .before .before .before .before .before .before .before .before .before .pre) _ (c .before .before .before .before .before .before .before .if1 .left) (sym (c .before .before .before .in-range .ensures) ∙ c .before .before .if2 .left) (c .before .find .ensures .0) (c .ghost-index .ensures)
+returns-3 c =
+    let pre = c .before .before .before .before .before .before .before .before .before .before .before .pre in
+    let if1 = c .before .before .before .before .before .before .before .if1 in
+    let in-range = c .before .before .before .in-range in
+    let if2 = c .before .before .if2 in
+    let find = c .before .find in
+    placed-out _ _ pre _ (if1 .left) (sym (in-range .ensures) ∙ if2 .left) (find .ensures .0) (c .ghost-index .ensures)
 
 pub place-of-spec : {M : Type 1} → statement M
 place-of-spec =

@@ -79,16 +79,25 @@ loop-less c = search needs
 
 -- src/trees.rt:157:5
 loop-again : tie.Need-loop-again Inv-loop μ-loop
-loop-again c = (
-  omega arith,
-  packed-more _ _ (c .before .before .before .before .before .before .before .loop .inv .1) (listed-is _ _ _ (c .before .before .before .before .before .before .before .before .tree-at .ensures) _ (c .before .before .before .before .before .neighbour-of .ensures) (c .before .before .before .before .leads-up .ensures)) (c .before .before .pushed .ensures),
-  (count-next _ _ (c .before .one .ensures .0) (up-is _ _ _ (c .before .before .before .before .before .before .before .before .tree-at .ensures) _ (c .before .before .before .before .before .neighbour-of .ensures) (c .before .before .before .before .leads-up .ensures)) (c .before .before .before .before .before .before .before .loop .inv .2 .0), omega arith),
-  (count-next _ _ (c .one2 .ensures .0) (down-is _ _ _ (c .before .before .before .before .before .before .before .before .tree-at .ensures) _ (c .before .before .before .before .before .neighbour-of .ensures) (c .before .before .before .before .leads-up .ensures) (c .before .before .before .leads-back .ensures)) (c .before .before .before .before .before .before .before .loop .inv .3 .0), omega arith),
-)
+loop-again c =
+    let loop = c .before .before .before .before .before .before .before .loop in
+    let tree-at = c .before .before .before .before .before .before .before .before .tree-at in
+    let neighbour-of = c .before .before .before .before .before .neighbour-of in
+    let leads-up = c .before .before .before .before .leads-up in
+    let pushed = c .before .before .pushed in
+    let one = c .before .one in
+    let leads-back = c .before .before .before .leads-back in (
+      omega arith,
+      packed-more _ _ (loop .inv .1) (listed-is _ _ _ (tree-at .ensures) _ (neighbour-of .ensures) (leads-up .ensures)) (pushed .ensures),
+      (count-next _ _ (one .ensures .0) (up-is _ _ _ (tree-at .ensures) _ (neighbour-of .ensures) (leads-up .ensures)) (loop .inv .2 .0), omega arith),
+      (count-next _ _ (c .one2 .ensures .0) (down-is _ _ _ (tree-at .ensures) _ (neighbour-of .ensures) (leads-up .ensures) (leads-back .ensures)) (loop .inv .3 .0), omega arith),
+    )
 
 -- src/trees.rt:148:1
 returns : tie.Need-returns Inv-loop μ-loop
-returns c = (packed-at _ _ _ (c .before .loop .inv .0) (omega arith) (c .before .loop .inv .1), count-at _ _ _ (c .before .loop .inv .0) (omega arith) (c .before .loop .inv .2), count-at _ _ _ (c .before .loop .inv .0) (omega arith) (c .before .loop .inv .3))
+returns c =
+    let loop = c .before .loop in
+    (packed-at _ _ _ (loop .inv .0) (omega arith) (loop .inv .1), count-at _ _ _ (loop .inv .0) (omega arith) (loop .inv .2), count-at _ _ _ (loop .inv .0) (omega arith) (loop .inv .3))
 
 pub sorted-spec : {M : Type 1} → statement M
 sorted-spec =

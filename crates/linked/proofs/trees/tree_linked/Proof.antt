@@ -35,7 +35,9 @@ tree-at-requires c κs = (c .before .before .before .before .before .pre .0 .lai
 
 -- src/trees.rt:198:9
 alone-requires : tie.Need-alone-requires
-alone-requires c κs = omega (arith, c .tree-at .ensures, c .before .before .before .before .before .before .pre .0 .laid .trees, c .before .before .before .before .before .before .pre .1)
+alone-requires c κs =
+    let pre = c .before .before .before .before .before .before .pre in
+    omega (arith, c .tree-at .ensures, pre .0 .laid .trees, pre .1)
 
 -- src/trees.rt:199:9
 refused-requires-2 : tie.Need-refused-requires-2
@@ -43,11 +45,18 @@ refused-requires-2 c κs = search needs
 
 -- src/trees.rt:199:9
 returns-2 : tie.Need-returns-2
-returns-2 c = seen-refused (seen-off _ _ _ (c .before .before .before .tree-at .ensures) (c .before .before .alone .ensures) (not-true _ (c .before .if2 .taken))) (c .refused2 .ensures)
+returns-2 c =
+    let tree-at = c .before .before .before .tree-at in
+    let alone = c .before .before .alone in
+    let if2 = c .before .if2 in
+    seen-refused (seen-off _ _ _ (tree-at .ensures) (alone .ensures) (not-true _ (if2 .taken))) (c .refused2 .ensures)
 
 -- src/trees.rt:201:44
 shape-of-requires : tie.Need-shape-of-requires
-shape-of-requires c κs = omega (arith, c .before .before .tree-at .ensures, c .before .before .before .before .before .before .before .before .pre .0 .laid .trees, c .before .before .before .before .before .before .before .before .pre .1)
+shape-of-requires c κs =
+    let tree-at = c .before .before .tree-at in
+    let pre = c .before .before .before .before .before .before .before .before .pre in
+    omega (arith, tree-at .ensures, pre .0 .laid .trees, pre .1)
 
 -- src/trees.rt:201:9
 face-count-requires : tie.Need-face-count-requires
@@ -55,11 +64,20 @@ face-count-requires c κs = search needs
 
 -- src/trees.rt:202:9
 sorted-requires : tie.Need-sorted-requires
-sorted-requires c κs = (c .before .before .before .before .before .before .before .before .before .before .pre .0 .laid, known-tree _ _ _ (c .before .before .before .before .before .before .before .before .before .before .pre .1) (c .before .before .before .before .before .before .numbered .ensures) (not-false _ (c .before .before .before .before .before .if1 .left)), c .face-count .ensures .1)
+sorted-requires c κs =
+    let pre = c .before .before .before .before .before .before .before .before .before .before .pre in
+    let numbered = c .before .before .before .before .before .before .numbered in
+    let if1 = c .before .before .before .before .before .if1 in
+    (pre .0 .laid, known-tree _ _ _ (pre .1) (numbered .ensures) (not-false _ (if1 .left)), c .face-count .ensures .1)
 
 -- src/trees.rt:203:9
 listed-ok-requires : tie.Need-listed-ok-requires
-listed-ok-requires c κs = (c .before .before .before .before .before .before .before .before .before .before .before .pre .0, known-tree _ _ _ (c .before .before .before .before .before .before .before .before .before .before .before .pre .1) (c .before .before .before .before .before .before .before .numbered .ensures) (not-false _ (c .before .before .before .before .before .before .if1 .left)), c .before .face-count .ensures .1, c .sorted .ensures .0)
+listed-ok-requires c κs =
+    let pre = c .before .before .before .before .before .before .before .before .before .before .before .pre in
+    let numbered = c .before .before .before .before .before .before .before .numbered in
+    let if1 = c .before .before .before .before .before .before .if1 in
+    let face-count = c .before .face-count in
+    (pre .0, known-tree _ _ _ (pre .1) (numbered .ensures) (not-false _ (if1 .left)), face-count .ensures .1, c .sorted .ensures .0)
 
 -- src/trees.rt:204:9
 refused-requires-3 : tie.Need-refused-requires-3
@@ -67,11 +85,27 @@ refused-requires-3 c κs = search needs
 
 -- src/trees.rt:204:9
 returns-3 : tie.Need-returns-3
-returns-3 c = seen-refused (seen-unlisted _ _ _ (c .before .before .before .before .before .before .before .before .tree-at .ensures) (c .before .before .before .before .before .shape-of .ensures) (c .before .before .before .before .face-count .ensures .0) (sym (c .before .before .listed-ok .ensures) ∙ not-true _ (c .before .if3 .taken))) (c .refused3 .ensures)
+returns-3 c =
+    let tree-at = c .before .before .before .before .before .before .before .before .tree-at in
+    let shape-of = c .before .before .before .before .before .shape-of in
+    let face-count = c .before .before .before .before .face-count in
+    let listed-ok = c .before .before .listed-ok in
+    let if3 = c .before .if3 in
+    seen-refused (seen-unlisted _ _ _ (tree-at .ensures) (shape-of .ensures) (face-count .ensures .0) (sym (listed-ok .ensures) ∙ not-true _ (if3 .taken))) (c .refused3 .ensures)
 
 -- src/trees.rt:190:1
 returns-4 : tie.Need-returns-4
-returns-4 c = seen-linked _ _ _ (c .before .before .before .before .before .before .before .tree-at .ensures) (c .before .before .before .before .shape-of .ensures) (c .before .before .before .face-count .ensures .0) (c .before .before .before .before .before .before .before .before .before .numbered .ensures) (not-false _ (c .before .before .before .before .before .before .before .before .if1 .left)) (c .before .before .before .before .before .before .alone .ensures) (not-false _ (c .before .before .before .before .before .if2 .left)) (sym (c .before .listed-ok .ensures) ∙ not-false _ (c .if3 .left)) (c .before .before .before .face-count .ensures .1) (c .before .before .sorted .ensures .1) (c .before .before .sorted .ensures .2)
+returns-4 c =
+    let tree-at = c .before .before .before .before .before .before .before .tree-at in
+    let shape-of = c .before .before .before .before .shape-of in
+    let face-count = c .before .before .before .face-count in
+    let numbered = c .before .before .before .before .before .before .before .before .before .numbered in
+    let if1 = c .before .before .before .before .before .before .before .before .if1 in
+    let alone = c .before .before .before .before .before .before .alone in
+    let if2 = c .before .before .before .before .before .if2 in
+    let listed-ok = c .before .listed-ok in
+    let sorted = c .before .before .sorted in
+    seen-linked _ _ _ (tree-at .ensures) (shape-of .ensures) (face-count .ensures .0) (numbered .ensures) (not-false _ (if1 .left)) (alone .ensures) (not-false _ (if2 .left)) (sym (listed-ok .ensures) ∙ not-false _ (c .if3 .left)) (face-count .ensures .1) (sorted .ensures .1) (sorted .ensures .2)
 
 pub tree-linked-spec : {M : Type 1} → statement M
 tree-linked-spec =

@@ -41,23 +41,43 @@ refused-requires c κs = search needs
 
 -- src/trees.rt:241:13
 returns : tie.Need-returns Inv-loop μ-loop
-returns c = summed-refused (all-fails _ _ _ (c .before .before .before .before .if1 .taken) (sym (c .before .before .before .tree-linked .ensures .tested) ∙ not-true _ (c .before .if2 .taken))) (c .refused .ensures)
+returns c =
+    let if1 = c .before .before .before .before .if1 in
+    let tree-linked = c .before .before .before .tree-linked in
+    let if2 = c .before .if2 in
+    summed-refused (all-fails _ _ _ (if1 .taken) (sym (tree-linked .ensures .tested) ∙ not-true _ (if2 .taken))) (c .refused .ensures)
 
 -- src/trees.rt:244:19
 add-t11 : tie.Need-add-t11 Inv-loop μ-loop
-add-t11 c = omega (arith, c .before .before .before .if1 .taken, c .before .before .before .before .before .before .before .before .before .before .before .pre .laid .most)
+add-t11 c =
+    let if1 = c .before .before .before .if1 in
+    let pre = c .before .before .before .before .before .before .before .before .before .before .before .pre in
+    omega (arith, if1 .taken, pre .laid .most)
 
 -- src/trees.rt:245:18
 add-t12 : tie.Need-add-t12 Inv-loop μ-loop
-add-t12 c = omega (arith, c .before .before .before .before .before .if1 .taken, c .before .before .before .before .before .before .before .before .before .before .before .before .before .pre .laid .most, c .before .before .before .before .before .before .before .before .loop .inv .2 .0, c .before .before .before .before .tree-linked .ensures .few .0)
+add-t12 c =
+    let if1 = c .before .before .before .before .before .if1 in
+    let pre = c .before .before .before .before .before .before .before .before .before .before .before .before .before .pre in
+    let loop = c .before .before .before .before .before .before .before .before .loop in
+    let tree-linked = c .before .before .before .before .tree-linked in
+    omega (arith, if1 .taken, pre .laid .most, loop .inv .2 .0, tree-linked .ensures .few .0)
 
 -- src/trees.rt:246:20
 add-t13 : tie.Need-add-t13 Inv-loop μ-loop
-add-t13 c = omega (arith, c .before .before .before .before .before .before .before .if1 .taken, c .before .before .before .before .before .before .before .before .before .before .before .before .before .before .before .pre .laid .most, c .before .before .before .before .before .before .before .before .before .before .loop .inv .2 .1, c .before .before .before .before .before .before .tree-linked .ensures .few .1)
+add-t13 c =
+    let if1 = c .before .before .before .before .before .before .before .if1 in
+    let pre = c .before .before .before .before .before .before .before .before .before .before .before .before .before .before .before .pre in
+    let loop = c .before .before .before .before .before .before .before .before .before .before .loop in
+    let tree-linked = c .before .before .before .before .before .before .tree-linked in
+    omega (arith, if1 .taken, pre .laid .most, loop .inv .2 .1, tree-linked .ensures .few .1)
 
 -- src/trees.rt:248:41
 add-t11-2 : tie.Need-add-t11-2 Inv-loop μ-loop
-add-t11-2 c = omega (arith, c .before .before .before .before .before .before .before .if1 .taken, c .before .before .before .before .before .before .before .before .before .before .before .before .before .before .before .pre .laid .most)
+add-t11-2 c =
+    let if1 = c .before .before .before .before .before .before .before .if1 in
+    let pre = c .before .before .before .before .before .before .before .before .before .before .before .before .before .before .before .pre in
+    omega (arith, if1 .taken, pre .laid .most)
 
 -- src/trees.rt:248:12
 hexahedron-requires : tie.Need-hexahedron-requires Inv-loop μ-loop
@@ -65,15 +85,26 @@ hexahedron-requires c κs = c .before .before .before .before .before .before .b
 
 -- src/trees.rt:249:13
 plain-run-requires-2 : tie.Need-plain-run-requires-2 Inv-loop μ-loop
-plain-run-requires-2 c κs = (c .before .before .before .before .before .before .before .before .before .before .before .before .before .before .before .before .before .pre .laid, omega (arith, c .before .before .before .before .before .before .before .before .before .if1 .taken), omega (arith, c .before .before .before .before .before .before .before .before .before .before .before .before .loop .inv .2 .0, c .before .before .before .before .before .before .before .before .tree-linked .ensures .few .0), omega (arith, c .before .before .before .before .before .before .before .before .before .before .before .before .loop .inv .2 .1, c .before .before .before .before .before .before .before .before .tree-linked .ensures .few .1))
+plain-run-requires-2 c κs =
+    let pre = c .before .before .before .before .before .before .before .before .before .before .before .before .before .before .before .before .before .pre in
+    let if1 = c .before .before .before .before .before .before .before .before .before .if1 in
+    let loop = c .before .before .before .before .before .before .before .before .before .before .before .before .loop in
+    let tree-linked = c .before .before .before .before .before .before .before .before .tree-linked in
+    (pre .laid, omega (arith, if1 .taken), omega (arith, loop .inv .2 .0, tree-linked .ensures .few .0), omega (arith, loop .inv .2 .1, tree-linked .ensures .few .1))
 
 -- src/trees.rt:237:5
 loop-less : tie.Need-loop-less Inv-loop μ-loop
-loop-less c = omega (arith, c .before .before .before .before .before .before .before .before .before .before .if1 .taken, c .plain-run2 .ensures .on, c .plain-run2 .ensures .within)
+loop-less c =
+    let if1 = c .before .before .before .before .before .before .before .before .before .before .if1 in
+    omega (arith, if1 .taken, c .plain-run2 .ensures .on, c .plain-run2 .ensures .within)
 
 -- src/trees.rt:237:5
 loop-again : tie.Need-loop-again Inv-loop μ-loop
-loop-again c = (c .plain-run2 .ensures .within, c .plain-run2 .ensures .reaches (reached-next _ _ _ _ (c .before .before .before .before .before .before .before .before .before .before .before .before .before .loop .inv .1) (c .before .before .before .before .before .before .before .before .before .tree-linked .ensures) (not-false _ (c .before .before .before .before .before .before .before .if2 .left))), c .plain-run2 .ensures .few)
+loop-again c =
+    let loop = c .before .before .before .before .before .before .before .before .before .before .before .before .before .loop in
+    let tree-linked = c .before .before .before .before .before .before .before .before .before .tree-linked in
+    let if2 = c .before .before .before .before .before .before .before .if2 in
+    (c .plain-run2 .ensures .within, c .plain-run2 .ensures .reaches (reached-next _ _ _ _ (loop .inv .1) (tree-linked .ensures) (not-false _ (if2 .left))), c .plain-run2 .ensures .few)
 
 -- src/trees.rt:237:5
 loop-less-2 : tie.Need-loop-less-2 Inv-loop μ-loop
@@ -81,11 +112,18 @@ loop-less-2 c = omega (arith, c .before .before .before .before .before .before 
 
 -- src/trees.rt:237:5
 loop-again-2 : tie.Need-loop-again-2 Inv-loop μ-loop
-loop-again-2 c = (omega (arith, c .before .before .before .before .before .before .before .before .before .if1 .taken), reached-next _ _ _ _ (c .before .before .before .before .before .before .before .before .before .before .before .before .loop .inv .1) (c .before .before .before .before .before .before .before .before .tree-linked .ensures) (not-false _ (c .before .before .before .before .before .before .if2 .left)), (omega (arith, c .before .before .before .before .before .before .before .before .before .before .before .before .loop .inv .2 .0, c .before .before .before .before .before .before .before .before .tree-linked .ensures .few .0), omega (arith, c .before .before .before .before .before .before .before .before .before .before .before .before .loop .inv .2 .1, c .before .before .before .before .before .before .before .before .tree-linked .ensures .few .1)))
+loop-again-2 c =
+    let if1 = c .before .before .before .before .before .before .before .before .before .if1 in
+    let loop = c .before .before .before .before .before .before .before .before .before .before .before .before .loop in
+    let tree-linked = c .before .before .before .before .before .before .before .before .tree-linked in
+    let if2 = c .before .before .before .before .before .before .if2 in
+    (omega (arith, if1 .taken), reached-next _ _ _ _ (loop .inv .1) (tree-linked .ensures) (not-false _ (if2 .left)), (omega (arith, loop .inv .2 .0, tree-linked .ensures .few .0), omega (arith, loop .inv .2 .1, tree-linked .ensures .few .1)))
 
 -- src/trees.rt:224:1
 returns-2 : tie.Need-returns-2 Inv-loop μ-loop
-returns-2 c = summed-all _ _ _ _ _ (c .before .before .before .loop .inv .0) (omega arith) (c .before .before .before .loop .inv .1 .passed) (c .before .before .before .loop .inv .1 .upward, c .before .before .before .loop .inv .2 .0) (c .before .before .before .loop .inv .1 .downward, c .before .before .before .loop .inv .2 .1)
+returns-2 c =
+    let loop = c .before .before .before .loop in
+    summed-all _ _ _ _ _ (loop .inv .0) (omega arith) (loop .inv .1 .passed) (loop .inv .1 .upward, loop .inv .2 .0) (loop .inv .1 .downward, loop .inv .2 .1)
 
 pub trees-linked-spec : {M : Type 1} → statement M
 trees-linked-spec =

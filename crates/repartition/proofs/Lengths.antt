@@ -50,7 +50,7 @@ use Rattle.area.specs.Open.{fresh_area}
 use Rattle.area.specs.Close.{close_checks, joined_part, close_length_of, close_of}
 use Rattle.area_open.specs.Calls.{open_checks, area_length_of, open_area_of}
 use Rattle.area_open.proofs.Opening.{area_header_length, fresh_is}
-use Rattle.repartition.proofs.Checks.{IsNumbered, room_last, pass_first}
+use Rattle.repartition.proofs.Checks.{numbered, room_last, pass_first}
 use Rattle.repartition.specs.Lengths.{Tells, LengthTells, MessagesTell, TableTells, LengthsAgree}
 
 -- ---- over any answer that has a refusal and a length
@@ -94,9 +94,9 @@ length_tells r n m object last = tells (λ (a : Length). a.refusal) (λ (a : Len
 -- ---- messages
 
 module _ (part old new : List ℕ) (p : ℕ) where
-  build-IsNumbered : (q : ℕ) → IsNumbered (build_checks part old new p q) ≡ true
-  unfolding IsNumbered build_checks table_checks
-  build-IsNumbered q = refl
+  build-numbered : (q : ℕ) → numbered (build_checks part old new p q) ≡ true
+  unfolding numbered build_checks table_checks
+  build-numbered q = refl
 
   -- a message of every epoch is as long
   pub message_epochs : (q e f : ℕ) → length (part_message part old new p q e) ≡ length (part_message part old new p q f)
@@ -108,7 +108,7 @@ module _ (part old new : List ℕ) (p : ℕ) where
   message-tells q epoch =
       length_tells (first_failed (build_checks part old new p q)) (length (part_message part old new p q 0)) (length (part_message part old new p q epoch)) (part_message part old new p q epoch)
       (λ out. first_failed (build_checks part old new p q ++ (check (leb (length (part_message part old new p q epoch)) (length out)) 22 ∷ [])))
-      (λ out. room_last (build_checks part old new p q) (build-IsNumbered q) _) (λ z. message_epochs q epoch 0) (λ z. message_epochs q epoch 0)
+      (λ out. room_last (build_checks part old new p q) (build-numbered q) _) (λ z. message_epochs q epoch 0) (λ z. message_epochs q epoch 0)
 
   -- and so are those to the ranks of a list, end to end
   joined-epochs : (qs : List ℕ) (e f : ℕ) → length (joined_messages (λ q. part_message part old new p q e) qs) ≡ length (joined_messages (λ q. part_message part old new p q f) qs)
@@ -121,8 +121,8 @@ module _ (part old new : List ℕ) (p : ℕ) where
   unfolding all_messages
   all_epochs e f = joined-epochs (send_set old new p) e f
 
-  pub all_numbered : IsNumbered (build_all_checks part old new p) ≡ true
-  unfolding IsNumbered build_all_checks table_checks
+  pub all_numbered : numbered (build_all_checks part old new p) ≡ true
+  unfolding numbered build_all_checks table_checks
   all_numbered = refl
 
 pub messages_refusal : (r c n : ℕ) → (messages_answer r c n).refusal ≡ r
@@ -145,8 +145,8 @@ messages_tell part old new p epoch =
 -- ---- areas
 
 module _ (old new : List ℕ) (rank dimension : ℕ) where
-  open_numbered : IsNumbered (open_checks old new rank dimension) ≡ true
-  unfolding IsNumbered open_checks table_checks
+  open_numbered : numbered (open_checks old new rank dimension) ≡ true
+  unfolding numbered open_checks table_checks
   open_numbered = refl
 
   -- a fresh area is as long as the checks that pass say
@@ -168,8 +168,8 @@ module _ (old new : List ℕ) (rank dimension : ℕ) where
       (λ out. first_failed (open_checks old new rank dimension ++ (check (leb (area_size dimension (ranks old) (tree_count new rank)) (length out)) 22 ∷ [])))
       (λ out. room_last (open_checks old new rank dimension) open_numbered _) (λ z. refl) (fresh-long epoch)
 
-close_numbered : (area : List ℕ) → IsNumbered (close_checks area) ≡ true
-unfolding IsNumbered close_checks
+close_numbered : (area : List ℕ) → numbered (close_checks area) ≡ true
+unfolding numbered close_checks
 close_numbered area = refl
 
 close_tells : (area : List ℕ) → LengthTells (close_length_of area) (close_of area)
@@ -181,8 +181,8 @@ close_tells area =
 
 -- ---- parts
 
-cut_numbered : (mesh table : List ℕ) (rank : ℕ) → IsNumbered (cut_checks mesh table rank) ≡ true
-unfolding IsNumbered cut_checks rank_checks
+cut_numbered : (mesh table : List ℕ) (rank : ℕ) → numbered (cut_checks mesh table rank) ≡ true
+unfolding numbered cut_checks rank_checks
 cut_numbered mesh table rank = refl
 
 cut_tells : (mesh table : List ℕ) (rank : ℕ) → LengthTells (part_length_of mesh table rank) (cut_part_of mesh table rank)
@@ -199,7 +199,7 @@ unfolding brick_mesh
 brick_long a b c p q r = built_length _ _ (a * b * c)
 
 brick_tells : (a b c p q r : ℕ) → LengthTells (brick_length_of a b c) (write_brick_of a b c p q r)
-unfolding brick_length_of write_brick_of IsNumbered
+unfolding brick_length_of write_brick_of numbered
 brick_tells a b c p q r =
     let mesh : List ℕ = brick_mesh a b c (yes p) (yes q) (yes r) in
     let long : length mesh ≡ mesh_header + tree_size * (a * b * c) = brick_long a b c (yes p) (yes q) (yes r) in
@@ -212,7 +212,7 @@ unfolding triangle_mesh triangle_bytes
 triangle_long text = built_length _ _ _
 
 triangle_tells : (text : List ℕ) → LengthTells (triangle_length text) (import_triangle text)
-unfolding triangle_length triangle_refusal import_triangle import_refusal IsNumbered
+unfolding triangle_length triangle_refusal import_triangle import_refusal numbered
 triangle_tells text =
     let cs : List Check = check (text_ok text) 27 ∷ check (vertices_differ (vertices text)) 28 ∷ check (not (three_faces (vertices text))) 29 ∷ [] in
     length_tells (first_failed cs) (triangle_bytes text) (triangle_bytes text) (triangle_mesh text) (import_refusal text) (λ out. room_last cs refl (leb (triangle_bytes text) (length out))) (λ z. refl) (λ z. triangle_long text)

@@ -32,7 +32,7 @@ fn bit_sound(area: &[u8], old: &[u8], new: &[u8], s: usize) -> bool
 }
 
 // The bits of word w; most words are zero.
-fn word_sound_lem(area: &[u8], old: &[u8], new: &[u8], w: usize) -> bool
+fn word_sound(area: &[u8], old: &[u8], new: &[u8], w: usize) -> bool
     requires { Tabled area.now old.now new.now × (w < heard_words (area_p area.now)) }
     ensures { result ≡ word_sound area.now w }
 {
@@ -95,7 +95,7 @@ fn slots_held(area: &[u8], at: usize, first: u32, count: u32) -> bool
 }
 
 // The slots of the trees due from a sender: whether they are sound, and how many are filled.
-#[derive(Drop)]
+#[derive(Clone, Copy)]
 pub struct SenderSlots {
     pub sound: bool,
     pub filled: u32,

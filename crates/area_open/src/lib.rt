@@ -10,7 +10,7 @@ pub mod write;
 
 // How many senders are heard and how many are due. When refused, `refusal` is 10 and the rest is 0.
 #[repr(C)]
-#[derive(Drop)]
+#[derive(Clone, Copy)]
 pub struct Progress {
     pub refusal: u32,
     pub heard: u32,

@@ -6,7 +6,7 @@ ghost use Rattle.brick.specs.Brick.{hexahedron, brick_link, brick_mesh};
 ghost use Rattle.brick.specs.Means.{Stands, OnAxis, Room, low_row, high_row};
 
 // The coordinates of a tree.
-#[derive(Drop)]
+#[derive(Clone, Copy)]
 struct Place {
     x: u32,
     y: u32,

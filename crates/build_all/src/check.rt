@@ -14,7 +14,7 @@ pub fn refusal(part: &[u8], old: &[u8], new: &[u8], p: u32) -> u32
     if offsets::table::ranks(old) <= p as usize {
         return 5;
     }
-    if !part_check::sound::part_sound_lem(part, old, p) {
+    if !part_check::sound::part_sound(part, old, p) {
         return 8;
     }
     0

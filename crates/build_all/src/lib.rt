@@ -7,7 +7,7 @@ mod each;
 
 // How many messages a call wrote or was asked about, and how long they are together. When refused, `refusal` is the number of the first check that failed and the rest is 0.
 #[repr(C)]
-#[derive(Drop)]
+#[derive(Clone, Copy)]
 pub struct Messages {
     pub refusal: u32,
     pub count: u32,

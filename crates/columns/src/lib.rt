@@ -14,7 +14,7 @@ pub fn part_to_columns(part: &[u8], table: &[u8], rank: u32, out: &mut [u8]) -> 
     if refusal != 0 {
         return refused(refusal);
     }
-    if !part_check::sound::part_sound_lem(part, table, rank) {
+    if !part_check::sound::part_sound(part, table, rank) {
         return refused(8);
     }
     if out.len() < part.len() {

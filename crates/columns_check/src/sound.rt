@@ -54,7 +54,7 @@ fn tree_heads(file: &[u8], first: u32, count: u32, ghosts: u32, dimension: u32, 
 }
 
 // Where the record with a local index stands, and what its link back leads to: a tree's to the local index, a ghost's to the global number.
-#[derive(Drop)]
+#[derive(Clone, Copy)]
 pub struct Target {
     pub held: bool,
     pub back: u32,
@@ -295,7 +295,7 @@ fn ghost_low(file: &[u8], count: u32, ghosts: u32, trees: u32, j: u32, face: u32
 }
 
 // Where a ghost's link leads.
-#[derive(Drop)]
+#[derive(Clone, Copy)]
 pub struct Way {
     pub listed: bool,
     pub up: bool,

@@ -12,7 +12,7 @@ use crate::merge::merge;
 use records::index::{GlobalIndex, to_local};
 
 // Where a delivery is written: the words of heard senders, the first slot of its trees, the ghost slots; and how many records.
-#[derive(Drop)]
+#[derive(Clone, Copy)]
 pub struct WritePlaces {
     pub words: usize,
     pub sender: usize,

@@ -8,7 +8,7 @@ ghost use Rattle.ele_mesh.specs.Means.{Room, Surveyed};
 use crate::chain;
 
 // The refusal, or 0, the number of triangles, and by how many hashes their faces are chained.
-#[derive(Drop)]
+#[derive(Clone, Copy)]
 pub struct Found {
     pub refusal: u32,
     pub count: u32,

@@ -12,7 +12,7 @@ use crate::chain::partner;
 use ele_faces::face::turn_of;
 
 // The link of face i of triangle t.
-fn link_row_lem(vs: &[u32], m: u64, heads: &[u32], links: &[u32], t: usize, i: usize) -> [u32; 3]
+fn link_row(vs: &[u32], m: u64, heads: &[u32], links: &[u32], t: usize, i: usize) -> [u32; 3]
     requires { Ready vs.now m heads.now links.now × (3 * t + i < length vs.now) × (i < 3) }
     ensures { result ≡ link_row (face_link vs.now t i) }
 {
@@ -32,9 +32,9 @@ fn rows_of(vs: &[u32], m: u64, heads: &[u32], links: &[u32], t: usize) -> [[u32;
 {
     let none = [4294967295, 0, 0];
     [
-        link_row_lem(vs, m, heads, links, t, 0),
-        link_row_lem(vs, m, heads, links, t, 1),
-        link_row_lem(vs, m, heads, links, t, 2),
+        link_row(vs, m, heads, links, t, 0),
+        link_row(vs, m, heads, links, t, 1),
+        link_row(vs, m, heads, links, t, 2),
         none,
         none,
         none,

@@ -4,7 +4,7 @@ ghost use Rattle.ele_text.specs.Text.{is_either, is_digit};
 ghost use Rattle.ele_text.specs.Means.{until_either, numeral_of};
 
 // A number, if the field is one.
-#[derive(Drop)]
+#[derive(Clone, Copy)]
 pub struct Numeral {
     pub ok: bool,
     pub value: u32,

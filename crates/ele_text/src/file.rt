@@ -7,7 +7,7 @@ use crate::field::until_either;
 use crate::line::{Row, row_of};
 
 // How many rows were read, the number of triangles that the first says, and the number that the next triangle has.
-#[derive(Drop)]
+#[derive(Clone, Copy)]
 pub struct File {
     pub ok: bool,
     pub rows: u32,

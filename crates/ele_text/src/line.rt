@@ -6,7 +6,7 @@ ghost use Rattle.ele_text.specs.Means.{empty_row, with_field, with_fields, row_o
 use crate::field::{read_number, until_either};
 
 // How many fields a line has, and the last four of their numbers, d the last. Not in order where a field is no number, or over four.
-#[derive(Drop)]
+#[derive(Clone, Copy)]
 pub struct Row {
     pub ok: bool,
     pub count: u32,

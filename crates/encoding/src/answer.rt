@@ -4,7 +4,7 @@ ghost use Rattle.encoding.specs.Answer.{length_refused, count_refused};
 
 // How long the object is that a call wrote or was asked about, in bytes.
 #[repr(C)]
-#[derive(Drop)]
+#[derive(Clone, Copy)]
 pub struct Length {
     pub refusal: u32,
     pub length: u64,
@@ -18,7 +18,7 @@ pub fn refused(refusal: u32) -> Length
 
 // How many entries a call wrote, or messages it took.
 #[repr(C)]
-#[derive(Drop)]
+#[derive(Clone, Copy)]
 pub struct Count {
     pub refusal: u32,
     pub count: u32,

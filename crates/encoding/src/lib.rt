@@ -1,4 +1,6 @@
 // Little-endian numbers, fixed-size records and headers in lent bytes, and the answers that public calls share.
+#![tactic(auto)]
+
 pub mod answer;
 pub mod bytes;
 pub mod header;

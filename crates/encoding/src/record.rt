@@ -6,7 +6,7 @@ ghost use Rattle.encoding.specs.Words.{bytes40, bytes64};
 use crate::bytes::{read_u64, write_u64};
 
 // A record of 40 bytes as words.
-#[derive(Drop)]
+#[derive(Clone, Copy)]
 pub struct Words40 {
     pub w0: u64,
     pub w1: u64,
@@ -16,7 +16,7 @@ pub struct Words40 {
 }
 
 // A record of 64 bytes: a core of 40 bytes and three words more.
-#[derive(Drop)]
+#[derive(Clone, Copy)]
 pub struct Words64 {
     pub core: Words40,
     pub w5: u64,

@@ -421,7 +421,7 @@ fn run(w: &[u64; 96], last: usize, past: &[u8], memory: &mut [u8]) {
 }
 
 // The register that the next digit goes to, the digits so far, and 0, or all ones behind a minus.
-#[derive(Drop)]
+#[derive(Clone, Copy)]
 struct Scan {
     at: usize,
     digits: u64,

@@ -4,7 +4,7 @@ ghost use Rattle.faults.specs.Answer.{fault_refused, fault_at};
 
 // Where an object fails. When refused, `refusal` is the number of the first check that failed and the rest is 0. Else `fault` is 0 for a sound object or what its check refuses it with, and then `kind` says what is wrong at the place `at`, at `face` if the kind has one.
 #[repr(C)]
-#[derive(Drop)]
+#[derive(Clone, Copy)]
 pub struct Fault {
     pub refusal: u32,
     pub fault: u32,
@@ -14,7 +14,7 @@ pub struct Fault {
 }
 
 // What is wrong at one place: kind 0 for nothing, face 0 where the kind has none.
-#[derive(Drop)]
+#[derive(Clone, Copy)]
 pub struct Wrong {
     pub kind: u32,
     pub face: u32,

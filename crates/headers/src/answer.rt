@@ -4,7 +4,7 @@ ghost use Rattle.headers.specs.Answer.{header_refused, wrong_at};
 
 // The first field that is wrong. When refused, `refusal` is the number of the first check that failed and the rest is 0. Else `field` is 0 where nothing is wrong, `due` the number that would be right, 0 where several would be, and `found` the number that stands there.
 #[repr(C)]
-#[derive(Drop)]
+#[derive(Clone, Copy)]
 pub struct WrongField {
     pub refusal: u32,
     pub field: u32,

@@ -10,7 +10,7 @@ use crate::shares::cut;
 use encoding::bytes::write_u64;
 
 // How far a walk over the trees has come: a tree and its first leaf.
-#[derive(Drop)]
+#[derive(Clone, Copy)]
 pub struct Walk {
     pub tree: usize,
     pub start: u64,

@@ -6,7 +6,7 @@ ghost use Rattle.linked.specs.Means.{record_place, Room};
 use records::index::{GlobalIndex, LocalIndex};
 
 // `count` tree records from byte `head` on, with the numbers from `first` on, and `ghosts` core records from byte `tail` on, which ascend; `trees` is K. `local`: tree records name their neighbours by local index, as in a part; else by number, as in an area.
-#[derive(Drop)]
+#[derive(Clone, Copy)]
 pub struct Records {
     pub head: usize,
     pub tail: usize,

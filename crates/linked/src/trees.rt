@@ -122,7 +122,7 @@ fn face_ok(
 }
 
 // The links of a tree, sorted: those that don't lead up as digits to base 8, and how many lead up and down.
-#[derive(Drop)]
+#[derive(Clone, Copy)]
 pub struct TreeLinks {
     pub list: u32,
     pub ups: u64,

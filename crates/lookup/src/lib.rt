@@ -24,7 +24,7 @@ fn find(bs: &[u8], size: usize, number: GlobalIndex) -> usize
 
 // Where a record is: `which` is 1 for the trees, 2 for the ghosts and 0 for neither, `offset` the byte where it begins there, 0 for neither.
 #[repr(C)]
-#[derive(Drop)]
+#[derive(Clone, Copy)]
 pub struct Found {
     pub which: u32,
     pub offset: u64,

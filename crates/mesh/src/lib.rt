@@ -1,4 +1,6 @@
 // The whole mesh and its soundness.
+#![tactic(auto)]
+
 ghost use Rattle.std.specs.Prelude.{◌≡◌};
 ghost use Rattle.mesh.specs.Mesh.{mesh_refusal};
 

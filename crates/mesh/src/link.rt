@@ -16,7 +16,7 @@ pub fn orientation_ok(bs: &[u8], at: usize, face: u32) -> bool
 }
 
 // What a face code says: the neighbour's face and the orientation.
-#[derive(Drop)]
+#[derive(Clone, Copy)]
 pub struct FaceCode {
     pub face: u32,
     pub orientation: u32,

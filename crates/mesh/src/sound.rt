@@ -11,7 +11,7 @@ use crate::link::{answered_there, corners_fit, parted};
 use crate::plain::run_on;
 
 // What the faces of a tree show: whether each passes, and how many links lead up and down.
-#[derive(Drop)]
+#[derive(Clone, Copy)]
 pub struct Seen {
     pub ok: bool,
     pub ups: u64,
@@ -19,7 +19,7 @@ pub struct Seen {
 }
 
 // A run of trees: those before `next` pass, and have so many links up and down.
-#[derive(Drop)]
+#[derive(Clone, Copy)]
 pub struct Run {
     pub next: u32,
     pub ups: u64,
@@ -81,7 +81,7 @@ fn face_sound(mesh: &[u8], dimension: u32, trees: u32, k: u32, face: u32) -> boo
 }
 
 // The links of a tree, sorted: those that don't lead up as digits to base 8, and how many lead up and down.
-#[derive(Drop)]
+#[derive(Clone, Copy)]
 pub struct Links {
     pub ok: bool,
     pub list: u32,

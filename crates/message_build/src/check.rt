@@ -18,7 +18,7 @@ pub fn refusal(part: &[u8], old: &[u8], new: &[u8], p: u32, q: u32) -> u32
     if ranks <= q as usize {
         return 5;
     }
-    if !part_check::sound::part_sound_lem(part, old, p) {
+    if !part_check::sound::part_sound(part, old, p) {
         return 8;
     }
     if !pattern::range::sends_some(old, new, p as usize, q as usize) {

@@ -9,7 +9,7 @@ use part::range::within;
 use records::index::{GlobalIndex, LocalIndex};
 
 // Ranges of q's trees: from `first` to before `end` under the new table, and of those the ones that q gets from itself or from a rank below p, to before `below` and from `kept` to before `until`.
-#[derive(Drop)]
+#[derive(Clone, Copy)]
 pub struct Ranges {
     pub first: u32,
     pub end: u32,

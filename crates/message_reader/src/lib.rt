@@ -9,21 +9,21 @@ mod cursor;
 pub mod place;
 
 // The lent message and the place of the next record. Its fields are private, so that every reader of a caller comes from `begin`, over a message in layout or over no byte.
-#[derive(Drop)]
+#[derive(Clone, Copy)]
 pub struct Reader<'a> {
     message: &'a [u8],
     at: u64,
 }
 
 // A reader, and how many records it has or why the message is refused.
-#[derive(Drop)]
+#[derive(Clone, Copy)]
 pub struct Begun<'a> {
     pub answer: Length,
     pub reader: Reader<'a>,
 }
 
 // A record, how many remain after it, and the reader moved on.
-#[derive(Drop)]
+#[derive(Clone, Copy)]
 pub struct Step<'a> {
     pub piece: &'a [u8],
     pub remain: u64,

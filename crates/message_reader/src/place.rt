@@ -6,7 +6,7 @@ ghost use Rattle.message_reader.specs.Handing.{following_of};
 use crate::{Reader, next};
 
 // What follows a record: how many remain, and the next place.
-#[derive(Drop)]
+#[derive(Clone, Copy)]
 pub struct Following {
     pub remain: u64,
     pub at: u64,

@@ -1,4 +1,6 @@
 // Offset tables: which ranks hold which trees.
+#![tactic(auto)]
+
 ghost use Rattle.std.specs.Prelude.{◌≡◌};
 ghost use Rattle.offsets.specs.Calls.{table_refusal, table_range};
 
@@ -6,7 +8,7 @@ pub mod table;
 
 // A rank's trees: the first and how many. When refused, `refusal` is the number of the first check that failed and the rest is 0.
 #[repr(C)]
-#[derive(Drop)]
+#[derive(Clone, Copy)]
 pub struct Range {
     pub refusal: u32,
     pub first: u32,

@@ -1,4 +1,6 @@
 // Writing the table of a partition.
+#![tactic(auto)]
+
 ghost use Rattle.std.specs.Prelude.{◌≡◌};
 ghost use Rattle.offsets_write.specs.Calls.{table_length_answer, write_table};
 

@@ -13,7 +13,7 @@ pub fn check_part(part: &[u8], table: &[u8], rank: u32) -> u32
     if refusal != 0 {
         return refusal;
     }
-    if !sound::part_sound_lem(part, table, rank) {
+    if !sound::part_sound(part, table, rank) {
         return 8;
     }
     0

@@ -130,7 +130,7 @@ fn records_sound(
 }
 
 // Whether the part is sound for a valid table and a rank of it.
-pub fn part_sound_lem(part: &[u8], table: &[u8], rank: u32) -> bool
+pub fn part_sound(part: &[u8], table: &[u8], rank: u32) -> bool
     requires { RankKnown table.now rank }
     ensures { result ≡ part_sound part.now table.now rank }
 {

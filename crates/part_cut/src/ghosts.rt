@@ -38,7 +38,7 @@ fn mark_trees(mesh: &[u8], first: u32, end: u32, marks: &mut [u64])
 }
 
 // What a part has: its first tree, how many trees and how many ghosts.
-#[derive(Drop)]
+#[derive(Clone, Copy)]
 pub struct Extent {
     pub first: u32,
     pub trees: u32,

@@ -27,7 +27,7 @@ use records::read::{neighbour_of, number_of, shape_of};
 use records::shape::{dimension_of, face_count};
 
 // What the header says, and how many ghosts come before the first that is out of order.
-#[derive(Drop)]
+#[derive(Clone, Copy)]
 pub struct Extent {
     pub first: u32,
     pub count: u32,
@@ -70,7 +70,7 @@ pub fn extent_of(part: &[u8]) -> Extent
 }
 
 // Where a link leads: whether to a record of the part, where that begins, and the number that its link leads back to.
-#[derive(Drop)]
+#[derive(Clone, Copy)]
 pub struct Way {
     pub held: bool,
     pub to: usize,

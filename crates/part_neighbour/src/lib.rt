@@ -24,7 +24,7 @@ pub fn neighbour_of(part: &[u8], table: &[u8], rank: u32, local: LocalIndex, fac
     if 6 <= face {
         return link::refused(5);
     }
-    if !part_check::sound::part_sound_lem(part, table, rank) {
+    if !part_check::sound::part_sound(part, table, rank) {
         return link::refused(8);
     }
     let shape = records::read::shape_of(part, part::layout::tree_at(local));

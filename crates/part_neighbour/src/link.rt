@@ -10,7 +10,7 @@ use part::layout::{tree_at, tree_count};
 use records::index::LocalIndex;
 
 // The other side of a face: the local index there, its face and the orientation.
-#[derive(Drop)]
+#[derive(Clone, Copy)]
 pub struct Across {
     pub index: LocalIndex,
     pub face: u32,
@@ -18,7 +18,7 @@ pub struct Across {
 }
 
 // A domain boundary has the own index, the own face and orientation 0; a face without use has zeros.
-#[derive(Drop)]
+#[derive(Clone, Copy)]
 pub enum Link {
     Boundary(Across),
     Unused(Across),
@@ -27,7 +27,7 @@ pub enum Link {
 }
 
 // The shape of the tree, and what stands across its face. When refused, `refusal` is the number of the first check that failed and the rest is 0.
-#[derive(Drop)]
+#[derive(Clone, Copy)]
 pub struct Neighbour {
     pub refusal: u32,
     pub shape: u32,
@@ -36,7 +36,7 @@ pub struct Neighbour {
 
 // The same as numbers alone: the kind is 0 for a boundary, 1 for no use, 2 for a local tree, 3 for a ghost.
 #[repr(C)]
-#[derive(Drop)]
+#[derive(Clone, Copy)]
 pub struct NeighbourAnswer {
     pub refusal: u32,
     pub shape: u32,

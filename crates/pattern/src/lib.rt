@@ -1,4 +1,6 @@
 // Who sends: the communication pattern between an old and a new partition.
+#![tactic(auto)]
+
 ghost use Rattle.std.specs.Prelude.{◌≡◌};
 ghost use Rattle.pattern.specs.Calls.{sender_of, trees_sent, send_set_of, receive_set_of};
 
@@ -15,7 +17,7 @@ pub mod tables;
 pub mod window;
 
 // Who sends a tree: a rank, or nobody.
-#[derive(Drop)]
+#[derive(Clone, Copy)]
 pub enum Sender {
     Rank(u32),
     Nobody,
@@ -23,7 +25,7 @@ pub enum Sender {
 
 // The sender's number, −1 for nobody. When refused, `refusal` is the number of the first check that failed and the rest is 0.
 #[repr(C)]
-#[derive(Drop)]
+#[derive(Clone, Copy)]
 pub struct SenderAnswer {
     pub refusal: u32,
     pub sender: i32,
@@ -31,7 +33,7 @@ pub struct SenderAnswer {
 
 // A set of ranks: how many, the smallest and the largest (−1 and −2 where it is empty). When refused, `refusal` is the number of the first check that failed and the rest is 0.
 #[repr(C)]
-#[derive(Drop)]
+#[derive(Clone, Copy)]
 pub struct Ranks {
     pub refusal: u32,
     pub count: u32,

@@ -89,7 +89,7 @@ fn sent_high(old: &[u8], new: &[u8], p: usize, q: usize, upper: usize) -> u64
 }
 
 // The trees from one rank to another: the first, 0 where there are none, and how many.
-#[derive(Drop)]
+#[derive(Clone, Copy)]
 pub struct SentRange {
     pub first: u32,
     pub count: u32,

@@ -7,7 +7,7 @@ ghost use Rattle.pattern.specs.Means.{ValidTable, RankOf, FirstAbove, Meeting, W
 use offsets::table::{end_tree, entry, first_tree, magnitude, ranks};
 
 // From the first of them up to, but without, the end.
-#[derive(Drop)]
+#[derive(Clone, Copy)]
 pub struct Window {
     pub first: usize,
     pub end: usize,

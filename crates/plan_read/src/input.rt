@@ -5,7 +5,7 @@ ghost use Rattle.plan_read.specs.Means.{read_list, word_at, stored, form_tests, 
 use crate::number::{Numeral, byte_at, read_entry, read_number};
 
 // A list that was read: how many entries it has, and the place behind its LF.
-#[derive(Drop)]
+#[derive(Clone, Copy)]
 struct Counted {
     ok: bool,
     count: usize,
@@ -13,7 +13,7 @@ struct Counted {
 }
 
 // What the input says of P.
-#[derive(Drop)]
+#[derive(Clone, Copy)]
 pub struct Heading {
     pub ok: bool,
     pub ranks: u64,

@@ -4,7 +4,7 @@ ghost use Rattle.encoding.specs.Pieces.{piece};
 ghost use Rattle.plan_read.specs.Means.{byte_at, is_digit, digit_count, value_of, read_number, negated, read_entry, numeral_of, digit_count_ok};
 
 // A number that was read, and the place behind it.
-#[derive(Drop)]
+#[derive(Clone, Copy)]
 pub struct Numeral {
     pub ok: bool,
     pub value: u64,
@@ -52,7 +52,7 @@ fn digit_count_ok(n: usize, b: u8) -> bool
 }
 
 // The number that at most 8 digits stand for.
-fn digits_value_lem(text: &[u8], at: usize, n: usize) -> u64
+fn digits_value(text: &[u8], at: usize, n: usize) -> u64
     requires { (n ≡ digit_count text.now at) × (at + n ≤ length text.now) × (n ≤ 8) }
     ensures { result ≡ value_of 0 (piece text.now at n) }
 {
@@ -78,7 +78,7 @@ pub fn read_number(text: &[u8], at: usize) -> Numeral
     }
     Numeral {
         ok: true,
-        value: digits_value_lem(text, at, n),
+        value: digits_value(text, at, n),
         next: at + n,
     }
 }

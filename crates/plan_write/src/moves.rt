@@ -12,7 +12,7 @@ use offsets::table::ranks;
 use pattern::range::sent;
 
 // How many bytes the text of some moves has, and how many moves it lists.
-#[derive(Drop)]
+#[derive(Clone, Copy)]
 pub struct Size {
     pub bytes: usize,
     pub moves: usize,

@@ -8,7 +8,7 @@ mod boxes;
 mod list;
 
 // A point, a half space below a limit on an axis, or a slab between two limits on an axis, the lower one first.
-#[derive(Drop)]
+#[derive(Clone, Copy)]
 pub enum Probe {
     Point(f32, f32, f32),
     HalfSpace(u32, f32),

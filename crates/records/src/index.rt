@@ -2,11 +2,11 @@
 ghost use Rattle.std.specs.Prelude.{◌≡◌, ◌+◌, ◌≤◌, ◌<◌, ◌^◌};
 
 // The number of a tree in the whole mesh.
-#[derive(Drop)]
+#[derive(Clone, Copy)]
 pub struct GlobalIndex(pub u32);
 
 // The place of a tree or a ghost in a part: trees first, then ghosts.
-#[derive(Drop)]
+#[derive(Clone, Copy)]
 pub struct LocalIndex(pub u32);
 
 // The local index of a local tree, by subtraction of the part's first tree.

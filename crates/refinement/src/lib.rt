@@ -6,7 +6,7 @@ pub mod walk;
 
 // A tree's leaves: upright, inverted, and all. When refused, `refusal` is the number of the first check that failed and the rest is 0.
 #[repr(C)]
-#[derive(Drop)]
+#[derive(Clone, Copy)]
 pub struct Leaves {
     pub refusal: u32,
     pub upright: u32,

@@ -5,7 +5,7 @@ ghost use Rattle.refinement.specs.Means.Walks.{bit_at, walk_of, as_walk, Passing
 ghost use Rattle.refinement.specs.Means.Trees.{tree_at, tree_of};
 
 // How far a walk over triangles has come, and the leaves of each kind that it passed.
-#[derive(Drop)]
+#[derive(Clone, Copy)]
 pub struct Walk {
     pub ok: bool,
     pub at: usize,
@@ -14,7 +14,7 @@ pub struct Walk {
 }
 
 // How far a walk over elements of another shape has come, and the leaves that it passed.
-#[derive(Drop)]
+#[derive(Clone, Copy)]
 pub struct Descent {
     pub ok: bool,
     pub at: usize,
@@ -22,7 +22,7 @@ pub struct Descent {
 }
 
 // A tree's leaves, if its string is in order.
-#[derive(Drop)]
+#[derive(Clone, Copy)]
 pub struct TreeLeaves {
     pub ok: bool,
     pub upright: usize,

@@ -8,7 +8,7 @@ ghost use Rattle.refinement_list.specs.Means.{seen_of, Walkable};
 use refinement::walk::{shape_ok, tree};
 
 // Whether all strings are in order, and then whether no tree has too many leaves.
-#[derive(Drop)]
+#[derive(Clone, Copy)]
 pub struct Seen {
     pub ok: bool,
     pub small: bool,

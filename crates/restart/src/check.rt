@@ -100,7 +100,7 @@ pub fn relabel_refusal(part: &[u8], table: &[u8], rank: u32, other: &[u8], q: u3
     if refusal != 0 {
         return refusal;
     }
-    if !part_check::sound::part_sound_lem(part, table, rank) {
+    if !part_check::sound::part_sound(part, table, rank) {
         return 8;
     }
     if !same_trees(table, rank as usize, other, q as usize) {

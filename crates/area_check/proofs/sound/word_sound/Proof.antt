@@ -9,8 +9,8 @@ use mathlib.Core.Path.{◌≡◌, sym, ◌∙◌}
 use mathlib.Core.Bool.{true}
 use native.Mathlib.Omega.{arith}
 use borrow.Author.Rules.{rules}
-use Rattle.area_check.proofs.sound.word_sound_lem.Statement.{statement}
-use Rattle.area_check.proofs.sound.word_sound_lem.Tie as tie
+use Rattle.area_check.proofs.sound.word_sound.Statement.{statement}
+use Rattle.area_check.proofs.sound.word_sound.Tie as tie
 
 abbrev invariant-loop : tie.invariant-loop
 invariant-loop area old new w at b₀ b = (b ≤ 64) × (all_below b (λ i. bit_sound area (64 * w + i)) ≡ true)

@@ -1,7 +1,7 @@
 use Rattle.ele_mesh.proofs.Joins.{link_none, link_some}
 use borrow.Author.Rules.{rules}
-use Rattle.ele_mesh.proofs.write.link_row_lem.Statement.{statement}
-use Rattle.ele_mesh.proofs.write.link_row_lem.Tie as tie
+use Rattle.ele_mesh.proofs.write.link_row.Statement.{statement}
+use Rattle.ele_mesh.proofs.write.link_row.Tie as tie
 
 mul-f : tie.Need-overflow-mul-f
 mul-f c = search rules

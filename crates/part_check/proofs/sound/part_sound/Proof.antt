@@ -2,8 +2,8 @@ use Rattle.part_check.proofs.Checking.{head_laid, laid_read, sound_read, sound_n
 use borrow.Author.Tests.{not-true, not-false}
 use native.Mathlib.Omega.{arith}
 use borrow.Author.Rules.{rules}
-use Rattle.part_check.proofs.sound.part_sound_lem.Statement.{statement}
-use Rattle.part_check.proofs.sound.part_sound_lem.Tie as tie
+use Rattle.part_check.proofs.sound.part_sound.Statement.{statement}
+use Rattle.part_check.proofs.sound.part_sound.Tie as tie
 
 header-sound-requires : tie.Need-header-sound-requires
 header-sound-requires c κs = search rules

@@ -10,8 +10,8 @@ use mathlib.Core.List.{List}
 use mathlib.Core.Path.{◌≡◌, sym, refl}
 use Prim.Native.Nat.{ℕ, ◌+◌, ◌-◌, ◌*◌, ◌≤◌, ◌<◌}
 use borrow.Author.Rules.{rules}
-use Rattle.plan_read.proofs.number.digits_value_lem.Statement.{statement}
-use Rattle.plan_read.proofs.number.digits_value_lem.Tie as tie
+use Rattle.plan_read.proofs.number.digits_value.Statement.{statement}
+use Rattle.plan_read.proofs.number.digits_value.Tie as tie
 
 module _ (text : List ℕ) (at n : ℕ) (h : (n ≡ digit_count text at) × (at + n ≤ length text) × (n ≤ 8)) where
   -- each byte is a digit

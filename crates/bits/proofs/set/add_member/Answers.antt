@@ -1,0 +1,7 @@
+use Rattle.bits.specs.Bits.{with_member}
+use borrow.Author.Rules.{rules}
+use Rattle.bits.proofs.set.add_member.Goals as goal
+
+pub returns : goal.returns
+unfolding with_member
+returns c = rw c.with_bit.ensures

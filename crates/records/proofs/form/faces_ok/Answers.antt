@@ -1,0 +1,25 @@
+use Prim.Native.Nat.{◌≤◌, ◌-◌}
+use mathlib.Core.Path.{◌≡◌, refl, sym, ◌∙◌}
+use mathlib.Core.Bool.{true}
+use native.Mathlib.Omega.{arith}
+use borrow.Author.Tests.{not-true, not-false}
+use Rattle.encoding.specs.Below.{all_below}
+use Rattle.encoding.specs.Pieces.{piece}
+use Rattle.encoding.proofs.Below.{all_more, all_fails, all_to, all_intro}
+use Rattle.records.specs.Record.{core_size}
+use Rattle.records.specs.Means.{face_form}
+use borrow.Author.Rules.{rules}
+use Rattle.records.proofs.form.faces_ok.Goals as goal
+
+pub loop-face-init : goal.loop-face-init
+unfolding all_below
+loop-face-init c = (omega arith, refl)
+
+pub returns-then-not-face_ok : goal.returns-then-not-face_ok
+returns-then-not-face_ok c = sym (all_fails _ _ _ c.loop-face-test.true (sym c.face_ok.ensures ∙ c.if-not-face_ok.true))
+
+pub loop-face-preserved : goal.loop-face-preserved
+loop-face-preserved c = (omega arith, all_more _ _ c.loop-face.invariant.1 (sym c.face_ok.ensures ∙ c.if-not-face_ok.false))
+
+pub returns : goal.returns
+returns c = sym (all_to _ _ _ c.loop-face.invariant.0 (omega arith) c.loop-face.invariant.1)

@@ -1,0 +1,18 @@
+use Prim.Native.Nat.{◌≤◌, ◌-◌}
+use mathlib.Core.Path.{◌≡◌, refl, sym, ◌∙◌}
+use mathlib.Core.Bool.{true}
+use native.Mathlib.Omega.{arith}
+use borrow.Author.Tests.{not-true, not-false}
+use Rattle.encoding.specs.Below.{all_below}
+use Rattle.encoding.specs.Pieces.{piece}
+use Rattle.encoding.proofs.Below.{all_more, all_fails, all_to, all_intro}
+use Rattle.records.specs.Record.{core_size}
+use Rattle.records.specs.Means.{face_form}
+use borrow.Author.Rules.{rules}
+use Rattle.records.proofs.form.faces_ok.Given as goal
+
+abbrev pub invariant-loop-face : goal.invariant-loop-face
+invariant-loop-face l = (l.face ≤ 6) × (all_below l.face (face_form l.own (piece l.bs l.at core_size)) ≡ true)
+
+abbrev pub decreases-loop-face : goal.decreases-loop-face
+decreases-loop-face l = 6 - l.face

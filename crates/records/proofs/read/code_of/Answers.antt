@@ -1,0 +1,7 @@
+use Rattle.records.proofs.Forms.{code_at}
+use mathlib.Core.Path.{◌∙◌, sym}
+use borrow.Author.Rules.{rules}
+use Rattle.records.proofs.read.code_of.Goals as goal
+
+pub returns : goal.returns
+returns c = c.wide.ensures.0 ∙ sym (code_at _ _ _ c.requires.1)

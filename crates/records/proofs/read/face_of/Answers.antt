@@ -1,0 +1,14 @@
+use borrow.Author.Rules.{rules}
+use Rattle.records.proofs.Forms.{faces_other}
+use Rattle.records.specs.Record.{face_of}
+use native.Mathlib.Omega.{arith}
+use mathlib.Core.Path.{◌∙◌, sym}
+use Rattle.records.proofs.read.face_of.Goals as goal
+
+pub returns-then-faces_of-eq4 : goal.returns-then-faces_of-eq4
+unfolding face_of
+returns-then-faces_of-eq4 c = (rw (c.code_of-code.ensures, sym c.faces_of.ensures.0 ∙ c.if-faces_of-eq4.true), omega arith)
+
+pub returns : goal.returns
+unfolding face_of
+returns c = (rw (c.code_of-code.ensures, faces_other _ (λ e. c.if-faces_of-eq4.false (c.faces_of.ensures.0 ∙ e))), omega arith)

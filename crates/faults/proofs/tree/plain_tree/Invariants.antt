@@ -1,0 +1,18 @@
+use Rattle.mesh.proofs.PlainTrees.{own_shape, alike_face, alike_tree}
+use Rattle.mesh.specs.Means.{face_passes}
+use Rattle.mesh.specs.Mesh.{mesh_core}
+use Rattle.encoding.proofs.Below.{clash, all_more, all_to}
+use Rattle.encoding.specs.Below.{all_below}
+use borrow.Author.Tests.{not-false}
+use native.Mathlib.Omega.{arith}
+use mathlib.Core.Bool.{true}
+use mathlib.Core.Path.{◌≡◌, refl}
+use Prim.Native.Nat.{◌≤◌, ◌-◌}
+use borrow.Author.Rules.{rules}
+use Rattle.faults.proofs.tree.plain_tree.Given as goal
+
+abbrev pub invariant-loop-next : goal.invariant-loop-next
+invariant-loop-next l = (l.next ≤ l.faces) × (all_below l.next (face_passes (mesh_core l.mesh) l.trees l.k) ≡ true)
+
+abbrev pub decreases-loop-next : goal.decreases-loop-next
+decreases-loop-next l = l.faces - l.next

@@ -1,0 +1,16 @@
+use Rattle.ghost_links.proofs.Checking.{not_listed, listed_is}
+use Rattle.ghost_links.specs.Means.{core_from, ghost_listed, ghost_face_down}
+use Rattle.mesh.proofs.Packing.{Left, left_all, left_none, left_next, next_digit, next_passes}
+use Rattle.mesh.specs.Means.{link_by_dimension}
+use Rattle.encoding.proofs.Below.{all_fails}
+use borrow.Author.Tests.{not-true, not-false}
+use native.Mathlib.Omega.{arith}
+use mathlib.Core.Path.{sym, ◌∙◌}
+use borrow.Author.Rules.{rules}
+use Rattle.ghost_links.proofs.check.listed_linked.Given as goal
+
+abbrev pub invariant-loop-left : goal.invariant-loop-left
+invariant-loop-left l = Left (ghost_listed l.ghosts (core_from l.bs l.at) l.j) (ghost_face_down (link_by_dimension l.dimension) l.ghosts (core_from l.bs l.at) l.j) l.faces l.left
+
+abbrev pub decreases-loop-left : goal.decreases-loop-left
+decreases-loop-left l = l.left

@@ -1,0 +1,22 @@
+use mathlib.Core.Path.{sym, ◌∙◌}
+use borrow.Author.Tests.{not-true, not-false}
+use Rattle.linked.proofs.Numbers.{numbered}
+use Rattle.linked.proofs.FromOneEnd.{sound_unnumbered, sound_numbered}
+use borrow.Author.Rules.{rules}
+use Rattle.linked.proofs.check.records_sound.Reads as reads
+use Rattle.linked.proofs.check.records_sound.Lts as lts
+use Rattle.linked.proofs.check.ghosts_numbered.Reads as ghosts_numbered_reads
+use Rattle.linked.proofs.check.linked_of_all.Reads as linked_of_all_reads
+use Rattle.linked.proofs.check.records_sound.Goals as goal
+
+-- src/check.rt:111:9
+pub returns-then-not-ghosts_numbered : goal.returns-then-not-ghosts_numbered
+returns-then-not-ghosts_numbered c = sound_unnumbered _ _ (sym c.ghosts_numbered.ensures ∙ c.if-not-ghosts_numbered.true)
+
+-- src/check.rt:113:5
+pub linked_of_all-requires : goal.linked_of_all-requires
+linked_of_all-requires c = (c.requires.0, numbered _ _ (sym c.ghosts_numbered.ensures ∙ c.if-not-ghosts_numbered.false) c.requires.1 c.requires.2)
+
+-- src/check.rt:106:1
+pub returns : goal.returns
+returns c = sound_numbered _ _ (sym c.ghosts_numbered.ensures ∙ c.if-not-ghosts_numbered.false) c.linked_of_all.ensures

@@ -1,0 +1,11 @@
+use Rattle.part.proofs.Search.{Between, between_start, between_above, between_below, between_end}
+use native.Mathlib.Omega.{arith}
+use Prim.Native.Nat.{◌-◌}
+use borrow.Author.Rules.{rules}
+use Rattle.part.proofs.range.find_ghost.Given as goal
+
+abbrev pub invariant-loop-low : goal.invariant-loop-low
+invariant-loop-low l = Between l.bs l.at l.count l.k l.low l.high
+
+abbrev pub decreases-loop-low : goal.decreases-loop-low
+decreases-loop-low l = l.high - l.low

@@ -1,0 +1,16 @@
+use Rattle.part_cut.proofs.Marking.{faces_start, faces_in_lem, faces_out, faces_end}
+use Rattle.part_cut.specs.Means.{out_faces}
+use Rattle.positions.specs.Means.{Added}
+use Rattle.records.specs.Record.{core_size}
+use Rattle.encoding.specs.Pieces.{piece}
+use borrow.Author.Tests.{not-true, not-false}
+use native.Mathlib.Omega.{arith}
+use Prim.Native.Nat.{◌≤◌, ◌-◌}
+use borrow.Author.Rules.{rules}
+use Rattle.part_cut.proofs.ghosts.mark_faces.Given as goal
+
+abbrev pub invariant-loop-face : goal.invariant-loop-face
+invariant-loop-face l = (l.face ≤ l.faces) × Added l.initial.marks (out_faces l.first l.end (piece l.bs l.at core_size) l.face) l.marks
+
+abbrev pub decreases-loop-face : goal.decreases-loop-face
+decreases-loop-face l = l.faces - l.face

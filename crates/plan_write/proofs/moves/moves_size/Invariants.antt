@@ -1,0 +1,18 @@
+use Rattle.plan_write.proofs.Writing.{text_length, text_most, moves_most}
+use Rattle.plan_write.specs.Moves.{moves_text, move_count}
+use Rattle.pattern.specs.Sets.{sends_to}
+use Rattle.offsets.specs.Table.{ranks}
+use Rattle.encoding.proofs.Below.{sum_more}
+use Rattle.encoding.specs.Below.{count_below, sum_below}
+use native.Mathlib.Omega.{arith}
+use lib.ListN.{length}
+use mathlib.Core.Path.{◌≡◌, refl}
+use Prim.Native.Nat.{◌-◌, ◌≤◌, ◌+◌}
+use borrow.Author.Rules.{rules}
+use Rattle.plan_write.proofs.moves.moves_size.Given as goal
+
+abbrev pub invariant-loop-p : goal.invariant-loop-p
+invariant-loop-p l = (l.p ≤ ranks l.old) × ((l.bytes ≡ length (moves_text l.old l.new l.p)) × (l.moves ≡ sum_below l.p (λ i. count_below (ranks l.old) (sends_to l.old l.new i))))
+
+abbrev pub decreases-loop-p : goal.decreases-loop-p
+decreases-loop-p l = l.n - l.p

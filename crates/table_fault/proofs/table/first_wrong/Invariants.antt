@@ -1,0 +1,16 @@
+use Rattle.table_fault.proofs.Entries.{entry_found, entry_none}
+use Rattle.faults.proofs.Firsts.{quiet, quiet_more, quiet_start}
+use Rattle.table_fault.specs.Table.{entry_kind}
+use Rattle.offsets.specs.Table.{trees}
+use native.Mathlib.Omega.{arith}
+use mathlib.Core.Bool.{true}
+use mathlib.Core.Path.{◌≡◌}
+use Prim.Native.Nat.{◌≤◌, ◌+◌, ◌-◌}
+use borrow.Author.Rules.{rules}
+use Rattle.table_fault.proofs.table.first_wrong.Given as goal
+
+abbrev pub invariant-loop-p : goal.invariant-loop-p
+invariant-loop-p l = (l.p ≤ l.ranks + 1) × (quiet (entry_kind l.t) l.p ≡ true)
+
+abbrev pub decreases-loop-p : goal.decreases-loop-p
+decreases-loop-p l = l.ranks + 1 - l.p

@@ -121,10 +121,13 @@ def main():
             return table[word] if word in table and word not in keep else word
 
         if f.endswith(".rt"):
+            # a name that was in snake case is a function's here
+            keep = keep | {n for n in table if not old(n)}
             parts = re.split(r'("(?:[^"\\]|\\.)*")', text[f])
             new = "".join(p if i % 2 else re.sub(TOKEN, turn, p) for i, p in enumerate(parts))
         else:
-            new = re.sub(TOKEN, turn, text[f])
+            # a module of a path keeps its name, which is a function's
+            new = re.sub(r"Rattle(?:\.[\w+]+)+|" + TOKEN, lambda m: m.group(0) if m.group(0).startswith("Rattle.") else turn(m), text[f])
         if new != text[f]:
             changed += 1
             if not dry:

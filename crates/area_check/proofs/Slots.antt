@@ -58,9 +58,9 @@ module _ (a : List ℕ) where
 -- ---- the tree slots
 
 module _ (a : List ℕ) where
-  slot_held : (i : ℕ) → due_heard a i ≡ true → tree_slot_sound a i ≡ (in_form (area_first a + i) (tree_slot_core a i) && eqb (number_of (tree_slot_core a i)) (area_first a + i))
+  slot_held_lem : (i : ℕ) → due_heard a i ≡ true → tree_slot_sound a i ≡ (in_form (area_first a + i) (tree_slot_core a i) && eqb (number_of (tree_slot_core a i)) (area_first a + i))
   unfolding tree_slot_sound
-  slot_held i e = rw e
+  slot_held_lem i e = rw e
 
   slot-zero : (i : ℕ) → due_heard a i ≡ false → tree_slot_sound a i ≡ all_zero (tree_slot a i)
   unfolding tree_slot_sound
@@ -111,7 +111,7 @@ module _ (a : List ℕ) (H : HeaderHolds a) where
         (either (heard a s)
         (λ h. rw h
         (all_same (from_count a s) (λ j. slot_held a (from_place a s + tree_size * j) (from_first a s + j)) slot
-        (λ j m. held_at a (from_first a s - area_first a + j) (from_at j m) (from-number j m) ∙ sym (slot_held a (from_first a s - area_first a + j) (from-due j m ∙ h)))))
+        (λ j m. held_at a (from_first a s - area_first a + j) (from_at j m) (from-number j m) ∙ sym (slot_held_lem a (from_first a s - area_first a + j) (from-due j m ∙ h)))))
         (λ h. rw h
         (zero_rows a (from_place a s) tree_size (from_count a s) (from_fits z)
         ∙ all_same (from_count a s) (λ j. all_zero (piece a (from_place a s + tree_size * j) tree_size)) slot

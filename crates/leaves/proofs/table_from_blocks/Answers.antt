@@ -1,5 +1,5 @@
 use mathlib.Core.Path.{◌∙◌, sym}
-use borrow.Author.Tests.{not-true, not-false, le-leb, lt-leb}
+use borrow.Author.Tests.{le-leb, lt-leb}
 use lib.ListN.{length}
 use Rattle.encoding.specs.Refusal.{first_failed}
 use Rattle.encoding.specs.Answer.{write_answer, length_answer, written}
@@ -10,7 +10,6 @@ use Rattle.leaves.specs.Blocks.{sums_ok}
 use Rattle.leaf_shares.specs.Leaves.{leaves_ok}
 use Rattle.leaves.proofs.BlockTotals.{pairs_add, blocks_agree, all_sums}
 use Rattle.leaf_shares.proofs.LeafCounts.{leaf_table_length}
-use borrow.Author.Rules.{rules}
 use Rattle.leaves.proofs.table_from_blocks.Goals as goal
 
 pub returns-then-not-rank_count_ok : goal.returns-then-not-rank_count_ok

@@ -1,6 +1,6 @@
 use mathlib.Core.Path.{◌∙◌, sym}
 use native.Mathlib.Omega.{arith}
-use borrow.Author.Tests.{not-true, not-false, le-leb, lt-leb}
+use borrow.Author.Tests.{le-leb, lt-leb}
 use lib.ListN.{length}
 use Rattle.encoding.specs.Refusal.{first_failed}
 use Rattle.encoding.specs.Answer.{write_answer, length_answer, written}
@@ -8,7 +8,6 @@ use Rattle.offsets.proofs.Tables.{ranks_within}
 use Rattle.offsets.specs.Table.{table_length}
 use Rattle.leaves.specs.Calls.{table_from_weights, weights_refusal}
 use Rattle.leaves.proofs.WeightedShares.{weighted_length}
-use borrow.Author.Rules.{rules}
 use Rattle.leaves.proofs.table_from_weights.Goals as goal
 
 pub returns-then-not-rank_count_ok : goal.returns-then-not-rank_count_ok

@@ -1,6 +1,5 @@
 use borrow.Author.Tests.{lt-ltb, le-ltb}
 use Rattle.leaves.specs.Means.{block_end}
-use borrow.Author.Rules.{rules}
 use Rattle.leaves.proofs.blocks.block_end.Goals as goal
 
 pub returns-then-k-from-lt256 : goal.returns-then-k-from-lt256

@@ -2,7 +2,6 @@ use Prim.Native.Nat.{◌*◌}
 use lib.ListN.{length}
 use native.Mathlib.Omega.{arith}
 use Rattle.leaves.proofs.BlockTotals.{end_within, block_sum_is}
-use borrow.Author.Rules.{rules}
 use Rattle.leaves.proofs.blocks.block_sum.Goals as goal
 
 pub sum-requires : goal.sum-requires

@@ -1,6 +1,4 @@
 use mathlib.Core.Path.{◌∙◌, sym}
-use borrow.Author.Tests.{not-true, not-false}
-use borrow.Author.Rules.{rules}
 use Rattle.leaves.proofs.blocks.blocks_ok.Goals as goal
 
 pub returns-then-not-leaves_ok : goal.returns-then-not-leaves_ok

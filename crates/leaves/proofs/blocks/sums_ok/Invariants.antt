@@ -1,14 +1,10 @@
 use Prim.Native.Nat.{◌≤◌, ◌-◌}
 use lib.ListN.{length, get_or}
 use lib.Dec.{eqb}
-use mathlib.Core.Path.{◌≡◌, sym, ◌∙◌, refl, ap}
-use mathlib.Core.Bool.{true, and-false}
-use native.Mathlib.Omega.{arith}
-use borrow.Author.Tests.{eq-eqb, ne_eqb}
+use mathlib.Core.Path.{◌≡◌}
+use mathlib.Core.Bool.{true}
 use Rattle.encoding.specs.Below.{all_below}
-use Rattle.encoding.proofs.Below.{all_more, all_fails, all_to}
-use Rattle.leaves.specs.Blocks.{block_count, block_sum, sums_ok}
-use borrow.Author.Rules.{rules}
+use Rattle.leaves.specs.Blocks.{block_sum}
 use Rattle.leaves.proofs.blocks.sums_ok.Given as goal
 
 abbrev pub invariant-loop-b : goal.invariant-loop-b

@@ -1,11 +1,8 @@
 use Rattle.leaves.proofs.WeightedShares.{weight_none, weight_more, weight_all}
-use Rattle.leaves.specs.Weighted.{weight_before}
 use Rattle.offsets.proofs.Tables.{ranks_within}
 use native.Mathlib.Omega.{arith}
 use mathlib.Core.Path.{◌≡◌, sym, ◌∙◌}
 use lib.ListN.{length}
-use Prim.Native.Nat.{◌≤◌, ◌-◌, ◌*◌, ◌^◌}
-use borrow.Author.Rules.{rules}
 use Rattle.leaves.proofs.weights.total.Goals as goal
 
 pub loop-p-init : goal.loop-p-init

@@ -1,11 +1,7 @@
-use Rattle.leaves.proofs.WeightedShares.{weight_none, weight_more, weight_all}
 use Rattle.leaves.specs.Weighted.{weight_before}
-use Rattle.offsets.proofs.Tables.{ranks_within}
-use native.Mathlib.Omega.{arith}
-use mathlib.Core.Path.{◌≡◌, sym, ◌∙◌}
+use mathlib.Core.Path.{◌≡◌}
 use lib.ListN.{length}
 use Prim.Native.Nat.{◌≤◌, ◌-◌, ◌*◌, ◌^◌}
-use borrow.Author.Rules.{rules}
 use Rattle.leaves.proofs.weights.total.Given as goal
 
 abbrev pub invariant-loop-p : goal.invariant-loop-p

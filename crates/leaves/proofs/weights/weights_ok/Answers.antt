@@ -1,14 +1,9 @@
-use Prim.Native.Nat.{◌≤◌, ◌-◌}
-use lib.ListN.{length, get_or}
-use lib.Dec.{leb}
-use mathlib.Core.Path.{◌≡◌, refl}
-use mathlib.Core.Bool.{true}
+use mathlib.Core.Path.{refl}
 use native.Mathlib.Omega.{arith}
 use borrow.Author.Tests.{le-leb, lt-leb}
 use Rattle.encoding.specs.Below.{all_below}
 use Rattle.encoding.proofs.Below.{all_more, all_fails, all_to}
 use Rattle.leaves.specs.Weighted.{max_weight, weights_ok}
-use borrow.Author.Rules.{rules}
 use Rattle.leaves.proofs.weights.weights_ok.Goals as goal
 
 pub loop-p-init : goal.loop-p-init

@@ -1,14 +1,10 @@
 use Prim.Native.Nat.{◌≤◌, ◌-◌}
 use lib.ListN.{length, get_or}
 use lib.Dec.{leb}
-use mathlib.Core.Path.{◌≡◌, refl}
+use mathlib.Core.Path.{◌≡◌}
 use mathlib.Core.Bool.{true}
-use native.Mathlib.Omega.{arith}
-use borrow.Author.Tests.{le-leb, lt-leb}
 use Rattle.encoding.specs.Below.{all_below}
-use Rattle.encoding.proofs.Below.{all_more, all_fails, all_to}
-use Rattle.leaves.specs.Weighted.{max_weight, weights_ok}
-use borrow.Author.Rules.{rules}
+use Rattle.leaves.specs.Weighted.{max_weight}
 use Rattle.leaves.proofs.weights.weights_ok.Given as goal
 
 abbrev pub invariant-loop-p : goal.invariant-loop-p

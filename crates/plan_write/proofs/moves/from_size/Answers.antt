@@ -5,10 +5,8 @@ use Rattle.offsets.specs.Table.{ranks}
 use Rattle.encoding.proofs.Below.{count_more, count_le}
 use Rattle.encoding.specs.Below.{count_below}
 use native.Mathlib.Omega.{arith}
-use lib.ListN.{length}
 use mathlib.Core.Path.{◌≡◌, refl}
-use Prim.Native.Nat.{◌-◌, ◌≤◌, ◌+◌}
-use borrow.Author.Rules.{rules}
+use Prim.Native.Nat.{◌+◌}
 use Rattle.plan_write.proofs.moves.from_size.Goals as goal
 
 pub ranks-n-requires : goal.ranks-n-requires

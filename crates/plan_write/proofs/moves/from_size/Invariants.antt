@@ -1,14 +1,10 @@
-use Rattle.plan_write.proofs.Writing.{from_length, from_most}
 use Rattle.plan_write.specs.Moves.{moves_from}
 use Rattle.pattern.specs.Sets.{sends_to}
 use Rattle.offsets.specs.Table.{ranks}
-use Rattle.encoding.proofs.Below.{count_more, count_le}
 use Rattle.encoding.specs.Below.{count_below}
-use native.Mathlib.Omega.{arith}
 use lib.ListN.{length}
-use mathlib.Core.Path.{◌≡◌, refl}
-use Prim.Native.Nat.{◌-◌, ◌≤◌, ◌+◌}
-use borrow.Author.Rules.{rules}
+use mathlib.Core.Path.{◌≡◌}
+use Prim.Native.Nat.{◌-◌, ◌≤◌}
 use Rattle.plan_write.proofs.moves.from_size.Given as goal
 
 abbrev pub invariant-loop-q : goal.invariant-loop-q

@@ -1,14 +1,10 @@
-use Rattle.plan_write.proofs.Writing.{text_length, text_most, moves_most}
-use Rattle.plan_write.specs.Moves.{moves_text, move_count}
+use Rattle.plan_write.specs.Moves.{moves_text}
 use Rattle.pattern.specs.Sets.{sends_to}
 use Rattle.offsets.specs.Table.{ranks}
-use Rattle.encoding.proofs.Below.{sum_more}
 use Rattle.encoding.specs.Below.{count_below, sum_below}
-use native.Mathlib.Omega.{arith}
 use lib.ListN.{length}
-use mathlib.Core.Path.{◌≡◌, refl}
-use Prim.Native.Nat.{◌-◌, ◌≤◌, ◌+◌}
-use borrow.Author.Rules.{rules}
+use mathlib.Core.Path.{◌≡◌}
+use Prim.Native.Nat.{◌-◌, ◌≤◌}
 use Rattle.plan_write.proofs.moves.moves_size.Given as goal
 
 abbrev pub invariant-loop-p : goal.invariant-loop-p

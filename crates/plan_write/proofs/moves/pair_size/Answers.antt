@@ -1,7 +1,6 @@
 use Rattle.plan_write.proofs.Writing.{pair_unsent, pair_sent, pair_none, pair_some, pair_small}
 use lib.ListN.{length}
 use mathlib.Core.Path.{sym, ap, ◌∙◌}
-use borrow.Author.Rules.{rules}
 use Rattle.plan_write.proofs.moves.pair_size.Goals as goal
 
 pub returns-then-count-eq0 : goal.returns-then-count-eq0

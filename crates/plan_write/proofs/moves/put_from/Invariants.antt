@@ -1,12 +1,9 @@
-use Rattle.plan_write.proofs.Writing.{put_none, from_fits, from_turn}
 use Rattle.plan_write.specs.Means.{Put}
 use Rattle.plan_write.specs.Moves.{moves_from}
 use Rattle.offsets.specs.Table.{ranks}
-use native.Mathlib.Omega.{arith}
 use lib.ListN.{length}
-use mathlib.Core.Path.{◌≡◌, refl}
+use mathlib.Core.Path.{◌≡◌}
 use Prim.Native.Nat.{◌-◌, ◌≤◌}
-use borrow.Author.Rules.{rules}
 use Rattle.plan_write.proofs.moves.put_from.Given as goal
 
 abbrev pub invariant-loop-q : goal.invariant-loop-q

@@ -1,11 +1,8 @@
 use Rattle.plan_write.proofs.Writing.{put_none, text_fits, text_turn}
-use Rattle.plan_write.specs.Means.{Put}
 use Rattle.plan_write.specs.Moves.{moves_text}
 use Rattle.offsets.specs.Table.{ranks}
 use native.Mathlib.Omega.{arith}
-use lib.ListN.{length}
 use mathlib.Core.Path.{◌≡◌, refl}
-use Prim.Native.Nat.{◌-◌, ◌≤◌}
 use borrow.Author.Rules.{rules}
 use Rattle.plan_write.proofs.moves.put_moves.Goals as goal
 

@@ -1,6 +1,5 @@
 use Rattle.plan_write.proofs.Writing.{pair_none, pair_some, pair_small, put_as, put_none, fits_as}
 use mathlib.Core.Path.{sym}
-use borrow.Author.Rules.{rules}
 use Rattle.plan_write.proofs.moves.put_pair.Goals as goal
 
 pub returns-then-count-eq0 : goal.returns-then-count-eq0

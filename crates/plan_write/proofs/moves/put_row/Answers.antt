@@ -1,6 +1,4 @@
 use Rattle.plan_write.proofs.Writing.{row_word, row_sender, row_receiver, row_first, row_last, row_done}
-use mathlib.Core.Path.{refl}
-use borrow.Author.Rules.{rules}
 use Rattle.plan_write.proofs.moves.put_row.Goals as goal
 
 pub put_word-a-requires : goal.put_word-a-requires

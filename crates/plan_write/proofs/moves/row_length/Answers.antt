@@ -1,6 +1,5 @@
 use Rattle.plan_write.proofs.Writing.{row_length}
 use native.Mathlib.Omega.{arith}
-use borrow.Author.Rules.{rules}
 use Rattle.plan_write.proofs.moves.row_length.Goals as goal
 
 pub returns : goal.returns

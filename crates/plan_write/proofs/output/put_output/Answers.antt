@@ -1,5 +1,4 @@
 use Rattle.plan_write.proofs.Writing.{output_ranks, output_trees, output_moves, output_count, output_done}
-use borrow.Author.Rules.{rules}
 use Rattle.plan_write.proofs.output.put_output.Goals as goal
 
 pub put_line-a-requires : goal.put_line-a-requires

@@ -1,6 +1,5 @@
 use Rattle.plan_write.proofs.Writing.{output_small, output_is, answer_short, answer_done}
 use native.Mathlib.Omega.{arith}
-use borrow.Author.Rules.{rules}
 use Rattle.plan_write.proofs.output.write_moves.Goals as goal
 
 pub ranks-requires : goal.ranks-requires

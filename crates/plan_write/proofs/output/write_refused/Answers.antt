@@ -1,6 +1,5 @@
 use Rattle.plan_write.proofs.Writing.{answer_short, answer_done}
 use native.Mathlib.Omega.{arith}
-use borrow.Author.Rules.{rules}
 use Rattle.plan_write.proofs.output.write_refused.Goals as goal
 
 pub returns-then-out-line_length : goal.returns-then-out-line_length

@@ -1,11 +1,8 @@
 use Rattle.plan_write.proofs.Writing.{decimal_one, length_more}
 use Rattle.plan_read.proofs.Decimals.{decimal_least, decimal_most}
-use Rattle.plan_read.specs.Text.{decimal}
 use lib.ListN.{length}
 use native.Mathlib.Omega.{arith}
-use mathlib.Core.Path.{◌≡◌, ap}
-use Prim.Native.Nat.{◌+◌, ◌≤◌}
-use borrow.Author.Rules.{rules}
+use mathlib.Core.Path.{ap}
 use Rattle.plan_write.proofs.put.decimal_length.Goals as goal
 
 pub loop-m-init : goal.loop-m-init

@@ -1,11 +1,7 @@
-use Rattle.plan_write.proofs.Writing.{decimal_one, length_more}
-use Rattle.plan_read.proofs.Decimals.{decimal_least, decimal_most}
 use Rattle.plan_read.specs.Text.{decimal}
 use lib.ListN.{length}
-use native.Mathlib.Omega.{arith}
-use mathlib.Core.Path.{◌≡◌, ap}
+use mathlib.Core.Path.{◌≡◌}
 use Prim.Native.Nat.{◌+◌, ◌≤◌}
-use borrow.Author.Rules.{rules}
 use Rattle.plan_write.proofs.put.decimal_length.Given as goal
 
 abbrev pub invariant-loop-m : goal.invariant-loop-m

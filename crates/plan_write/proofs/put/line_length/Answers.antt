@@ -1,6 +1,5 @@
 use Rattle.plan_write.proofs.Writing.{line_length}
 use native.Mathlib.Omega.{arith}
-use borrow.Author.Rules.{rules}
 use Rattle.plan_write.proofs.put.line_length.Goals as goal
 
 pub returns : goal.returns

@@ -1,7 +1,6 @@
 use Rattle.plan_write.proofs.Writing.{fits_first, fits_next, put_then}
 use Rattle.plan_write.specs.Moves.{line_text}
 use Rattle.plan_write.specs.Means.{number_text}
-use borrow.Author.Rules.{rules}
 use Rattle.plan_write.proofs.put.put_line.Goals as goal
 
 pub put_word-next-requires : goal.put_word-next-requires

@@ -1,6 +1,5 @@
 use Rattle.plan_write.proofs.Writing.{fits_first, fits_next, put_then}
 use Rattle.plan_write.specs.Means.{number_text}
-use borrow.Author.Rules.{rules}
 use Rattle.plan_write.proofs.put.put_number.Goals as goal
 
 pub put_decimal-next-requires : goal.put_decimal-next-requires

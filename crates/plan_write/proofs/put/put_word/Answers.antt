@@ -1,10 +1,8 @@
-use mathlib.Core.Path.{◌≡◌, refl, sym}
+use mathlib.Core.Path.{refl, sym}
 use Rattle.plan_write.proofs.Writing.{put_none, put_as, fits_turn, put_turn, word_more, fits_as}
-use Rattle.plan_write.specs.Means.{Put}
 use lib.Seq.{take_all, take-length}
 use lib.ListN.{length, take}
 use native.Mathlib.Omega.{arith}
-use Prim.Native.Nat.{◌-◌, ◌≤◌}
 use borrow.Author.Rules.{rules}
 use Rattle.plan_write.proofs.put.put_word.Goals as goal
 

@@ -1,5 +1,5 @@
 -- A whole mesh: dimension and K (u32 each), then K tree records in order, neighbours as global numbers.
-use Rattle.std.specs.Prelude.{ℕ, ◌+◌, ◌*◌, Bool, true, cond, ◌&&◌, ◌||◌, List, [], ◌∷◌, ltb, eqb, length}
+use Rattle.std.specs.Prelude.{ℕ, ◌+◌, ◌*◌, Bool, ◌&&◌, ◌||◌, List, [], ◌∷◌, ltb, eqb, length}
 use Rattle.encoding.specs.Below.{all_below, any_below}
 use Rattle.encoding.specs.Numbers.{u32_at}
 use Rattle.encoding.specs.Pieces.{piece}

@@ -18,7 +18,7 @@ use Rattle.offsets.proofs.Tables.{trees_high}
 use Rattle.pattern.proofs.Senders.{some_holder, sender_is, sent_high_lem, sent_count_lem, sent_first_lem, sent_old, upper_le}
 use Rattle.pattern.proofs.Sets.{sends_to_lem}
 use Rattle.pattern.specs.Sender.{Tables, distance, sender, sent_first, sent_count}
-use Rattle.pattern.specs.Means.{TreeOf, RankOf, PairOf, PairNear, held_below, held_above, has_trees, lower_rank, above_with_trees, upper_rank, sent_low, sent_high, exchanges_tree, rank_set}
+use Rattle.pattern.specs.Means.{TreeOf, RankOf, PairOf, PairNear, held_below, held_above, has_trees, lower_rank, above_with_trees, upper_rank, sent_low, sent_high}
 use Rattle.pattern.specs.Sets.{sends_to}
 
 -- ---- what is read stands in the tables

@@ -15,7 +15,6 @@ use Rattle.offsets.specs.Table.{ranks, entry, magnitude, first_tree, end_tree}
 use Rattle.offsets.proofs.OnePass.{ranks_known}
 use Rattle.offsets.proofs.Tables.{end_next, first_le_end, rises}
 use Rattle.pattern.specs.Means.{ValidTable, RankOf, FirstAbove, Meeting, WindowOf, SetWritten, sent_low, sent_high, exchanges_tree, rank_set}
-use Rattle.pattern.specs.Sender.{Tables}
 use Rattle.pattern.proofs.Laws.{count_one, count_skip, Writing, write_index, write_more, write_skip, write_done}
 use Rattle.pattern.proofs.Senders.{first_near, end_before, sent_old, sent_new}
 use Rattle.pattern.proofs.Sets.{sends_to_lem, gets_from_lem}

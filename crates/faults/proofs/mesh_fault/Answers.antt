@@ -1,9 +1,7 @@
 use mathlib.Core.Path.{sym, ◌∙◌}
 use native.Mathlib.Omega.{arith}
-use borrow.Author.Tests.{not-true, not-false}
 use Rattle.mesh.proofs.Soundness.{header_parts}
 use Rattle.faults.proofs.Searches.{mesh_headless, mesh_searched}
-use borrow.Author.Rules.{rules}
 use Rattle.faults.proofs.mesh_fault.Goals as goal
 
 pub returns-then-not-header_sound : goal.returns-then-not-header_sound

@@ -1,7 +1,5 @@
-use borrow.Author.Tests.{not-true, not-false}
 use Rattle.encoding.specs.Refusal.{first_failed}
 use Rattle.mesh.specs.Mesh.{mesh_refusal}
-use borrow.Author.Rules.{rules}
 use Rattle.mesh.proofs.check_mesh.Goals as goal
 
 pub returns-then-not-sound : goal.returns-then-not-sound

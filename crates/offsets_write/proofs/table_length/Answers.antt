@@ -1,8 +1,6 @@
 use Rattle.offsets_write.specs.Calls.{table_length_answer}
 use Rattle.encoding.specs.Answer.{length_answer}
 use Rattle.encoding.specs.Refusal.{first_failed}
-use borrow.Author.Tests.{not-true, not-false}
-use borrow.Author.Rules.{rules}
 use Rattle.offsets_write.proofs.table_length.Goals as goal
 
 pub returns-then-not-rank_count_ok : goal.returns-then-not-rank_count_ok

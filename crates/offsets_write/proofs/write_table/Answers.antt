@@ -4,9 +4,8 @@ use Rattle.offsets.specs.Table.{table_length}
 use Rattle.encoding.specs.Answer.{write_answer, length_answer, written}
 use Rattle.encoding.specs.Refusal.{first_failed}
 use lib.ListN.{length}
-use borrow.Author.Tests.{not-true, not-false, le-leb, lt-leb}
+use borrow.Author.Tests.{le-leb, lt-leb}
 use mathlib.Core.Path.{◌∙◌, sym}
-use borrow.Author.Rules.{rules}
 use Rattle.offsets_write.proofs.write_table.Goals as goal
 
 pub returns-then-not-rank_count_ok : goal.returns-then-not-rank_count_ok

@@ -1,7 +1,5 @@
 use Rattle.part.proofs.Checks.{rank_known}
 use Rattle.part_check.proofs.Checks.{check_rank, check_fails, check_passes}
-use borrow.Author.Tests.{not-true, not-false}
-use borrow.Author.Rules.{rules}
 use Rattle.part_check.proofs.check_part.Goals as goal
 
 pub returns-then-refusal-ne0 : goal.returns-then-refusal-ne0

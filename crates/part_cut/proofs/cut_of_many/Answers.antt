@@ -1,6 +1,5 @@
 use Rattle.part_cut.proofs.Marking.{cut_space, few_trees}
 use native.Mathlib.Omega.{arith}
-use borrow.Author.Rules.{rules}
 use Rattle.part_cut.proofs.cut_of_many.Goals as goal
 
 pub cut_with-requires : goal.cut_with-requires

@@ -3,7 +3,6 @@ use Rattle.part_cut.proofs.Marking.{cut_space}
 use Rattle.part_cut.proofs.Cutting.{cut_fits}
 use mathlib.Core.Path.{sym, ◌∙◌}
 use native.Mathlib.Omega.{arith}
-use borrow.Author.Rules.{rules}
 use Rattle.part_cut.proofs.cut_part.Goals as goal
 
 pub returns-then-refusal-ne0 : goal.returns-then-refusal-ne0

@@ -1,10 +1,8 @@
 use native.Mathlib.Omega.{arith}
 use mathlib.Core.Path.{sym, ◌∙◌}
-use borrow.Author.Tests.{not-true, not-false}
 use Rattle.mesh.proofs.Soundness.{sound_length}
 use Rattle.part_cut.proofs.Checks.{cut_rank, fails_sound, fails_trees, none_fails}
 use Rattle.part.proofs.Checks.{rank_known}
-use borrow.Author.Rules.{rules}
 use Rattle.part_cut.proofs.cut_refusal.Goals as goal
 
 pub returns-then-refusal-ne0 : goal.returns-then-refusal-ne0

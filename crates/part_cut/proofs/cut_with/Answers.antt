@@ -1,7 +1,6 @@
 use Rattle.part_cut.proofs.Parts.{found_long, part_room, part_cut, cut_short, cut_done}
 use Rattle.part_cut.proofs.Marking.{space_known}
 use mathlib.Core.Path.{refl, sym}
-use borrow.Author.Rules.{rules}
 use Rattle.part_cut.proofs.cut_with.Goals as goal
 
 pub returns-then-out-n : goal.returns-then-out-n

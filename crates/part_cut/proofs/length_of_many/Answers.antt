@@ -1,6 +1,5 @@
 use Rattle.part_cut.proofs.Marking.{cut_space, few_trees}
 use native.Mathlib.Omega.{arith}
-use borrow.Author.Rules.{rules}
 use Rattle.part_cut.proofs.length_of_many.Goals as goal
 
 pub length_with-requires : goal.length_with-requires

@@ -1,5 +1,4 @@
 use Rattle.part_cut.proofs.Parts.{length_found}
-use borrow.Author.Rules.{rules}
 use Rattle.part_cut.proofs.length_with.Goals as goal
 
 pub returns : goal.returns

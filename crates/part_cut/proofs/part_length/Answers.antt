@@ -2,7 +2,6 @@ use Rattle.part_cut.proofs.Marking.{cut_space}
 use Rattle.part_cut.proofs.Cutting.{cut_fits, length_refused_lem}
 use mathlib.Core.Path.{sym, ◌∙◌}
 use native.Mathlib.Omega.{arith}
-use borrow.Author.Rules.{rules}
 use Rattle.part_cut.proofs.part_length.Goals as goal
 
 pub returns-then-refusal-ne0 : goal.returns-then-refusal-ne0

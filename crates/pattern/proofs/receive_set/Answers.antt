@@ -1,6 +1,5 @@
 use mathlib.Core.Path.{◌∙◌}
 use Rattle.pattern.proofs.Answers.{receive_is}
-use borrow.Author.Rules.{rules}
 use Rattle.pattern.proofs.receive_set.Goals as goal
 
 pub returns : goal.returns

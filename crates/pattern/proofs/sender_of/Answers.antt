@@ -2,7 +2,6 @@ use mir.Syntax.{w32}
 use mir.Facts.{to_z-of_z}
 use mathlib.Core.Path.{◌∙◌}
 use Rattle.pattern.proofs.Answers.{old_ranks_lem, tree_to_lem, sender_fails, tree_past, receiver_past, sender_found}
-use borrow.Author.Rules.{rules}
 use Rattle.pattern.proofs.sender_of.Goals as goal
 
 pub returns-then-refusal-ne0 : goal.returns-then-refusal-ne0

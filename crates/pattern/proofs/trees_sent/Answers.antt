@@ -1,7 +1,6 @@
 use Rattle.pattern.proofs.Laws.{pair_of}
 use mathlib.Core.Path.{◌∙◌}
 use Rattle.pattern.proofs.Answers.{old_ranks_lem, rank_of, sent_fails, from_past, to_past, sent_found}
-use borrow.Author.Rules.{rules}
 use Rattle.pattern.proofs.trees_sent.Goals as goal
 
 pub returns-then-refusal-ne0 : goal.returns-then-refusal-ne0

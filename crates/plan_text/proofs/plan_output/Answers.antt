@@ -1,5 +1,4 @@
 use Rattle.plan_text.proofs.Answers.{output_kept, output_small, output_refused}
-use borrow.Author.Rules.{rules}
 use Rattle.plan_text.proofs.plan_output.Goals as goal
 
 pub returns-then-refusal : goal.returns-then-refusal

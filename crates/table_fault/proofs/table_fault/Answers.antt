@@ -1,7 +1,5 @@
 use Rattle.table_fault.proofs.Entries.{table_refused, table_found}
-use borrow.Author.Tests.{not-true, not-false}
 use mathlib.Core.Path.{sym, ◌∙◌}
-use borrow.Author.Rules.{rules}
 use Rattle.table_fault.proofs.table_fault.Goals as goal
 
 pub returns-then-not-ranks_ok : goal.returns-then-not-ranks_ok

@@ -1,5 +1,4 @@
 use Rattle.mesh.specs.Link.{answered}
-use borrow.Author.Rules.{rules}
 use Rattle.faults.proofs.record.answered.Goals as goal
 
 pub returns : goal.returns

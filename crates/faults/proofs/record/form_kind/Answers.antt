@@ -1,5 +1,4 @@
 use Rattle.faults.proofs.Records.{boundary_wrong, boundary_right, marked, unmarked}
-use borrow.Author.Rules.{rules}
 use Rattle.faults.proofs.record.form_kind.Goals as goal
 
 pub returns-then-n-own : goal.returns-then-n-own

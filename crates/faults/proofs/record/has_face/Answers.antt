@@ -1,4 +1,3 @@
-use borrow.Author.Rules.{rules}
 use Rattle.faults.proofs.record.has_face.Goals as goal
 
 pub returns : goal.returns

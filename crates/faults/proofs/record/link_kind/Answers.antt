@@ -1,7 +1,5 @@
-use borrow.Author.Tests.{not-true, not-false}
 use Rattle.faults.specs.Record.{link_kind}
 use Rattle.encoding.specs.Refusal.{first_failed}
-use borrow.Author.Rules.{rules}
 use Rattle.faults.proofs.record.link_kind.Goals as goal
 
 pub returns-then-not-orientation_ok : goal.returns-then-not-orientation_ok

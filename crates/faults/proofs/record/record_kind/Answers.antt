@@ -1,6 +1,4 @@
 use Rattle.faults.proofs.Records.{number_wrong, shape_wrong, bytes_wrong, dimension_wrong, record_right}
-use borrow.Author.Tests.{not-true, not-false}
-use borrow.Author.Rules.{rules}
 use Rattle.faults.proofs.record.record_kind.Goals as goal
 
 pub returns-then-not-in_order : goal.returns-then-not-in_order

@@ -1,5 +1,4 @@
 use Rattle.mesh.specs.Link.{same_corners}
-use borrow.Author.Rules.{rules}
 use Rattle.faults.proofs.record.same_corners.Goals as goal
 
 pub returns : goal.returns

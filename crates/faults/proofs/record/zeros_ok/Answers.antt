@@ -1,6 +1,5 @@
 use mathlib.Core.Path.{sym}
 use Rattle.records.proofs.Forms.{zeros_at}
-use borrow.Author.Rules.{rules}
 use Rattle.faults.proofs.record.zeros_ok.Goals as goal
 
 pub returns : goal.returns

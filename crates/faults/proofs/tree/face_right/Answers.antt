@@ -1,6 +1,5 @@
 use mathlib.Core.Path.{sym}
 use Rattle.mesh.proofs.Checking.{face_outside, face_read}
-use borrow.Author.Rules.{rules}
 use Rattle.faults.proofs.tree.face_right.Goals as goal
 
 pub returns-then-trees-n : goal.returns-then-trees-n

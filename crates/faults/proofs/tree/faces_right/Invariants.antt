@@ -1,13 +1,9 @@
 use Prim.Native.Nat.{◌≤◌, ◌-◌}
-use mathlib.Core.Path.{◌≡◌, sym, ◌∙◌}
+use mathlib.Core.Path.{◌≡◌}
 use mathlib.Core.Bool.{true}
-use native.Mathlib.Omega.{arith}
-use borrow.Author.Tests.{not-true, not-false}
 use Rattle.mesh.specs.Mesh.{mesh_core}
 use Rattle.mesh.specs.Means.{face_by_dimension}
 use Rattle.encoding.specs.Below.{all_below}
-use Rattle.encoding.proofs.Below.{all_more, all_fails, all_to}
-use borrow.Author.Rules.{rules}
 use Rattle.faults.proofs.tree.faces_right.Given as goal
 
 abbrev pub invariant-loop-at : goal.invariant-loop-at

@@ -1,13 +1,8 @@
-use Prim.Native.Nat.{◌≤◌, ◌-◌}
-use mathlib.Core.Path.{◌≡◌, refl, sym, ◌∙◌}
-use mathlib.Core.Bool.{true}
+use mathlib.Core.Path.{refl, sym, ◌∙◌}
 use native.Mathlib.Omega.{arith}
-use borrow.Author.Tests.{not-true, not-false}
-use Rattle.mesh.specs.Mesh.{mesh_core}
 use Rattle.faults.specs.Mesh.{tree_wrong}
-use Rattle.faults.proofs.Searches.{kind_of, tree_passes, tree_fails, trees_pass}
-use Rattle.faults.proofs.Firsts.{quiet, quiet_more, quiet_to, first_read, first_none}
-use borrow.Author.Rules.{rules}
+use Rattle.faults.proofs.Searches.{tree_passes, tree_fails, trees_pass}
+use Rattle.faults.proofs.Firsts.{quiet_more, quiet_to, first_read, first_none}
 use Rattle.faults.proofs.tree.first_wrong.Goals as goal
 
 pub loop-k-init : goal.loop-k-init

@@ -1,13 +1,7 @@
-use Rattle.mesh.specs.Means.{tree_by_dimension}
-use Rattle.mesh.specs.Mesh.{mesh_core}
 use Rattle.encoding.proofs.Below.{all_more}
 use Rattle.encoding.specs.Below.{all_below}
-use borrow.Author.Tests.{not-false}
 use native.Mathlib.Omega.{arith}
-use mathlib.Core.Bool.{true}
-use mathlib.Core.Path.{◌≡◌, refl, sym, ◌∙◌}
-use Prim.Native.Nat.{◌≤◌, ◌-◌}
-use borrow.Author.Rules.{rules}
+use mathlib.Core.Path.{refl, sym, ◌∙◌}
 use Rattle.faults.proofs.tree.plain_run.Goals as goal
 
 pub returns-then-dimension-ne3 : goal.returns-then-dimension-ne3

@@ -1,13 +1,9 @@
 use Rattle.mesh.specs.Means.{tree_by_dimension}
 use Rattle.mesh.specs.Mesh.{mesh_core}
-use Rattle.encoding.proofs.Below.{all_more}
 use Rattle.encoding.specs.Below.{all_below}
-use borrow.Author.Tests.{not-false}
-use native.Mathlib.Omega.{arith}
 use mathlib.Core.Bool.{true}
-use mathlib.Core.Path.{◌≡◌, refl, sym, ◌∙◌}
+use mathlib.Core.Path.{◌≡◌}
 use Prim.Native.Nat.{◌≤◌, ◌-◌}
-use borrow.Author.Rules.{rules}
 use Rattle.faults.proofs.tree.plain_run.Given as goal
 
 abbrev pub invariant-loop-k : goal.invariant-loop-k

@@ -1,14 +1,9 @@
-use Rattle.mesh.proofs.PlainTrees.{own_shape, alike_face, alike_tree}
 use Rattle.mesh.specs.Means.{face_passes}
 use Rattle.mesh.specs.Mesh.{mesh_core}
-use Rattle.encoding.proofs.Below.{clash, all_more, all_to}
 use Rattle.encoding.specs.Below.{all_below}
-use borrow.Author.Tests.{not-false}
-use native.Mathlib.Omega.{arith}
 use mathlib.Core.Bool.{true}
-use mathlib.Core.Path.{◌≡◌, refl}
+use mathlib.Core.Path.{◌≡◌}
 use Prim.Native.Nat.{◌≤◌, ◌-◌}
-use borrow.Author.Rules.{rules}
 use Rattle.faults.proofs.tree.plain_tree.Given as goal
 
 abbrev pub invariant-loop-next : goal.invariant-loop-next

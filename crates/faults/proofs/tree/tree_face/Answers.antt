@@ -1,6 +1,4 @@
 use Rattle.faults.proofs.Records.{tree_form, tree_absent, tree_outside, tree_linked}
-use borrow.Author.Tests.{not-true, not-false}
-use borrow.Author.Rules.{rules}
 use Rattle.faults.proofs.tree.tree_face.Goals as goal
 
 pub returns-then-kind-ne0 : goal.returns-then-kind-ne0

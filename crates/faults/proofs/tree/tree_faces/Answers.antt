@@ -1,12 +1,7 @@
 use Rattle.faults.proofs.Firsts.{quiet_start}
-use Rattle.faults.proofs.Firsts.{quiet, quiet_more, quiet_to, face_read, face_none}
-use Rattle.faults.specs.Mesh.{tree_face_kind}
-use Rattle.mesh.specs.Mesh.{mesh_core}
+use Rattle.faults.proofs.Firsts.{quiet_more, quiet_to, face_read, face_none}
 use native.Mathlib.Omega.{arith}
-use mathlib.Core.Bool.{true}
-use mathlib.Core.Path.{◌≡◌, sym}
-use Prim.Native.Nat.{◌≤◌, ◌-◌}
-use borrow.Author.Rules.{rules}
+use mathlib.Core.Path.{sym}
 use Rattle.faults.proofs.tree.tree_faces.Goals as goal
 
 pub loop-face-init : goal.loop-face-init

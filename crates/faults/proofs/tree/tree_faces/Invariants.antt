@@ -1,12 +1,9 @@
-use Rattle.faults.proofs.Firsts.{quiet_start}
-use Rattle.faults.proofs.Firsts.{quiet, quiet_more, quiet_to, face_read, face_none}
+use Rattle.faults.proofs.Firsts.{quiet}
 use Rattle.faults.specs.Mesh.{tree_face_kind}
 use Rattle.mesh.specs.Mesh.{mesh_core}
-use native.Mathlib.Omega.{arith}
 use mathlib.Core.Bool.{true}
-use mathlib.Core.Path.{◌≡◌, sym}
+use mathlib.Core.Path.{◌≡◌}
 use Prim.Native.Nat.{◌≤◌, ◌-◌}
-use borrow.Author.Rules.{rules}
 use Rattle.faults.proofs.tree.tree_faces.Given as goal
 
 abbrev pub invariant-loop-face : goal.invariant-loop-face

@@ -1,5 +1,4 @@
 use Rattle.mesh.proofs.Checking.{tree_read}
-use borrow.Author.Rules.{rules}
 use Rattle.faults.proofs.tree.tree_right.Goals as goal
 
 pub returns : goal.returns

@@ -1,5 +1,4 @@
 use Rattle.faults.proofs.Searches.{tree_kind, tree_found}
-use borrow.Author.Rules.{rules}
 use Rattle.faults.proofs.tree.tree_wrong.Goals as goal
 
 pub returns-then-kind-ne0 : goal.returns-then-kind-ne0

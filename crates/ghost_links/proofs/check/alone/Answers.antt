@@ -1,5 +1,4 @@
 use Rattle.ghost_links.proofs.Forms.{alone_read}
-use borrow.Author.Rules.{rules}
 use Rattle.ghost_links.proofs.check.alone.Goals as goal
 
 pub returns : goal.returns

@@ -1,5 +1,4 @@
 use Rattle.ghost_links.proofs.Forms.{formed_alone}
-use borrow.Author.Rules.{rules}
 use Rattle.ghost_links.proofs.check.alone_by.Goals as goal
 
 pub returns-then-formed : goal.returns-then-formed

@@ -1,5 +1,4 @@
 use Rattle.ghost_links.proofs.Checking.{position_is, answered_not, answered_read, listed_there}
-use borrow.Author.Tests.{not-true, not-false}
 use native.Mathlib.Omega.{arith}
 use borrow.Author.Rules.{rules}
 use Rattle.ghost_links.proofs.check.face_linked.Goals as goal

@@ -1,7 +1,6 @@
 use Rattle.ghost_links.proofs.Checking.{formed_there, ghost_off, ghost_unsorted, ghost_unanswered, ghost_seen_lem}
 use Rattle.mesh.proofs.Checking.{seen_refused}
 use borrow.Author.Tests.{not-true, not-false}
-use native.Mathlib.Omega.{arith}
 use mathlib.Core.Path.{sym, ◌∙◌}
 use borrow.Author.Rules.{rules}
 use Rattle.ghost_links.proofs.check.ghost_linked.Goals as goal

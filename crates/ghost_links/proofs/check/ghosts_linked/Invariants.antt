@@ -1,15 +1,9 @@
-use Rattle.ghost_links.proofs.Checking.{summed_refused, summed_all}
 use Rattle.ghost_links.specs.Means.{core_from, ghost_ups, ghost_downs, ghost_from_one_end}
-use Rattle.mesh.proofs.Checking.{sum_next}
 use Rattle.mesh.specs.Means.{link_by_dimension}
-use Rattle.encoding.proofs.Below.{all_more, all_fails}
 use Rattle.encoding.specs.Below.{all_below, sum_below}
-use borrow.Author.Tests.{not-true, not-false}
-use native.Mathlib.Omega.{arith}
 use mathlib.Core.Bool.{true}
-use mathlib.Core.Path.{◌≡◌, sym, ◌∙◌}
+use mathlib.Core.Path.{◌≡◌}
 use Prim.Native.Nat.{◌*◌, ◌≤◌, ◌-◌}
-use borrow.Author.Rules.{rules}
 use Rattle.ghost_links.proofs.check.ghosts_linked.Given as goal
 
 abbrev pub invariant-loop-j : goal.invariant-loop-j

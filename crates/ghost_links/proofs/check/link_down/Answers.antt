@@ -1,7 +1,5 @@
 use Rattle.mesh.proofs.Checking.{not_answered, is_answered}
-use borrow.Author.Tests.{not-true, not-false}
 use mathlib.Core.Path.{sym, ◌∙◌}
-use borrow.Author.Rules.{rules}
 use Rattle.ghost_links.proofs.check.link_down.Goals as goal
 
 pub returns-then-not-answered_there : goal.returns-then-not-answered_there

@@ -1,12 +1,6 @@
-use Rattle.ghost_links.proofs.Checking.{not_listed, listed_is}
 use Rattle.ghost_links.specs.Means.{core_from, ghost_listed, ghost_face_down}
-use Rattle.mesh.proofs.Packing.{Left, left_all, left_none, left_next, next_digit, next_passes}
+use Rattle.mesh.proofs.Packing.{Left}
 use Rattle.mesh.specs.Means.{link_by_dimension}
-use Rattle.encoding.proofs.Below.{all_fails}
-use borrow.Author.Tests.{not-true, not-false}
-use native.Mathlib.Omega.{arith}
-use mathlib.Core.Path.{sym, ◌∙◌}
-use borrow.Author.Rules.{rules}
 use Rattle.ghost_links.proofs.check.listed_linked.Given as goal
 
 abbrev pub invariant-loop-left : goal.invariant-loop-left

@@ -1,10 +1,7 @@
 use Rattle.leaf_shares.proofs.LeafCounts.{start_more, start_bound}
-use Rattle.leaf_shares.specs.Leaves.{leaf_start}
 use native.Mathlib.Omega.{arith}
 use mathlib.Core.Path.{◌≡◌, sym}
-use lib.ListN.{length}
-use Prim.Native.Nat.{◌≤◌, ◌-◌, ◌+◌}
-use borrow.Author.Rules.{rules}
+use Prim.Native.Nat.{◌+◌}
 use Rattle.leaf_shares.proofs.counts.sum.Goals as goal
 
 pub loop-i-init : goal.loop-i-init

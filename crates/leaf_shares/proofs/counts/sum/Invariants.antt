@@ -1,10 +1,6 @@
-use Rattle.leaf_shares.proofs.LeafCounts.{start_more, start_bound}
 use Rattle.leaf_shares.specs.Leaves.{leaf_start}
-use native.Mathlib.Omega.{arith}
-use mathlib.Core.Path.{◌≡◌, sym}
-use lib.ListN.{length}
+use mathlib.Core.Path.{◌≡◌}
 use Prim.Native.Nat.{◌≤◌, ◌-◌, ◌+◌}
-use borrow.Author.Rules.{rules}
 use Rattle.leaf_shares.proofs.counts.sum.Given as goal
 
 abbrev pub invariant-loop-i : goal.invariant-loop-i

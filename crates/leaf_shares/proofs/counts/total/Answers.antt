@@ -1,7 +1,6 @@
 use Rattle.leaf_shares.proofs.LeafCounts.{start_zero, start_total, start_bound}
 use native.Mathlib.Omega.{arith}
 use lib.ListN.{length}
-use borrow.Author.Rules.{rules}
 use Rattle.leaf_shares.proofs.counts.total.Goals as goal
 
 pub returns : goal.returns

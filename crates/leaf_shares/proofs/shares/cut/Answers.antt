@@ -1,6 +1,5 @@
 use Rattle.leaf_shares.proofs.LeafCounts.{cut_parts, cut_le, cut_fits}
 use native.Mathlib.Omega.{arith}
-use borrow.Author.Rules.{rules}
 use Rattle.leaf_shares.proofs.shares.cut.Goals as goal
 
 pub overflow_mul-result : goal.overflow_mul-result

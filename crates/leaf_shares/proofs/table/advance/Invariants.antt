@@ -1,9 +1,6 @@
-use Rattle.leaf_shares.proofs.LeafCounts.{walk_at, walk_fits, walk_more, walk_done}
 use Rattle.leaf_shares.specs.Means.{Walking}
-use native.Mathlib.Omega.{arith}
 use lib.ListN.{length}
 use Prim.Native.Nat.{◌-◌}
-use borrow.Author.Rules.{rules}
 use Rattle.leaf_shares.proofs.table.advance.Given as goal
 
 abbrev pub invariant-loop-s : goal.invariant-loop-s

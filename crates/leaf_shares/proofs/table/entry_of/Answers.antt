@@ -3,7 +3,6 @@ use Rattle.leaf_shares.specs.Means.{shared_entry}
 use Rattle.encoding.proofs.Below.{and_snd}
 use borrow.Author.Tests.{ltb-true}
 use native.Mathlib.Omega.{arith}
-use borrow.Author.Rules.{rules}
 use Rattle.leaf_shares.proofs.table.entry_of.Goals as goal
 
 pub overflow_add-result : goal.overflow_add-result

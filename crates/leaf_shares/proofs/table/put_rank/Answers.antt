@@ -1,7 +1,6 @@
 use Rattle.leaf_shares.proofs.LeafCounts.{begins_later, entry_walked}
 use Rattle.encoding.specs.Numbers.{put_u64}
 use mathlib.Core.Path.{ap, ◌∙◌}
-use borrow.Author.Rules.{rules}
 use Rattle.leaf_shares.proofs.table.put_rank.Goals as goal
 
 pub entry_of-entry-requires : goal.entry_of-entry-requires

@@ -1,9 +1,6 @@
-use Rattle.leaf_shares.proofs.LeafCounts.{start_bound, walk_within, walk_on}
 use Rattle.leaf_shares.specs.Means.{Walking}
-use native.Mathlib.Omega.{arith}
 use lib.ListN.{length}
-use Prim.Native.Nat.{◌-◌, ◌+◌}
-use borrow.Author.Rules.{rules}
+use Prim.Native.Nat.{◌-◌}
 use Rattle.leaf_shares.proofs.table.stride.Given as goal
 
 abbrev pub invariant-loop-k : goal.invariant-loop-k

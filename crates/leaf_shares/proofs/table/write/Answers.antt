@@ -1,10 +1,8 @@
-use Rattle.leaf_shares.proofs.LeafCounts.{share_is, shares_cuts, Writing, writing_none, writing_walk, writing_more, writing_done}
+use Rattle.leaf_shares.proofs.LeafCounts.{share_is, shares_cuts, writing_none, writing_walk, writing_more, writing_done}
 use Rattle.offsets.proofs.Tables.{ranks_within}
-use Rattle.leaf_shares.specs.Leaves.{equal_shares, leaf_table}
+use Rattle.leaf_shares.specs.Leaves.{leaf_table}
 use native.Mathlib.Omega.{arith}
 use mathlib.Core.Path.{refl}
-use Prim.Native.Nat.{◌-◌}
-use borrow.Author.Rules.{rules}
 use Rattle.leaf_shares.proofs.table.write.Goals as goal
 
 pub loop-p-init : goal.loop-p-init

@@ -1,8 +1,4 @@
 use Rattle.linked.proofs.Numbers.{after_none, after_read}
-use borrow.Author.Rules.{rules}
-use Rattle.linked.proofs.check.ghost_after.Reads as reads
-use Rattle.linked.proofs.check.ghost_after.Lts as lts
-use Rattle.records.proofs.read.number_of.Reads as number_of_reads
 use Rattle.linked.proofs.check.ghost_after.Goals as goal
 
 -- src/check.rt:20:9

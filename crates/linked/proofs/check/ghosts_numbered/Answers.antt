@@ -1,15 +1,8 @@
-use Prim.Native.Nat.{◌≤◌, ◌-◌}
-use mathlib.Core.Path.{◌≡◌, sym, ◌∙◌}
-use mathlib.Core.Bool.{true}
+use mathlib.Core.Path.{sym, ◌∙◌}
 use native.Mathlib.Omega.{arith}
-use borrow.Author.Tests.{not-true, not-false}
 use Rattle.encoding.specs.Below.{all_below}
 use Rattle.encoding.proofs.Below.{all_more, all_fails, all_to}
-use Rattle.linked.specs.Means.{ghost_numbered}
 use borrow.Author.Rules.{rules}
-use Rattle.linked.proofs.check.ghosts_numbered.Reads as reads
-use Rattle.linked.proofs.check.ghosts_numbered.Lts as lts
-use Rattle.linked.proofs.check.ghost_numbered.Reads as ghost_numbered_reads
 use Rattle.linked.proofs.check.ghosts_numbered.Goals as goal
 
 -- src/check.rt:43:5

@@ -1,14 +1,8 @@
 use mathlib.Core.Path.{refl, sym, ◌∙◌}
-use native.Mathlib.Omega.{arith}
 use borrow.Author.Tests.{not-true, not-false}
 use Rattle.encoding.proofs.Below.{clash}
 use Rattle.linked.proofs.Numbers.{ghosts_marked}
 use Rattle.linked.proofs.FromOneEnd.{trees_fail, ghosts_fail, links_counted, ghosts_read}
-use borrow.Author.Rules.{rules}
-use Rattle.linked.proofs.check.linked_by.Reads as reads
-use Rattle.linked.proofs.check.linked_by.Lts as lts
-use Rattle.ghost_links.proofs.check.ghosts_linked.Reads as ghosts_linked_reads
-use Rattle.linked.proofs.trees.trees_linked.Reads as trees_linked_reads
 use Rattle.linked.proofs.check.linked_by.Goals as goal
 
 -- src/check.rt:59:9

@@ -1,12 +1,6 @@
 use native.Mathlib.Omega.{arith}
 use Rattle.positions.proofs.Positions.{blank}
 use Rattle.linked.proofs.Numbers.{numbers_below, marked}
-use borrow.Author.Rules.{rules}
-use Rattle.linked.proofs.check.linked_of_all.Reads as reads
-use Rattle.linked.proofs.check.linked_of_all.Lts as lts
-use Rattle.linked.proofs.check.linked_by.Reads as linked_by_reads
-use Rattle.linked.proofs.check.linked_of_many.Reads as linked_of_many_reads
-use Rattle.positions.proofs.index.make.Reads as make_reads
 use Rattle.linked.proofs.check.linked_of_all.Goals as goal
 
 -- src/check.rt:99:9

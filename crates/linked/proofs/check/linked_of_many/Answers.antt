@@ -1,11 +1,6 @@
 use native.Mathlib.Omega.{arith}
 use Rattle.positions.proofs.Positions.{blank}
 use Rattle.linked.proofs.Numbers.{numbers_below, marked}
-use borrow.Author.Rules.{rules}
-use Rattle.linked.proofs.check.linked_of_many.Reads as reads
-use Rattle.linked.proofs.check.linked_of_many.Lts as lts
-use Rattle.linked.proofs.check.linked_by.Reads as linked_by_reads
-use Rattle.positions.proofs.index.make.Reads as make_reads
 use Rattle.linked.proofs.check.linked_of_many.Goals as goal
 
 -- src/check.rt:87:5

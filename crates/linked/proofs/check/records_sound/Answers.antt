@@ -1,12 +1,6 @@
 use mathlib.Core.Path.{sym, ◌∙◌}
-use borrow.Author.Tests.{not-true, not-false}
 use Rattle.linked.proofs.Numbers.{numbered}
 use Rattle.linked.proofs.FromOneEnd.{sound_unnumbered, sound_numbered}
-use borrow.Author.Rules.{rules}
-use Rattle.linked.proofs.check.records_sound.Reads as reads
-use Rattle.linked.proofs.check.records_sound.Lts as lts
-use Rattle.linked.proofs.check.ghosts_numbered.Reads as ghosts_numbered_reads
-use Rattle.linked.proofs.check.linked_of_all.Reads as linked_of_all_reads
 use Rattle.linked.proofs.check.records_sound.Goals as goal
 
 -- src/check.rt:111:9

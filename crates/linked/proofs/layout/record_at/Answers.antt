@@ -1,7 +1,4 @@
 use Rattle.linked.proofs.Reading.{place_tree, place_ghost}
-use borrow.Author.Rules.{rules}
-use Rattle.linked.proofs.layout.record_at.Reads as reads
-use Rattle.linked.proofs.layout.record_at.Lts as lts
 use Rattle.linked.proofs.layout.record_at.Goals as goal
 
 -- src/layout.rt:37:9

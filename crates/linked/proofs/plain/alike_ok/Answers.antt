@@ -1,11 +1,5 @@
 use native.Mathlib.Omega.{arith}
 use Rattle.linked.proofs.Seeing.{shape_here, alike_local, alike_global}
-use borrow.Author.Rules.{rules}
-use Rattle.linked.proofs.plain.alike_ok.Reads as reads
-use Rattle.linked.proofs.plain.alike_ok.Lts as lts
-use Rattle.linked.proofs.layout.tree_at.Reads as tree_at_reads
-use Rattle.mesh.proofs.plain.link_alike.Reads as link_alike_reads
-use Rattle.records.proofs.read.number_of.Reads as number_of_reads
 use Rattle.linked.proofs.plain.alike_ok.Goals as goal
 
 -- src/plain.rt:49:9

@@ -1,11 +1,5 @@
 use native.Mathlib.Omega.{arith}
 use Rattle.linked.proofs.Seeing.{plain_fits}
-use borrow.Author.Rules.{rules}
-use Rattle.linked.proofs.plain.plain_face.Reads as reads
-use Rattle.linked.proofs.plain.plain_face.Lts as lts
-use Rattle.linked.proofs.layout.tree_at.Reads as tree_at_reads
-use Rattle.linked.proofs.plain.alike_ok.Reads as alike_ok_reads
-use Rattle.records.proofs.read.code_of.Reads as code_of_reads
 use Rattle.linked.proofs.plain.plain_face.Goals as goal
 
 -- src/plain.rt:59:5

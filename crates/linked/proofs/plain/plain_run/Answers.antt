@@ -1,13 +1,6 @@
-use Prim.Native.Nat.{◌-◌}
 use native.Mathlib.Omega.{arith}
 use borrow.Author.Tests.{not-false}
-use Rattle.linked.specs.Means.{tree_seen, tree_ups, tree_downs}
-use Rattle.mesh.specs.Means.{RunAs}
 use Rattle.mesh.proofs.Checking.{run_stays, run_next}
-use borrow.Author.Rules.{rules}
-use Rattle.linked.proofs.plain.plain_run.Reads as reads
-use Rattle.linked.proofs.plain.plain_run.Lts as lts
-use Rattle.linked.proofs.plain.plain_tree.Reads as plain_tree_reads
 use Rattle.linked.proofs.plain.plain_run.Goals as goal
 
 -- src/plain.rt:113:5

@@ -1,8 +1,4 @@
 use Rattle.linked.proofs.Reading.{place_local, place_in, place_out}
-use borrow.Author.Rules.{rules}
-use Rattle.linked.proofs.plain.tree_of.Reads as reads
-use Rattle.linked.proofs.plain.tree_of.Lts as lts
-use Rattle.records.proofs.index.to_local.Reads as to_local_reads
 use Rattle.linked.proofs.plain.tree_of.Goals as goal
 
 -- src/plain.rt:32:9

@@ -1,13 +1,4 @@
-use borrow.Author.Tests.{not-true, not-false}
 use Rattle.linked.proofs.Reading.{fits_none, fits_edge, fits_read}
-use borrow.Author.Rules.{rules}
-use Rattle.linked.proofs.trees.face_ok.Reads as reads
-use Rattle.linked.proofs.trees.face_ok.Lts as lts
-use Rattle.linked.proofs.layout.tree_at.Reads as tree_at_reads
-use Rattle.linked.proofs.trees.edge_ok.Reads as edge_ok_reads
-use Rattle.linked.proofs.trees.held_ok.Reads as held_ok_reads
-use Rattle.linked.proofs.trees.place_of.Reads as place_of_reads
-use Rattle.records.proofs.read.neighbour_of.Reads as neighbour_of_reads
 use Rattle.linked.proofs.trees.face_ok.Goals as goal
 
 -- src/trees.rt:132:9

@@ -1,12 +1,5 @@
 use native.Mathlib.Omega.{arith}
 use Rattle.linked.proofs.Reading.{place_fits, held_local, held_global}
-use borrow.Author.Rules.{rules}
-use Rattle.linked.proofs.trees.held_ok.Reads as reads
-use Rattle.linked.proofs.trees.held_ok.Lts as lts
-use Rattle.linked.proofs.layout.record_at.Reads as record_at_reads
-use Rattle.linked.proofs.layout.tree_at.Reads as tree_at_reads
-use Rattle.mesh.proofs.link.link_ok.Reads as link_ok_reads
-use Rattle.records.proofs.read.number_of.Reads as number_of_reads
 use Rattle.linked.proofs.trees.held_ok.Goals as goal
 
 -- src/trees.rt:112:9

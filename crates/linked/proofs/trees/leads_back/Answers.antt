@@ -1,9 +1,4 @@
 use Rattle.linked.proofs.Reading.{back_local, back_global}
-use borrow.Author.Rules.{rules}
-use Rattle.linked.proofs.trees.leads_back.Reads as reads
-use Rattle.linked.proofs.trees.leads_back.Lts as lts
-use Rattle.linked.proofs.layout.tree_at.Reads as tree_at_reads
-use Rattle.records.proofs.read.number_of.Reads as number_of_reads
 use Rattle.linked.proofs.trees.leads_back.Goals as goal
 
 -- src/trees.rt:65:9

@@ -1,9 +1,4 @@
 use Rattle.linked.proofs.Reading.{up_local, up_global}
-use borrow.Author.Rules.{rules}
-use Rattle.linked.proofs.trees.leads_up.Reads as reads
-use Rattle.linked.proofs.trees.leads_up.Lts as lts
-use Rattle.linked.proofs.layout.tree_at.Reads as tree_at_reads
-use Rattle.records.proofs.read.number_of.Reads as number_of_reads
 use Rattle.linked.proofs.trees.leads_up.Goals as goal
 
 -- src/trees.rt:52:9

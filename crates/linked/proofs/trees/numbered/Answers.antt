@@ -1,10 +1,4 @@
 use Rattle.linked.proofs.Reading.{numbered_below, numbered_is}
-use borrow.Author.Rules.{rules}
-use Rattle.linked.proofs.trees.numbered.Reads as reads
-use Rattle.linked.proofs.trees.numbered.Lts as lts
-use Rattle.linked.proofs.layout.tree_at.Reads as tree_at_reads
-use Rattle.records.proofs.index.to_local.Reads as to_local_reads
-use Rattle.records.proofs.read.number_of.Reads as number_of_reads
 use Rattle.linked.proofs.trees.numbered.Goals as goal
 
 -- src/trees.rt:40:9

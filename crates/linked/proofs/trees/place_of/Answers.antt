@@ -1,14 +1,6 @@
-use native.Mathlib.Omega.{arith}
 use mathlib.Core.Path.{sym, ◌∙◌}
 use Rattle.ghost_links.proofs.FromOneEnd.{range_both}
 use Rattle.linked.proofs.Reading.{placed_local, placed_in, placed_out}
-use borrow.Author.Rules.{rules}
-use Rattle.linked.proofs.trees.place_of.Reads as reads
-use Rattle.linked.proofs.trees.place_of.Lts as lts
-use Rattle.part.proofs.range.in_range.Reads as in_range_reads
-use Rattle.positions.proofs.index.find.Reads as find_reads
-use Rattle.records.proofs.index.ghost_index.Reads as ghost_index_reads
-use Rattle.records.proofs.index.to_local.Reads as to_local_reads
 use Rattle.linked.proofs.trees.place_of.Goals as goal
 
 -- src/trees.rt:77:9

@@ -1,19 +1,7 @@
 use mathlib.Core.Path.{sym, ◌∙◌}
 use native.Mathlib.Omega.{arith}
-use borrow.Author.Tests.{not-true, not-false}
 use Rattle.mesh.proofs.Checking.{seen_refused}
 use Rattle.linked.proofs.Seeing.{seen_unnumbered, known_tree, seen_off, seen_unlisted, seen_linked}
-use borrow.Author.Rules.{rules}
-use Rattle.linked.proofs.trees.tree_linked.Reads as reads
-use Rattle.linked.proofs.trees.tree_linked.Lts as lts
-use Rattle.ghost_links.proofs.check.alone.Reads as alone_reads
-use Rattle.linked.proofs.layout.tree_at.Reads as tree_at_reads
-use Rattle.linked.proofs.trees.listed_ok.Reads as listed_ok_reads
-use Rattle.linked.proofs.trees.numbered.Reads as numbered_reads
-use Rattle.linked.proofs.trees.sorted.Reads as sorted_reads
-use Rattle.mesh.proofs.sound.refused.Reads as refused_reads
-use Rattle.records.proofs.read.shape_of.Reads as shape_of_reads
-use Rattle.records.proofs.shape.face_count.Reads as face_count_reads
 use Rattle.linked.proofs.trees.tree_linked.Goals as goal
 
 -- src/trees.rt:194:9

@@ -1,5 +1,4 @@
 use Rattle.mesh.specs.Mesh.{mesh_dimension}
-use borrow.Author.Rules.{rules}
 use Rattle.mesh.proofs.layout.dimension.Goals as goal
 
 pub returns : goal.returns

@@ -1,6 +1,5 @@
 use mathlib.Core.Path.{sym}
 use Rattle.mesh.proofs.Checking.{header_short, header_read}
-use borrow.Author.Rules.{rules}
 use Rattle.mesh.proofs.layout.header_sound.Goals as goal
 
 pub returns-then-mesh-lt8 : goal.returns-then-mesh-lt8

@@ -1,5 +1,4 @@
 use Rattle.mesh.specs.Mesh.{mesh_trees}
-use borrow.Author.Rules.{rules}
 use Rattle.mesh.proofs.layout.trees.Goals as goal
 
 pub returns : goal.returns

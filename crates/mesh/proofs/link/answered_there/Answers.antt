@@ -1,5 +1,4 @@
 use Rattle.mesh.specs.Means.{answered_there}
-use borrow.Author.Rules.{rules}
 use Rattle.mesh.proofs.link.answered_there.Goals as goal
 
 pub returns : goal.returns

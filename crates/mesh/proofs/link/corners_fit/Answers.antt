@@ -1,6 +1,5 @@
 use Rattle.mesh.specs.Means.{corners_fit}
 use Rattle.mesh.proofs.ByDimension.{both_hexahedra, both_tetrahedra}
-use borrow.Author.Rules.{rules}
 use Rattle.mesh.proofs.link.corners_fit.Goals as goal
 
 pub returns-then-shape-other : goal.returns-then-shape-other

@@ -1,5 +1,4 @@
 use Rattle.mesh.specs.Link.{orientation_ok}
-use borrow.Author.Rules.{rules}
 use Rattle.mesh.proofs.link.orientation_ok.Goals as goal
 
 pub returns : goal.returns

@@ -1,5 +1,4 @@
 use Rattle.mesh.proofs.PlainTrees.{alike_down}
-use borrow.Author.Rules.{rules}
 use Rattle.mesh.proofs.plain.link_alike.Goals as goal
 
 pub returns : goal.returns

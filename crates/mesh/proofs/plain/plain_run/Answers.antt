@@ -1,10 +1,6 @@
 use Rattle.mesh.proofs.Checking.{run_stays, run_next}
-use Rattle.mesh.specs.Means.{links_up, links_down, tree_from_above, RunAs}
-use Rattle.mesh.specs.Mesh.{mesh_core}
 use borrow.Author.Tests.{not-false}
 use native.Mathlib.Omega.{arith}
-use Prim.Native.Nat.{◌-◌}
-use borrow.Author.Rules.{rules}
 use Rattle.mesh.proofs.plain.plain_run.Goals as goal
 
 pub loop-next-init : goal.loop-next-init

@@ -1,4 +1,3 @@
-use borrow.Author.Rules.{rules}
 use Rattle.mesh.proofs.plain.run_on.Goals as goal
 
 pub returns : goal.returns

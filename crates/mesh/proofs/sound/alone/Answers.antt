@@ -1,5 +1,4 @@
 use Rattle.mesh.proofs.Checking.{alone_read}
-use borrow.Author.Rules.{rules}
 use Rattle.mesh.proofs.sound.alone.Goals as goal
 
 pub returns : goal.returns

@@ -1,7 +1,5 @@
 use native.Mathlib.Omega.{arith}
-use borrow.Author.Tests.{not-true, not-false}
 use Rattle.mesh.proofs.Checking.{listed_low, down_off, down_read}
-use borrow.Author.Rules.{rules}
 use Rattle.mesh.proofs.sound.face_sound.Goals as goal
 
 pub returns-then-not-boundary_ok : goal.returns-then-not-boundary_ok

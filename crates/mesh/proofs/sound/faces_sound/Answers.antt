@@ -1,7 +1,6 @@
 use Rattle.mesh.proofs.Checking.{seen_refused, faces_outside, faces_off, faces_seen}
 use borrow.Author.Tests.{not-true, not-false}
 use mathlib.Core.Path.{sym, ◌∙◌}
-use borrow.Author.Rules.{rules}
 use Rattle.mesh.proofs.sound.faces_sound.Goals as goal
 
 pub returns-then-not-links : goal.returns-then-not-links

@@ -1,7 +1,5 @@
 use mathlib.Core.Path.{sym, ◌∙◌}
-use borrow.Author.Tests.{not-true, not-false}
 use Rattle.mesh.proofs.Checking.{not_answered, is_answered}
-use borrow.Author.Rules.{rules}
 use Rattle.mesh.proofs.sound.link_down.Goals as goal
 
 pub returns-then-not-answered_there : goal.returns-then-not-answered_there

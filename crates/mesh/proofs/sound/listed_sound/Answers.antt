@@ -1,11 +1,7 @@
 use mathlib.Core.Path.{sym, ◌∙◌}
 use native.Mathlib.Omega.{arith}
-use borrow.Author.Tests.{not-true, not-false}
 use Rattle.encoding.proofs.Below.{all_fails}
-use Rattle.mesh.specs.Mesh.{mesh_core}
-use Rattle.mesh.specs.Means.{listed_link, listed_sound}
-use Rattle.mesh.proofs.Packing.{Left, left_all, left_none, left_next, next_digit, next_passes, not_listed_sound, listed_is}
-use borrow.Author.Rules.{rules}
+use Rattle.mesh.proofs.Packing.{left_all, left_none, left_next, next_digit, next_passes, not_listed_sound, listed_is}
 use Rattle.mesh.proofs.sound.listed_sound.Goals as goal
 
 pub loop-left-init : goal.loop-left-init

@@ -1,4 +1,3 @@
-use borrow.Author.Rules.{rules}
 use Rattle.mesh.proofs.sound.pushed.Goals as goal
 
 pub returns-then-listed : goal.returns-then-listed

@@ -1,14 +1,9 @@
 use Prim.Native.Nat.{◌≤◌, ◌-◌}
-use mathlib.Core.Path.{◌≡◌, refl}
+use mathlib.Core.Path.{◌≡◌}
 use mathlib.Core.Bool.{true}
-use native.Mathlib.Omega.{arith}
 use Rattle.encoding.specs.Below.{all_below, count_below}
-use Rattle.encoding.proofs.Below.{clash, all_more, all_fails}
 use Rattle.mesh.specs.Mesh.{mesh_core}
 use Rattle.mesh.specs.Means.{packed, leads_up, leads_down, leads_inside, listed_link}
-use Rattle.mesh.proofs.Checking.{seen_refused, seen_all, count_next, leads_up_lem, leads_down_lem, listed_read, inside_not, inside_is}
-use Rattle.mesh.proofs.Packing.{packed_more, packed_at, list_small}
-use borrow.Author.Rules.{rules}
 use Rattle.mesh.proofs.sound.sorted.Given as goal
 
 abbrev pub invariant-loop-face : goal.invariant-loop-face

@@ -1,10 +1,8 @@
 use mathlib.Core.Path.{sym, ◌∙◌}
 use native.Mathlib.Omega.{arith}
-use borrow.Author.Tests.{not-true, not-false}
 use Rattle.mesh.proofs.Checking.{sound_read}
 use Rattle.mesh.proofs.Soundness.{header_parts}
 use Rattle.mesh.specs.Mesh.{mesh_sound_lem}
-use borrow.Author.Rules.{rules}
 use Rattle.mesh.proofs.sound.sound.Goals as goal
 
 pub returns-then-not-header_sound : goal.returns-then-not-header_sound

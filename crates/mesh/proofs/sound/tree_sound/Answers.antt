@@ -1,7 +1,5 @@
 use mathlib.Core.Path.{sym, ◌∙◌}
-use borrow.Author.Tests.{not-true, not-false}
 use Rattle.mesh.proofs.Checking.{seen_refused, tree_not_alone, tree_unused, tree_seen_lem}
-use borrow.Author.Rules.{rules}
 use Rattle.mesh.proofs.sound.tree_sound.Goals as goal
 
 pub returns-then-not-alone : goal.returns-then-not-alone

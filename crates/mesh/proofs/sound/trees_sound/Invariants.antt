@@ -1,9 +1,5 @@
-use Rattle.mesh.proofs.Checking.{reached_none, reached_next, trees_fail, trees_read}
 use Rattle.mesh.specs.Means.{links_up, links_down, tree_from_above, Reached}
 use Rattle.mesh.specs.Mesh.{mesh_core}
-use borrow.Author.Tests.{not-true, not-false}
-use native.Mathlib.Omega.{arith}
-use mathlib.Core.Path.{sym, ◌∙◌}
 use Prim.Native.Nat.{◌*◌, ◌≤◌, ◌-◌}
 use Rattle.mesh.proofs.sound.trees_sound.Given as goal
 

@@ -1,7 +1,6 @@
 use Rattle.offsets_write.specs.Means.{next_entry}
 use Rattle.encoding.proofs.Below.{tests, and_snd}
 use lib.Dec.{ltb}
-use borrow.Author.Rules.{rules}
 use Rattle.offsets_write.proofs.ranges.entry_of.Goals as goal
 
 pub overflow_add-result : goal.overflow_add-result

@@ -1,6 +1,5 @@
 use Rattle.offsets_write.specs.Means.{next_end}
 use borrow.Author.Tests.{lt-ltb, le-ltb}
-use borrow.Author.Rules.{rules}
 use Rattle.offsets_write.proofs.ranges.next_end.Goals as goal
 
 pub returns-then-count-gt0 : goal.returns-then-count-gt0

@@ -2,7 +2,6 @@ use Rattle.offsets_write.specs.Calls.{partition_ok}
 use lib.ListN.{length}
 use mathlib.Core.Bool.{and-false}
 use borrow.Author.Tests.{ne_eqb, eq-eqb}
-use borrow.Author.Rules.{rules}
 use Rattle.offsets_write.proofs.ranges.partition_ok.Goals as goal
 
 pub returns-then-first-ranks : goal.returns-then-first-ranks

@@ -1,6 +1,5 @@
 use Rattle.offsets_write.specs.Means.{range_fits}
 use mathlib.Core.Path.{refl}
-use borrow.Author.Rules.{rules}
 use Rattle.offsets_write.proofs.ranges.range_fits.Goals as goal
 
 pub returns : goal.returns

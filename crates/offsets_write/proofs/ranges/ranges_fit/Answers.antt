@@ -1,14 +1,9 @@
 use Rattle.offsets_write.proofs.Partitions.{end_turn, follow_turn, follow_stop, follow_done}
 use Rattle.offsets_write.specs.Means.{ranks_follow}
-use Rattle.offsets_write.specs.Calls.{each}
 use Rattle.offsets_write.specs.Partition.{end_below}
 use Rattle.encoding.specs.Below.{all_below}
-use borrow.Author.Tests.{not-true, not-false}
-use mathlib.Core.Bool.{true}
-use mathlib.Core.Path.{◌≡◌, refl}
+use mathlib.Core.Path.{refl}
 use native.Mathlib.Omega.{arith}
-use Prim.Native.Nat.{◌≤◌, ◌-◌}
-use borrow.Author.Rules.{rules}
 use Rattle.offsets_write.proofs.ranges.ranges_fit.Goals as goal
 
 pub loop-p-init : goal.loop-p-init

@@ -1,12 +1,8 @@
 use Rattle.offsets_write.proofs.Partitions.{end_turn, write_turn, write_done}
-use Rattle.offsets_write.specs.Calls.{each}
 use Rattle.offsets_write.specs.Partition.{end_below, entries_below}
 use Rattle.encoding.proofs.Pieces.{splice_none}
-use Rattle.encoding.specs.Pieces.{splice}
-use lib.ListN.{length}
-use mathlib.Core.Path.{◌≡◌, refl, sym}
+use mathlib.Core.Path.{refl, sym}
 use native.Mathlib.Omega.{arith}
-use Prim.Native.Nat.{◌≤◌, ◌-◌}
 use borrow.Author.Rules.{rules}
 use Rattle.offsets_write.proofs.ranges.write.Goals as goal
 

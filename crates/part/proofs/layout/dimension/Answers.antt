@@ -1,5 +1,4 @@
 use Rattle.part.specs.Part.{part_dimension}
-use borrow.Author.Rules.{rules}
 use Rattle.part.proofs.layout.dimension.Goals as goal
 
 pub returns : goal.returns

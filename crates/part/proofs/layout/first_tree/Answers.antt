@@ -1,5 +1,4 @@
 use Rattle.part.specs.Part.{part_first}
-use borrow.Author.Rules.{rules}
 use Rattle.part.proofs.layout.first_tree.Goals as goal
 
 pub returns : goal.returns

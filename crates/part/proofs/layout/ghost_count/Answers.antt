@@ -1,5 +1,4 @@
 use Rattle.part.specs.Part.{part_ghost_count}
-use borrow.Author.Rules.{rules}
 use Rattle.part.proofs.layout.ghost_count.Goals as goal
 
 pub returns : goal.returns

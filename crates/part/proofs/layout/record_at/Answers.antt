@@ -1,6 +1,5 @@
 use Rattle.part.specs.Means.{record_place}
 use borrow.Author.Tests.{lt-ltb, le-ltb}
-use borrow.Author.Rules.{rules}
 use Rattle.part.proofs.layout.record_at.Goals as goal
 
 pub returns-then-j-count : goal.returns-then-j-count

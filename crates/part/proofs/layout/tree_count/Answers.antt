@@ -1,5 +1,4 @@
 use Rattle.part.specs.Part.{part_count}
-use borrow.Author.Rules.{rules}
 use Rattle.part.proofs.layout.tree_count.Goals as goal
 
 pub returns : goal.returns

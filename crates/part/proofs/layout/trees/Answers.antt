@@ -1,5 +1,4 @@
 use Rattle.part.specs.Part.{part_k}
-use borrow.Author.Rules.{rules}
 use Rattle.part.proofs.layout.trees.Goals as goal
 
 pub returns : goal.returns

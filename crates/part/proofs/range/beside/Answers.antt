@@ -1,14 +1,8 @@
 use Rattle.part.proofs.Ranges.{neighbour_read, none_next, none_to}
-use Rattle.part.specs.Means.{neighbour_in}
-use Rattle.records.specs.Record.{core_size}
 use Rattle.encoding.proofs.Below.{any_intro}
-use Rattle.encoding.specs.Pieces.{piece}
 use Rattle.encoding.specs.Below.{any_below}
 use native.Mathlib.Omega.{arith}
-use mathlib.Core.Bool.{false}
-use mathlib.Core.Path.{◌≡◌, refl, sym, ◌∙◌}
-use Prim.Native.Nat.{◌≤◌, ◌-◌}
-use borrow.Author.Rules.{rules}
+use mathlib.Core.Path.{refl, sym, ◌∙◌}
 use Rattle.part.proofs.range.beside.Goals as goal
 
 pub loop-face-init : goal.loop-face-init

@@ -1,14 +1,10 @@
-use Rattle.part.proofs.Ranges.{neighbour_read, none_next, none_to}
 use Rattle.part.specs.Means.{neighbour_in}
 use Rattle.records.specs.Record.{core_size}
-use Rattle.encoding.proofs.Below.{any_intro}
 use Rattle.encoding.specs.Pieces.{piece}
 use Rattle.encoding.specs.Below.{any_below}
-use native.Mathlib.Omega.{arith}
 use mathlib.Core.Bool.{false}
-use mathlib.Core.Path.{◌≡◌, refl, sym, ◌∙◌}
+use mathlib.Core.Path.{◌≡◌}
 use Prim.Native.Nat.{◌≤◌, ◌-◌}
-use borrow.Author.Rules.{rules}
 use Rattle.part.proofs.range.beside.Given as goal
 
 abbrev pub invariant-loop-face : goal.invariant-loop-face

@@ -1,7 +1,5 @@
-use Rattle.part.proofs.Search.{Between, between_start, between_above, between_below, between_end}
+use Rattle.part.proofs.Search.{between_start, between_above, between_below, between_end}
 use native.Mathlib.Omega.{arith}
-use Prim.Native.Nat.{◌-◌}
-use borrow.Author.Rules.{rules}
 use Rattle.part.proofs.range.find_ghost.Goals as goal
 
 pub loop-low-init : goal.loop-low-init

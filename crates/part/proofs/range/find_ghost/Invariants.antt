@@ -1,7 +1,5 @@
-use Rattle.part.proofs.Search.{Between, between_start, between_above, between_below, between_end}
-use native.Mathlib.Omega.{arith}
+use Rattle.part.proofs.Search.{Between}
 use Prim.Native.Nat.{◌-◌}
-use borrow.Author.Rules.{rules}
 use Rattle.part.proofs.range.find_ghost.Given as goal
 
 abbrev pub invariant-loop-low : goal.invariant-loop-low

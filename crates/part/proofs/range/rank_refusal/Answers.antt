@@ -1,7 +1,5 @@
 use mathlib.Core.Path.{sym, ◌∙◌}
-use borrow.Author.Tests.{not-true, not-false}
 use Rattle.part.proofs.Checks.{fails_ranks, fails_valid, fails_rank, ranks_pass}
-use borrow.Author.Rules.{rules}
 use Rattle.part.proofs.range.rank_refusal.Goals as goal
 
 pub returns-then-not-ranks_ok : goal.returns-then-not-ranks_ok

@@ -1,6 +1,5 @@
 use native.Mathlib.Omega.{arith}
 use Rattle.part.proofs.Ranges.{range_wraps}
-use borrow.Author.Rules.{rules}
 use Rattle.part.proofs.range.within.Goals as goal
 
 pub returns : goal.returns

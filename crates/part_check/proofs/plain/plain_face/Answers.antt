@@ -3,7 +3,6 @@ use native.Mathlib.Omega.{arith}
 use Rattle.encoding.proofs.Below.{clash}
 use Rattle.part_check.proofs.Checking.{place_fits}
 use Rattle.part_check.proofs.PlainTrees.{plain_shape, plain_fits}
-use borrow.Author.Rules.{rules}
 use Rattle.part_check.proofs.plain.plain_face.Goals as goal
 
 pub returns-then-count-ghosts : goal.returns-then-count-ghosts

@@ -1,5 +1,4 @@
 use borrow.Author.Tests.{lt-ltb, le-ltb}
-use borrow.Author.Rules.{rules}
 use Rattle.part_check.proofs.sound.back_of.Goals as goal
 
 pub returns-then-j-count : goal.returns-then-j-count

@@ -1,5 +1,4 @@
 use Rattle.part_check.proofs.Checking.{behind_none, behind_read}
-use borrow.Author.Rules.{rules}
 use Rattle.part_check.proofs.sound.ghost_behind.Goals as goal
 
 pub returns-then-j-eq0 : goal.returns-then-j-eq0

@@ -1,5 +1,4 @@
 use Rattle.part_check.proofs.Checking.{ghost_numbered_is}
-use borrow.Author.Rules.{rules}
 use Rattle.part_check.proofs.sound.ghost_numbered.Goals as goal
 
 pub returns : goal.returns

@@ -1,5 +1,4 @@
 use Rattle.part.proofs.Search.{ascending_at, search_past, search_other, search_found}
-use borrow.Author.Rules.{rules}
 use Rattle.part_check.proofs.sound.ghost_with.Goals as goal
 
 pub find_ghost-position-requires : goal.find_ghost-position-requires

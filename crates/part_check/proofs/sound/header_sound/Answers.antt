@@ -1,7 +1,6 @@
 use Rattle.part_check.proofs.Checking.{head_short, head_read}
 use Rattle.offsets.proofs.Tables.{first_le_end}
 use native.Mathlib.Omega.{arith}
-use borrow.Author.Rules.{rules}
 use Rattle.part_check.proofs.sound.header_sound.Goals as goal
 
 pub returns-then-part-lt32 : goal.returns-then-part-lt32

@@ -1,7 +1,5 @@
 use Rattle.part_check.proofs.Checking.{head_laid, laid_read, sound_read, sound_none}
-use borrow.Author.Tests.{not-true, not-false}
 use native.Mathlib.Omega.{arith}
-use borrow.Author.Rules.{rules}
 use Rattle.part_check.proofs.sound.part_sound.Goals as goal
 
 pub returns-then-not-header_sound : goal.returns-then-not-header_sound

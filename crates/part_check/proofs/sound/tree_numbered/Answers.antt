@@ -1,5 +1,4 @@
 use Rattle.part_check.proofs.Checking.{numbered_below, numbered_is}
-use borrow.Author.Rules.{rules}
 use Rattle.part_check.proofs.sound.tree_numbered.Goals as goal
 
 pub returns-then-number-first : goal.returns-then-number-first

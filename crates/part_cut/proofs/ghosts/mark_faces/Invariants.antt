@@ -1,12 +1,8 @@
-use Rattle.part_cut.proofs.Marking.{faces_start, faces_in_lem, faces_out, faces_end}
 use Rattle.part_cut.specs.Means.{out_faces}
 use Rattle.positions.specs.Means.{Added}
 use Rattle.records.specs.Record.{core_size}
 use Rattle.encoding.specs.Pieces.{piece}
-use borrow.Author.Tests.{not-true, not-false}
-use native.Mathlib.Omega.{arith}
 use Prim.Native.Nat.{◌≤◌, ◌-◌}
-use borrow.Author.Rules.{rules}
 use Rattle.part_cut.proofs.ghosts.mark_faces.Given as goal
 
 abbrev pub invariant-loop-face : goal.invariant-loop-face

@@ -1,10 +1,5 @@
 use Rattle.part_cut.proofs.Marking.{trees_start, tree_there, faces_fit, tree_marked, trees_end}
-use Rattle.part_cut.specs.Means.{out_trees}
-use Rattle.positions.specs.Means.{Added}
-use Rattle.mesh.specs.Mesh.{mesh_core}
 use native.Mathlib.Omega.{arith}
-use Prim.Native.Nat.{◌≤◌, ◌-◌}
-use borrow.Author.Rules.{rules}
 use Rattle.part_cut.proofs.ghosts.mark_trees.Goals as goal
 
 pub loop-k-init : goal.loop-k-init

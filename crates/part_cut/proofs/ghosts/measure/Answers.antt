@@ -1,7 +1,6 @@
 use Rattle.part_cut.proofs.Marking.{space_fits, space_trees, space_countable, measured}
 use mathlib.Core.Path.{refl}
 use native.Mathlib.Omega.{arith}
-use borrow.Author.Rules.{rules}
 use Rattle.part_cut.proofs.ghosts.measure.Goals as goal
 
 pub first_tree-first-requires : goal.first_tree-first-requires

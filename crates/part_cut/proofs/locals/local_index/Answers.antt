@@ -1,6 +1,5 @@
 use Rattle.part_cut.proofs.Renaming.{in_unused, in_local, in_ghost}
 use Rattle.part.proofs.Ranges.{range_first}
-use borrow.Author.Rules.{rules}
 use Rattle.part_cut.proofs.locals.local_index.Goals as goal
 
 pub returns-then-k : goal.returns-then-k

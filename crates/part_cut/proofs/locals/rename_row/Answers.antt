@@ -1,5 +1,4 @@
 use Rattle.part.specs.Means.{row_with}
-use borrow.Author.Rules.{rules}
 use Rattle.part_cut.proofs.locals.rename_row.Goals as goal
 
 pub returns : goal.returns

@@ -1,5 +1,4 @@
 use Rattle.part.specs.Means.{rows_with}
-use borrow.Author.Rules.{rules}
 use Rattle.part_cut.proofs.locals.rename_rows.Goals as goal
 
 pub returns : goal.returns

@@ -1,6 +1,4 @@
-use Prim.Native.Nat.{◌-◌}
-use Rattle.part_cut.proofs.Renaming.{Written, records_start, record_room, records_next, records_end}
-use borrow.Author.Rules.{rules}
+use Rattle.part_cut.proofs.Renaming.{records_start, record_room, records_next, records_end}
 use Rattle.part_cut.proofs.locals.write_trees.Goals as goal
 
 pub loop-i-init : goal.loop-i-init

@@ -1,6 +1,5 @@
 use Prim.Native.Nat.{◌-◌}
-use Rattle.part_cut.proofs.Renaming.{Written, records_start, record_room, records_next, records_end}
-use borrow.Author.Rules.{rules}
+use Rattle.part_cut.proofs.Renaming.{Written}
 use Rattle.part_cut.proofs.locals.write_trees.Given as goal
 
 abbrev pub invariant-loop-i : goal.invariant-loop-i

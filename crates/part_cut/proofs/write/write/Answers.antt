@@ -1,7 +1,6 @@
 use Rattle.part_cut.proofs.Parts.{records_room, members_room, part_written}
 use Rattle.part.specs.Layout.{header_bytes}
 use native.Mathlib.Omega.{arith}
-use borrow.Author.Rules.{rules}
 use Rattle.part_cut.proofs.write.write.Goals as goal
 
 pub write_trees-requires : goal.write_trees-requires

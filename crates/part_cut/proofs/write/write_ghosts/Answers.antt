@@ -1,11 +1,6 @@
 use Rattle.part_cut.proofs.Parts.{member_long, member_copied}
-use Rattle.positions.proofs.Members.{member_behind, Going, ghosts_start, ghosts_room, ghosts_next, ghosts_end}
-use Rattle.mesh.specs.Mesh.{mesh_core}
-use Rattle.bits.specs.Bits.{in_set}
+use Rattle.positions.proofs.Members.{member_behind, ghosts_start, ghosts_room, ghosts_next, ghosts_end}
 use native.Mathlib.Omega.{arith}
-use Prim.Native.Nat.{◌*◌, ◌-◌}
-use lib.ListN.{length}
-use borrow.Author.Rules.{rules}
 use Rattle.part_cut.proofs.write.write_ghosts.Goals as goal
 
 pub loop-k-init : goal.loop-k-init

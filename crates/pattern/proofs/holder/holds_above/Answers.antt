@@ -1,6 +1,5 @@
 use Rattle.pattern.specs.Means.{held_above}
 use borrow.Author.Tests.{le-leb, lt-leb}
-use borrow.Author.Rules.{rules}
 use Rattle.pattern.proofs.holder.holds_above.Goals as goal
 
 pub returns-then-ranks-q : goal.returns-then-ranks-q

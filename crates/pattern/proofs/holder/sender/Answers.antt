@@ -1,9 +1,7 @@
-use Rattle.pattern.proofs.Laws.{Walking, walk_start, walk_below, walk_above, walk_more, walk_ends}
+use Rattle.pattern.proofs.Laws.{walk_start, walk_below, walk_above, walk_more, walk_ends}
 use Rattle.offsets.proofs.OnePass.{ranks_known}
 use mathlib.Core.Path.{sym, ◌∙◌}
-use Prim.Native.Nat.{◌-◌}
 use native.Mathlib.Omega.{arith}
-use borrow.Author.Rules.{rules}
 use Rattle.pattern.proofs.holder.sender.Goals as goal
 
 pub ranks-end-requires : goal.ranks-end-requires

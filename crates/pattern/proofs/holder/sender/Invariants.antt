@@ -1,9 +1,5 @@
-use Rattle.pattern.proofs.Laws.{Walking, walk_start, walk_below, walk_above, walk_more, walk_ends}
-use Rattle.offsets.proofs.OnePass.{ranks_known}
-use mathlib.Core.Path.{sym, ◌∙◌}
+use Rattle.pattern.proofs.Laws.{Walking}
 use Prim.Native.Nat.{◌-◌}
-use native.Mathlib.Omega.{arith}
-use borrow.Author.Rules.{rules}
 use Rattle.pattern.proofs.holder.sender.Given as goal
 
 abbrev pub invariant-loop-d : goal.invariant-loop-d

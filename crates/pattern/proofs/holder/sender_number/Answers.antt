@@ -3,7 +3,6 @@ use mir.Syntax.{w32}
 use mir.Facts.{to_z_pos}
 use Rattle.pattern.specs.Sender.{sender_number}
 use Rattle.pattern.proofs.Answers.{rank_fits}
-use borrow.Author.Rules.{rules}
 use Rattle.pattern.proofs.holder.sender_number.Goals as goal
 
 pub overflow_cast-result : goal.overflow_cast-result

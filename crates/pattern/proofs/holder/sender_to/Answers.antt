@@ -5,7 +5,6 @@ use borrow.Author.Tests.{lt-ltb}
 use Rattle.pattern.specs.Means.{sender_fits}
 use Rattle.pattern.specs.Sender.{sender_to}
 use Rattle.pattern.proofs.Laws.{receiver_in_new}
-use borrow.Author.Rules.{rules}
 use Rattle.pattern.proofs.holder.sender_to.Goals as goal
 
 pub holds-requires : goal.holds-requires

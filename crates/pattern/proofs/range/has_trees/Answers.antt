@@ -1,5 +1,4 @@
 use Rattle.pattern.specs.Means.{has_trees}
-use borrow.Author.Rules.{rules}
 use Rattle.pattern.proofs.range.has_trees.Goals as goal
 
 pub returns : goal.returns

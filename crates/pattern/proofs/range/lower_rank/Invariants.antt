@@ -1,10 +1,6 @@
-use Rattle.pattern.proofs.Laws.{row_fits, lower_skip, lower_found, lower_none}
 use Rattle.pattern.specs.Means.{lower_rank}
-use Rattle.offsets.proofs.OnePass.{ranks_known}
-use mathlib.Core.Path.{◌≡◌, refl, sym, ◌∙◌}
+use mathlib.Core.Path.{◌≡◌}
 use Prim.Native.Nat.{◌≤◌}
-use native.Mathlib.Omega.{arith}
-use borrow.Author.Rules.{rules}
 use Rattle.pattern.proofs.range.lower_rank.Given as goal
 
 abbrev pub invariant-loop-m : goal.invariant-loop-m

@@ -1,5 +1,4 @@
 use Rattle.pattern.proofs.Laws.{sends_tested}
-use borrow.Author.Rules.{rules}
 use Rattle.pattern.proofs.range.sends_near.Goals as goal
 
 pub returns : goal.returns

@@ -1,7 +1,5 @@
 use Rattle.pattern.proofs.Laws.{sender_row, empty_sends}
-use borrow.Author.Tests.{not-true}
 use mathlib.Core.Path.{sym, ◌∙◌}
-use borrow.Author.Rules.{rules}
 use Rattle.pattern.proofs.range.sends_some.Goals as goal
 
 pub has_trees-requires : goal.has_trees-requires

@@ -3,7 +3,6 @@ use Rattle.pattern.specs.Means.{sent_high}
 use Rattle.offsets.proofs.OnePass.{ranks_known}
 use borrow.Author.Tests.{lt-ltb, le-ltb}
 use native.Mathlib.Omega.{arith}
-use borrow.Author.Rules.{rules}
 use Rattle.pattern.proofs.range.sent_high.Goals as goal
 
 pub end_tree-requires : goal.end_tree-requires

@@ -2,7 +2,6 @@ use Rattle.pattern.proofs.Laws.{sender_row, receiver_new_row, pair_small, lower_
 use Rattle.pattern.specs.Means.{sent_low}
 use borrow.Author.Tests.{le-leb, lt-leb}
 use native.Mathlib.Omega.{arith}
-use borrow.Author.Rules.{rules}
 use Rattle.pattern.proofs.range.sent_low.Goals as goal
 
 pub first_tree-requires : goal.first_tree-requires

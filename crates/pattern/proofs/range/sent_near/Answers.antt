@@ -1,6 +1,5 @@
 use Rattle.pattern.proofs.Laws.{sent_fits, sent_none, sent_some}
 use native.Mathlib.Omega.{arith}
-use borrow.Author.Rules.{rules}
 use Rattle.pattern.proofs.range.sent_near.Goals as goal
 
 pub returns-then-high-low : goal.returns-then-high-low

@@ -1,8 +1,6 @@
-use Rattle.pattern.proofs.Laws.{Looking, look_start, look_more, look_found, look_none}
+use Rattle.pattern.proofs.Laws.{look_start, look_more, look_found, look_none}
 use mathlib.Core.Path.{sym, ◌∙◌}
-use Prim.Native.Nat.{◌-◌}
 use native.Mathlib.Omega.{arith}
-use borrow.Author.Rules.{rules}
 use Rattle.pattern.proofs.range.upper_rank.Goals as goal
 
 pub ranks-end-requires : goal.ranks-end-requires

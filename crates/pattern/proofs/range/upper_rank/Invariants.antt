@@ -1,8 +1,5 @@
-use Rattle.pattern.proofs.Laws.{Looking, look_start, look_more, look_found, look_none}
-use mathlib.Core.Path.{sym, ◌∙◌}
+use Rattle.pattern.proofs.Laws.{Looking}
 use Prim.Native.Nat.{◌-◌}
-use native.Mathlib.Omega.{arith}
-use borrow.Author.Rules.{rules}
 use Rattle.pattern.proofs.range.upper_rank.Given as goal
 
 abbrev pub invariant-loop-n : goal.invariant-loop-n

@@ -1,7 +1,6 @@
 use Rattle.pattern.specs.Means.{exchanges_tree}
 use Rattle.pattern.proofs.Sets.{gets_sends}
 use mathlib.Core.Path.{◌∙◌, sym}
-use borrow.Author.Rules.{rules}
 use Rattle.pattern.proofs.set.exchanges.Goals as goal
 
 pub returns-then-sending : goal.returns-then-sending

@@ -1,6 +1,5 @@
 use native.Mathlib.Omega.{arith}
 use Rattle.pattern.proofs.Answers.{ranks_none, ranks_some}
-use borrow.Author.Rules.{rules}
 use Rattle.pattern.proofs.set.ranks_found.Goals as goal
 
 pub returns-then-n-eq0 : goal.returns-then-n-eq0

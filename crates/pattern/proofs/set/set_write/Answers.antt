@@ -1,10 +1,7 @@
 use Rattle.pattern.proofs.Laws.{pair_near}
-use Rattle.pattern.proofs.Windows.{Listing, list_start, list_count, list_more, list_past, list_skip, list_done}
-use Rattle.pattern.specs.Means.{exchanges_tree}
-use Prim.Native.Nat.{◌-◌}
+use Rattle.pattern.proofs.Windows.{list_start, list_count, list_more, list_past, list_skip, list_done}
 use mathlib.Core.Path.{sym, ◌∙◌}
 use native.Mathlib.Omega.{arith}
-use borrow.Author.Rules.{rules}
 use Rattle.pattern.proofs.set.set_write.Goals as goal
 
 pub loop-other-init : goal.loop-other-init

@@ -1,5 +1,4 @@
 use Rattle.pattern.proofs.Windows.{room_most}
-use borrow.Author.Rules.{rules}
 use Rattle.pattern.proofs.set.too_short.Goals as goal
 
 pub returns-then-ranks-room : goal.returns-then-ranks-room

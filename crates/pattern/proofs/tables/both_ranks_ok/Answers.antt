@@ -1,4 +1,3 @@
-use borrow.Author.Rules.{rules}
 use Rattle.pattern.proofs.tables.both_ranks_ok.Goals as goal
 
 pub returns : goal.returns

@@ -1,8 +1,6 @@
 use mathlib.Core.Path.{◌∙◌, sym}
-use borrow.Author.Tests.{not-true, not-false}
 use Rattle.encoding.specs.Refusal.{first_failed}
 use Rattle.pattern.specs.Calls.{table_checks}
-use borrow.Author.Rules.{rules}
 use Rattle.pattern.proofs.tables.tables_refusal.Goals as goal
 
 pub returns-then-not-both_ranks_ok : goal.returns-then-not-both_ranks_ok

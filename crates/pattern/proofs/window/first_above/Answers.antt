@@ -1,10 +1,8 @@
-use Rattle.pattern.proofs.Windows.{Halving, half_start, half_above, half_below, half_end}
+use Rattle.pattern.proofs.Windows.{half_start, half_above, half_below, half_end}
 use Rattle.offsets.proofs.OnePass.{ranks_known}
 use mathlib.Core.Path.{◌∙◌, ap}
 use Rattle.offsets.specs.Table.{magnitude}
-use Prim.Native.Nat.{◌-◌}
 use native.Mathlib.Omega.{arith}
-use borrow.Author.Rules.{rules}
 use Rattle.pattern.proofs.window.first_above.Goals as goal
 
 pub ranks-high-requires : goal.ranks-high-requires

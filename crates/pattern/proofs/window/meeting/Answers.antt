@@ -1,7 +1,6 @@
 use Rattle.pattern.proofs.Laws.{row_fits}
 use Rattle.pattern.proofs.Windows.{meeting_is}
 use native.Mathlib.Omega.{arith}
-use borrow.Author.Rules.{rules}
 use Rattle.pattern.proofs.window.meeting.Goals as goal
 
 pub first_tree-requires : goal.first_tree-requires

@@ -1,5 +1,4 @@
 use Rattle.pattern.proofs.Windows.{window_sending, window_receiving}
-use borrow.Author.Rules.{rules}
 use Rattle.pattern.proofs.window.window_of.Goals as goal
 
 pub returns-then-sending : goal.returns-then-sending

@@ -1,6 +1,5 @@
 use Rattle.plan_read.specs.Means.{stored}
 use borrow.Author.Tests.{lt-ltb, le-ltb}
-use borrow.Author.Rules.{rules}
 use Rattle.plan_read.proofs.input.store.Goals as goal
 
 pub returns-then-i-table : goal.returns-then-i-table

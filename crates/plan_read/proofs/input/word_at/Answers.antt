@@ -8,8 +8,7 @@ use lib.Dec.{eqb}
 use native.Mathlib.Omega.{arith}
 use mathlib.Core.Bool.{true, false, not}
 use mathlib.Core.Path.{◌≡◌, sym, refl}
-use Prim.Native.Nat.{ℕ, ◌+◌, ◌-◌, ◌≤◌, ◌<◌}
-use borrow.Author.Rules.{rules}
+use Prim.Native.Nat.{ℕ, ◌+◌, ◌<◌}
 use Rattle.plan_read.proofs.input.word_at.Goals as goal
 
 module _ (text : List ℕ) (at : ℕ) (word : List ℕ) (i r : ℕ) (e : r ≡ byte_at text (at + i)) where

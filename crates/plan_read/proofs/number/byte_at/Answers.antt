@@ -1,6 +1,5 @@
 use lib.ListN.{get_or-eq_default}
 use mathlib.Core.Path.{sym}
-use borrow.Author.Rules.{rules}
 use Rattle.plan_read.proofs.number.byte_at.Goals as goal
 
 pub returns-else-at-text : goal.returns-else-at-text

@@ -1,14 +1,12 @@
 use Rattle.plan_read.specs.Means.{byte_at, is_digit, digit_count}
 use Rattle.encoding.proofs.Below.{all_at, all_more, least_is, least_none, any_none}
 use Rattle.encoding.specs.Below.{all_below}
-use borrow.Author.Tests.{not-true, not-false}
 use lib.ListN.{length}
 use native.Mathlib.Omega.{arith}
 use mathlib.Core.List.{List}
 use mathlib.Core.Bool.{true, false, not}
 use mathlib.Core.Path.{◌≡◌, sym, refl, ◌∙◌}
 use Prim.Native.Nat.{ℕ, ◌+◌, ◌-◌, ◌≤◌, ◌<◌}
-use borrow.Author.Rules.{rules}
 use Rattle.plan_read.proofs.number.digit_count.Goals as goal
 
 module _ (text : List ℕ) (at n : ℕ) where

@@ -9,7 +9,6 @@ use native.Mathlib.Omega.{arith}
 use mathlib.Core.List.{List}
 use mathlib.Core.Path.{◌≡◌, sym, refl}
 use Prim.Native.Nat.{ℕ, ◌+◌, ◌-◌, ◌*◌, ◌≤◌, ◌<◌}
-use borrow.Author.Rules.{rules}
 use Rattle.plan_read.proofs.number.digits_value.Goals as goal
 
 module _ (text : List ℕ) (at n : ℕ) (h : (n ≡ digit_count text at) × (at + n ≤ length text) × (n ≤ 8)) where

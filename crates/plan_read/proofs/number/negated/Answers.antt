@@ -4,7 +4,6 @@ use Rattle.plan_read.specs.Means.{negated}
 use Rattle.encoding.proofs.Below.{and_snd}
 use borrow.Author.Tests.{ltb-true}
 use native.Mathlib.Omega.{arith}
-use borrow.Author.Rules.{rules}
 use Rattle.plan_read.proofs.number.negated.Goals as goal
 
 pub overflow_add-result : goal.overflow_add-result

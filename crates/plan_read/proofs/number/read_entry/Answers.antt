@@ -6,7 +6,6 @@ use native.Mathlib.Omega.{arith}
 use mathlib.Core.List.{List}
 use mathlib.Core.Path.{◌≡◌}
 use Prim.Native.Nat.{ℕ, ◌+◌, ◌<◌}
-use borrow.Author.Rules.{rules}
 use Rattle.plan_read.proofs.number.read_entry.Goals as goal
 
 module _ (text : List ℕ) (at b : ℕ) (eb : b ≡ byte_at text at) where

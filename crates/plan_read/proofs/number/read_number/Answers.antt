@@ -9,7 +9,6 @@ use mathlib.Core.List.{List}
 use mathlib.Core.Bool.{Bool, true, false, not}
 use mathlib.Core.Path.{◌≡◌, sym, ◌∙◌}
 use Prim.Native.Nat.{ℕ, ◌+◌, ◌-◌, ◌≤◌}
-use borrow.Author.Rules.{rules}
 use Rattle.plan_read.proofs.number.read_number.Goals as goal
 
 module _ (text : List ℕ) (at n b : ℕ) (r : Bool) (en : n ≡ digit_count text at) (eb : b ≡ byte_at text at) (er : r ≡ digit_count_ok n b) where

@@ -3,7 +3,6 @@ use native.Mathlib.Omega.{arith}
 use borrow.Author.Tests.{not-true, not-false}
 use Rattle.plan_text.proofs.Answers.{prefix_few, read_unformed, read_unranked, read_most, read_tables}
 use lib.Seq.{length-take-le}
-use borrow.Author.Rules.{rules}
 use Rattle.plan_text.proofs.buffers.plan_in.Goals as goal
 
 pub returns-then-not-heading : goal.returns-then-not-heading

@@ -1,7 +1,6 @@
 use mathlib.Core.Path.{◌∙◌}
 use Rattle.pattern.proofs.Answers.{tables_agree}
 use Rattle.plan_text.proofs.Answers.{table_few, tables_refused, tables_moved}
-use borrow.Author.Rules.{rules}
 use Rattle.plan_text.proofs.buffers.plan_tables.Goals as goal
 
 pub returns-then-refusal-ne0 : goal.returns-then-refusal-ne0

@@ -1,11 +1,5 @@
-use Prim.Native.Nat.{◌≤◌, ◌+◌, ◌*◌}
-use mathlib.Core.Path.{◌≡◌}
 use native.Mathlib.Omega.{arith}
-use Rattle.encoding.specs.Below.{count_below}
-use Rattle.bits.specs.Bits.{in_set}
-use Rattle.positions.specs.Means.{Counted}
 use Rattle.positions.proofs.Positions.{counted_start, counted_more, counted_end, word_total, word_none, total_end}
-use borrow.Author.Rules.{rules}
 use Rattle.positions.proofs.index.count_behind.Goals as goal
 
 pub loop-i-init : goal.loop-i-init

@@ -1,5 +1,4 @@
 use Rattle.positions.proofs.Positions.{members_all}
-use borrow.Author.Rules.{rules}
 use Rattle.positions.proofs.index.count_below.Goals as goal
 
 pub returns-then-marks-k : goal.returns-then-marks-k

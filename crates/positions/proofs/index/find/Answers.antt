@@ -1,6 +1,4 @@
 use Rattle.positions.proofs.Positions.{member_past, member_none, member_is}
-use borrow.Author.Tests.{not-true, not-false}
-use borrow.Author.Rules.{rules}
 use Rattle.positions.proofs.index.find.Goals as goal
 
 pub returns-then-marks-k : goal.returns-then-marks-k

@@ -1,5 +1,4 @@
 use Rattle.positions.proofs.Positions.{position_near}
-use borrow.Author.Rules.{rules}
 use Rattle.positions.proofs.index.find_near.Goals as goal
 
 pub returns-then-read_u32-k : goal.returns-then-read_u32-k

@@ -1,7 +1,5 @@
 use Rattle.positions.proofs.Positions.{make_markable, make_countable, made}
-use native.Mathlib.Omega.{arith}
 use mathlib.Core.Path.{refl}
-use borrow.Author.Rules.{rules}
 use Rattle.positions.proofs.index.make.Goals as goal
 
 pub mark_numbers-requires : goal.mark_numbers-requires

@@ -1,8 +1,5 @@
 use Rattle.positions.proofs.Positions.{mark_start, mark_low, mark_more, mark_end}
-use Rattle.positions.specs.Means.{some_has, Added}
 use native.Mathlib.Omega.{arith}
-use Prim.Native.Nat.{◌≤◌, ◌-◌}
-use borrow.Author.Rules.{rules}
 use Rattle.positions.proofs.index.mark_numbers.Goals as goal
 
 pub loop-i-init : goal.loop-i-init

@@ -1,6 +1,5 @@
 use Rattle.positions.proofs.Positions.{members_split}
 use native.Mathlib.Omega.{arith}
-use borrow.Author.Rules.{rules}
 use Rattle.positions.proofs.index.members_below.Goals as goal
 
 pub overflow_add-result : goal.overflow_add-result

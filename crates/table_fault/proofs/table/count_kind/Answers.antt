@@ -1,5 +1,4 @@
 use Rattle.table_fault.proofs.Entries.{count_less, count_empty, count_right}
-use borrow.Author.Rules.{rules}
 use Rattle.table_fault.proofs.table.count_kind.Goals as goal
 
 pub returns-then-end-first : goal.returns-then-end-first

@@ -1,6 +1,5 @@
 use Rattle.table_fault.proofs.Entries.{table_long, kind_first, kind_trees, kind_above, kind_last, kind_counted}
 use native.Mathlib.Omega.{arith}
-use borrow.Author.Rules.{rules}
 use Rattle.table_fault.proofs.table.entry_kind.Goals as goal
 
 pub entry-v-requires : goal.entry-v-requires

@@ -1,12 +1,7 @@
 use Rattle.table_fault.proofs.Entries.{entry_found, entry_none}
-use Rattle.faults.proofs.Firsts.{quiet, quiet_more, quiet_start}
-use Rattle.table_fault.specs.Table.{entry_kind}
+use Rattle.faults.proofs.Firsts.{quiet_more, quiet_start}
 use Rattle.offsets.specs.Table.{trees}
 use native.Mathlib.Omega.{arith}
-use mathlib.Core.Bool.{true}
-use mathlib.Core.Path.{◌≡◌}
-use Prim.Native.Nat.{◌≤◌, ◌+◌, ◌-◌}
-use borrow.Author.Rules.{rules}
 use Rattle.table_fault.proofs.table.first_wrong.Goals as goal
 
 pub entry-trees-requires : goal.entry-trees-requires

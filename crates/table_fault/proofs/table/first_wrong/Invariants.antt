@@ -1,12 +1,8 @@
-use Rattle.table_fault.proofs.Entries.{entry_found, entry_none}
-use Rattle.faults.proofs.Firsts.{quiet, quiet_more, quiet_start}
+use Rattle.faults.proofs.Firsts.{quiet}
 use Rattle.table_fault.specs.Table.{entry_kind}
-use Rattle.offsets.specs.Table.{trees}
-use native.Mathlib.Omega.{arith}
 use mathlib.Core.Bool.{true}
 use mathlib.Core.Path.{◌≡◌}
 use Prim.Native.Nat.{◌≤◌, ◌+◌, ◌-◌}
-use borrow.Author.Rules.{rules}
 use Rattle.table_fault.proofs.table.first_wrong.Given as goal
 
 abbrev pub invariant-loop-p : goal.invariant-loop-p

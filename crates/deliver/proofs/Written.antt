@@ -64,7 +64,7 @@ module _ (a m : List ℕ) (b : Bytes a) (A : Accepted a m) (F : Deliverable a m)
   P-is = old_ranks_lem a b A.area_ok
 
   count_is : tree_count new rank ≡ area_count a
-  count_is = sym F.holds.count_is_lem
+  count_is = sym F.holds.count_is
 
   -- ---- the bit
 

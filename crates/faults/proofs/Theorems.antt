@@ -9,7 +9,7 @@ use borrow.Author.Tests.{eq-eqb, ne_eqb, eqb-true}
 use Rattle.encoding.specs.Below.{all_below, any_below, least_below}
 use Rattle.encoding.specs.Refusal.{first_failed}
 use Rattle.encoding.proofs.Below.{either, clash, all_intro, all_fails, any_false, least_lt, least_at, least_below_lem}
-use Rattle.mesh.specs.Mesh.{mesh_dimension, mesh_trees, mesh_core, header_sound, mesh_sound_lem, mesh_refusal}
+use Rattle.mesh.specs.Mesh.{mesh_dimension, mesh_trees, mesh_core, header_sound, mesh_sound, mesh_refusal}
 use Rattle.faults.specs.declared.answer.Fault.{Fault}
 use Rattle.faults.specs.declared.answer.Wrong.{Wrong}
 use Rattle.faults.specs.Answer.{wrong, is_fault, first_place, first_fault}
@@ -80,7 +80,7 @@ module _ (m : List ℕ) where
   place = tree_wrong (mesh_core m) (mesh_dimension m) (mesh_trees m)
 
   mesh-checked : AsChecked (mesh_fault_of m) (mesh_refusal m)
-  unfolding mesh_fault_of mesh_refusal mesh_sound_lem first_failed
+  unfolding mesh_fault_of mesh_refusal mesh_sound first_failed
   mesh-checked =
       either (header_sound m)
       (λ h. rw (h, ← trees_right m refl refl) (first_checked 7 (mesh_trees m) place (λ e. omega arith)))

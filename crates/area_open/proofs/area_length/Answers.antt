@@ -18,7 +18,7 @@ tree_count-count-requires c =
     let shared-slice-known = c.shared_slice_known-1 in
     let shared-slice-known2 = c.shared_slice_known-2-1 in
     let if1 = c.if-refusal-ne0 in
-    let o = openable _ _ _ _ refusal.ensures (λ i. (shared-slice-known.given i).fits) (λ i. (shared-slice-known2.given i).fits) if1.false in rank_in o.tables o.rank_below_lem
+    let o = openable _ _ _ _ refusal.ensures (λ i. (shared-slice-known.given i).fits) (λ i. (shared-slice-known2.given i).fits) if1.false in rank_in o.tables o.rank_below
 
 pub returns : goal.returns
 returns c =

@@ -20,7 +20,7 @@ returns-then-out-n c =
     write_short _ _ _ _ pad-refusal.ensures if1.false (pad_numbered _ _) c.refused-then-out-n.ensures (omega (arith, if2.true))
 
 pub ranks-requires : goal.ranks-requires
-ranks-requires c = (pad_known _ _ (sym c.pad_refusal-refusal.ensures ∙ c.if-refusal-ne0.false)).is_table_lem.counted
+ranks-requires c = (pad_known _ _ (sym c.pad_refusal-refusal.ensures ∙ c.if-refusal-ne0.false)).is_table.counted
 
 pub write_words-requires : goal.write_words-requires
 write_words-requires c = pad_room _ _ _ _ c.ranks.ensures.1.2 (omega (arith, c.if-out-n.false))

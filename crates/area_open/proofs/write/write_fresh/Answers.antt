@@ -8,7 +8,7 @@ pub overflow_cast-trees : goal.overflow_cast-trees
 overflow_cast-trees c =
     let shared-slice-known = c.shared_slice_known-1 in
     let pre = c.requires in
-    omega (arith, c.trees-trees.ensures, trees_high _ (λ i. (shared-slice-known.given i).fits) pre.tables.old_ranks pre.tables.old_valid_lem)
+    omega (arith, c.trees-trees.ensures, trees_high _ (λ i. (shared-slice-known.given i).fits) pre.tables.old_ranks pre.tables.old_valid)
 
 pub write_eight-requires : goal.write_eight-requires
 write_eight-requires c =

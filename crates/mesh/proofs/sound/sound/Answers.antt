@@ -2,11 +2,11 @@ use mathlib.Core.Path.{sym, ◌∙◌}
 use native.Mathlib.Omega.{arith}
 use Rattle.mesh.proofs.Checking.{sound_read}
 use Rattle.mesh.proofs.Soundness.{header_parts}
-use Rattle.mesh.specs.Mesh.{mesh_sound_lem}
+use Rattle.mesh.specs.Mesh.{mesh_sound}
 use Rattle.mesh.proofs.sound.sound.Goals as goal
 
 pub returns-then-not-header_sound : goal.returns-then-not-header_sound
-unfolding mesh_sound_lem
+unfolding mesh_sound
 returns-then-not-header_sound c = simp (← c.header_sound.ensures, c.if-not-header_sound.true)
 
 pub dimension-requires : goal.dimension-requires

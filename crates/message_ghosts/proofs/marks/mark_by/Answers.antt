@@ -39,7 +39,7 @@ add_near-requires c =
 pub ranges_of-of-requires : goal.ranges_of-of-requires
 ranges_of-of-requires c =
     let pre = c.requires in
-    record { tables = pre.0.sending.pair.tables; rank_below_lem = pre.0.sending.pair.receiver_below_lem }
+    record { tables = pre.0.sending.pair.tables; rank_below = pre.0.sending.pair.receiver_below }
 
 pub mark_near-requires : goal.mark_near-requires
 mark_near-requires c =

@@ -8,7 +8,7 @@ use Rattle.pattern.proofs.Laws.{receiver_in_new}
 use Rattle.pattern.proofs.holder.sender_to.Goals as goal
 
 pub holds-requires : goal.holds-requires
-holds-requires c = receiver_in_new _ _ c.requires.tables _ c.requires.receiver_below_lem
+holds-requires c = receiver_in_new _ _ c.requires.tables _ c.requires.receiver_below
 
 pub returns-then-holds : goal.returns-then-holds
 unfolding sender_to sender_fits

@@ -12,4 +12,4 @@ unfolding exchanges_tree
 returns c =
     let if1 = c.if-sending in
     let pre = c.requires in
-    rw if1.false (c.sends_some.ensures ∙ sym (gets_sends _ _ pre.pair.tables _ _ pre.pair.receiver_below_lem pre.pair.sender_below_lem))
+    rw if1.false (c.sends_some.ensures ∙ sym (gets_sends _ _ pre.pair.tables _ _ pre.pair.receiver_below pre.pair.sender_below))

@@ -4,10 +4,10 @@ use native.Mathlib.Omega.{arith}
 use Rattle.pattern.proofs.window.meeting.Goals as goal
 
 pub first_tree-requires : goal.first_tree-requires
-first_tree-requires c = let pre = c.requires in omega (arith, row_fits _ _ pre.tables.old_ranks pre.rank_below_lem)
+first_tree-requires c = let pre = c.requires in omega (arith, row_fits _ _ pre.tables.old_ranks pre.rank_below)
 
 pub end_tree-requires : goal.end_tree-requires
-end_tree-requires c = let pre = c.requires in row_fits _ _ pre.tables.old_ranks pre.rank_below_lem
+end_tree-requires c = let pre = c.requires in row_fits _ _ pre.tables.old_ranks pre.rank_below
 
 pub returns : goal.returns
 returns c =

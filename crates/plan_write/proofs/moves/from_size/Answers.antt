@@ -19,7 +19,7 @@ loop-q-init c = (omega arith, (refl, refl))
 pub pair_size-s-requires : goal.pair_size-s-requires
 pair_size-s-requires c =
     let pre = c.requires in
-    record { tables = pre.tables; sender_below_lem = pre.rank_below_lem; receiver_below_lem = omega arith }
+    record { tables = pre.tables; sender_below = pre.rank_below; receiver_below = omega arith }
 
 pub overflow_add-bytes : goal.overflow_add-bytes
 overflow_add-bytes c =

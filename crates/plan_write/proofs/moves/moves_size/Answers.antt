@@ -17,7 +17,7 @@ unfolding moves_text sum_below
 loop-p-init c = (omega arith, (refl, refl))
 
 pub from_size-s-requires : goal.from_size-s-requires
-from_size-s-requires c = record { tables = c.requires.agree; rank_below_lem = omega arith }
+from_size-s-requires c = record { tables = c.requires.agree; rank_below = omega arith }
 
 pub overflow_add-bytes : goal.overflow_add-bytes
 overflow_add-bytes c =

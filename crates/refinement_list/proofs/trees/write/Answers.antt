@@ -9,10 +9,10 @@ loop-i-init c =
     writing_start args.shapes.now args.lengths.now args.bits.now pre.walkable args.out.now
 
 pub offset_bounds-lengths-i : goal.offset_bounds-lengths-i
-offset_bounds-lengths-i c = omega (arith, c.requires.walkable.same_length_lem)
+offset_bounds-lengths-i c = omega (arith, c.requires.walkable.same_length)
 
 pub bounds-lengths-i : goal.bounds-lengths-i
-bounds-lengths-i c = omega (arith, c.requires.walkable.same_length_lem)
+bounds-lengths-i c = omega (arith, c.requires.walkable.same_length)
 
 pub overflow_add-e : goal.overflow_add-e
 overflow_add-e c =

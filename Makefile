@@ -12,7 +12,8 @@ PYTHON = python3
 proved = target/staticlib/libvejgodat.a
 archive = target/lib/libvejgodat.a
 command = target/cli/vejgodat
-sources := crates.txt $(shell find crates -type f)
+# not out/, which rt writes
+sources := crates.txt $(shell find crates/*/src crates/*/specs crates/*/proofs -type f)
 number := $(shell sed -n 's/^\#define VEJGODAT_VERSION //p' include/vejgodat.h)
 major := $(shell echo $$(( $(number) / 10000 )))
 version := $(major).$(shell echo $$(( $(number) / 100 % 100 )).$$(( $(number) % 100 )))
@@ -28,8 +29,7 @@ all: $(archive) $(shared) $(command)
 
 # the libraries
 $(proved): $(sources)
-	@tools/prove staticlib vejgodat
-	@touch $@
+	@tools/prove vejgodat
 
 $(archive): $(proved) c/symbols.c include/vejgodat.h
 	@mkdir -p target/lib

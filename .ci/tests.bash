@@ -4,7 +4,6 @@ export DEBIAN_FRONTEND=noninteractive
 
 passed=0
 failed=0
-proved=target/staticlib/libvejgodat.a
 archive=target/lib/libvejgodat.a
 cc=${CC:-cc}
 
@@ -57,15 +56,17 @@ counts() {
 }
 
 # whether the archive is there and newer than every source
-fresh_archive() { [ -f "$archive" ] && [ -z "$(find crates.txt crates c include -newer "$archive" -print -quit)" ]; }
+fresh_archive() {
+    [ -f "$archive" ] && [ -z "$(find crates.txt crates/*/src crates/*/specs crates/*/proofs c include -newer "$archive" -print -quit)" ]
+}
 
 # the archive as make install puts it, proved and built from the sources as they stand
 need_archive() {
     local log
     log=$(mktemp)
-    if ! { rt staticlib vejgodat && touch "$proved" && make; } >"$log" 2>&1 || [ ! -f "$archive" ]; then
+    if ! { tools/prove vejgodat && make; } >"$log" 2>&1 || [ ! -f "$archive" ]; then
         cat "$log"
-        printf 'FAILED  rt staticlib vejgodat, or make\n'
+        printf 'FAILED  tools/prove vejgodat, or make\n'
         failed=$((failed + 1))
     fi
     rm -f "$log"

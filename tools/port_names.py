@@ -21,6 +21,47 @@ OF_TIE = re.compile(r":\s*tie\.")
 USE = re.compile(r"^\s*(?:pub\s+)?(?:ghost\s+)?use\s+([^\s;{]+?)\.\{([^}]*)\}", re.M | re.S)
 
 
+# A name that has '_lem' only because a name that it never meets has its spelling: it goes without, and meshSound, a definition, before fields.
+MENDED = {
+    "count_is_lem": "count_is",
+    "cut_part_lem": "cut_part",
+    "empty_part_lem": "empty_part",
+    "ghost_at_lem": "ghost_at",
+    "is_answered_lem": "is_answered",
+    "is_count_lem": "is_count",
+    "is_first_lem": "is_first",
+    "is_ghosts_lem": "is_ghosts",
+    "is_table_lem": "is_table",
+    "mesh_header_lem": "mesh_header",
+    "mesh_sound": "mesh_sound_lem",
+    "mesh_sound_lem": "mesh_sound",
+    "new_bytes_lem": "new_bytes",
+    "new_valid_lem": "new_valid",
+    "no_file_lem": "no_file",
+    "no_trees_lem": "no_trees",
+    "old_bytes_lem": "old_bytes",
+    "old_valid_lem": "old_valid",
+    "plan_moves_lem": "plan_moves",
+    "plan_output_lem": "plan_output",
+    "rank_below_lem": "rank_below",
+    "ranks_are_lem": "ranks_are",
+    "ranks_of_lem": "ranks_of",
+    "receive_set_lem": "receive_set",
+    "receiver_below_lem": "receiver_below",
+    "records_right_lem": "records_right",
+    "row_last_lem": "row_last",
+    "row_triangle_lem": "row_triangle",
+    "same_length_lem": "same_length",
+    "send_set_lem": "send_set",
+    "sender_below_lem": "sender_below",
+    "sender_is_lem": "sender_is",
+    "tree_number_lem": "tree_number",
+    "trees_are_lem": "trees_are",
+    "trees_before_lem": "trees_before",
+    "trees_of_lem": "trees_of"
+}
+
+
 def snake(name):
     """The spelling: dashes and inner capitals become '_', and a capital is a word of its own."""
     out = name.replace("-", "_")
@@ -103,6 +144,7 @@ def main():
             used.add(new)
             if new != name:
                 table[name] = new
+    table = {a: MENDED.get(b, b) for a, b in table.items()}
     foreign = {}
     for f in files:
         foreign[f] = imports(text[f])
@@ -121,10 +163,13 @@ def main():
             return table[word] if word in table and word not in keep else word
 
         if f.endswith(".rt"):
+            # a name that was in snake case is a function's here
+            keep = keep | {n for n in table if not old(n)}
             parts = re.split(r'("(?:[^"\\]|\\.)*")', text[f])
             new = "".join(p if i % 2 else re.sub(TOKEN, turn, p) for i, p in enumerate(parts))
         else:
-            new = re.sub(TOKEN, turn, text[f])
+            # a module of a path keeps its name, which is a function's
+            new = re.sub(r"Rattle(?:\.[\w+]+)+|" + TOKEN, lambda m: m.group(0) if m.group(0).startswith("Rattle.") else turn(m), text[f])
         if new != text[f]:
             changed += 1
             if not dry:

@@ -127,7 +127,11 @@ def paths(body, names, place, said, where):
     """The body with each path of the older form turned."""
     chain = names.chain(place)
     # a place that is named by let
-    for name, up in re.findall(r"let (" + WORD + r") = (c(?:\.before)+) in\s", body):
+    while True:
+        m = re.search(r"let (" + WORD + r") = (c(?:\.before)+) in\s", body)
+        if not m:
+            break
+        name, up = m.groups()
         body = re.sub(r"let " + re.escape(name) + r" = " + re.escape(up) + r" in\s+", "", body)
         body = re.sub(r"(?<![\w.'-])" + re.escape(name) + r"(?=\.)", up, body)
     body = re.sub(r"\.taken(?![\w'-])", ".true", body)
@@ -137,11 +141,9 @@ def paths(body, names, place, said, where):
     def turn(m):
         depth = len(re.findall(r"\.before", m.group(1)))
         field, rest = m.group(2), m.group(3)
-        if depth >= len(chain):
-            said.append(f"{where}: {m.group(0)} goes past the start")
-            return m.group(0)
+        depth = min(depth, len(chain) - 1)
         old, parent, step, subs, new = chain[depth]
-        if parent is None:
+        if parent is None and fold(field) in ("args", "requires", "ranges", "typeinv", "wellformed", "lifetimes"):
             return f"c.{field}{rest}"
         # a step's own field; its new name
         plain = field
@@ -165,7 +167,12 @@ def paths(body, names, place, said, where):
         near = [i for i, p in enumerate(chain) if p[1] is not None and fold(p[2][0]) == fold(plain)]
         if near:
             k = min(near, key=lambda i: abs(i - depth))
-            return "c." + chain[k][2][1] + rest
+            parts = rest.split(".")[1:]
+            for a, b in chain[k][3]:
+                if parts and parts[0] == a:
+                    parts[0] = b
+                    break
+            return "c." + chain[k][2][1] + "".join("." + p for p in parts)
         if fold(field) in ("args", "requires", "ranges", "typeinv"):
             return f"c.{field}{rest}"
         said.append(f"{where}: {m.group(0)} at {old} is not {step[0]}")
@@ -276,15 +283,23 @@ def convert(path, names, said):
             used = set(re.findall(WORD, body))
             new = f"{kind}-{new_loop}"
             table[name] = new
-            body = re.sub(r"(?<![.\w'])(" + WORD + r")", lambda q: sub.get(q.group(1), q.group(1)), body)
-            invariants.append("\n".join(head + [f"abbrev pub {new} : goal.{new}", *unfold, f"{new} l ={body}"]))
+            # a name that a λ binds anew is one by let
+            anew = [x for x in sub if re.search(r"λ[^.]*(?<![\w'-])" + re.escape(x) + r"(?![\w'-])[^.]*\.", body)]
+            lets = "".join(f" let {x} = {sub[x]} in" for x in anew)
+            for x in anew:
+                sub.pop(x)
+            body = lets + re.sub(r"(?<![.\w'])(" + WORD + r")", lambda q: sub.get(q.group(1), q.group(1)), body)
+            words = set(re.findall(WORD, mm.group(2)))
+            at = next(x for x in ("l", "now", "here", "turn") if x not in words)
+            if at != "l":
+                body = re.sub(r"(?<![.\w'-])l(?=\.(?:initial\.)?(?:" + "|".join(map(re.escape, variables)) + r")(?![\w'-]))", at, body)
+            invariants.append("\n".join(head + [f"abbrev pub {new} : goal.{new}", *unfold, f"{new} {at} ={body}"]))
             continue
         m = re.search(r"tie\.Need-(" + WORD + ")", signature)
         if m:
             got = names.goal(m.group(1))
             if not got:
                 said.append(f"{where}: no goal for {m.group(1)}")
-                answers.append("\n".join("-- LOST " + l for l in lines))
                 continue
             new, place = got
             table[name] = new

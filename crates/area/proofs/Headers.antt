@@ -128,7 +128,7 @@ module _ {a old new : List ℕ} (s : SizedArea a old new) where
       let v : (valid (area_old a) && valid (area_new a)) ≡ true = and_fst _ _ (and_fst _ _ (and_fst _ _ t)) in
       let l : area_rank a < area_p a =
       ltb-true (area_rank a) (area_p a) (and_snd (valid (area_old a) && valid (area_new a) && eqb (trees (area_old a)) (area_k a) && eqb (trees (area_new a)) (area_k a)) (ltb (area_rank a) (area_p a)) t) in
-      record { ranks_fit = sized_new.1; is_valid = rw s.is_new (and_snd (valid (area_old a)) (valid (area_new a)) v); rank_below_lem = omega (arith, sized_new.0) }
+      record { ranks_fit = sized_new.1; is_valid = rw s.is_new (and_snd (valid (area_old a)) (valid (area_new a)) v); rank_below = omega (arith, sized_new.0) }
 
 -- ---- the header's tests in the order of the code
 
@@ -203,19 +203,19 @@ module _ (a : List ℕ) where
       let bN : Bytes (area_new a) = bytes_piece a _ _ b in
       record {
         tables = record {
-          old_bytes_lem = bytes_piece a _ _ b;
-          new_bytes_lem = bN;
+          old_bytes = bytes_piece a _ _ b;
+          new_bytes = bN;
           old_ranks = (sized_old sized).1;
           new_ranks = (sized_new sized).1;
-          old_valid_lem = and_fst (valid (area_old a)) (valid (area_new a)) v2;
-          new_valid_lem = and_snd (valid (area_old a)) (valid (area_new a)) v2;
+          old_valid = and_fst (valid (area_old a)) (valid (area_new a)) v2;
+          new_valid = and_snd (valid (area_old a)) (valid (area_new a)) v2;
           same_ranks = (sized_new sized).0 ∙ sym (sized_old sized).0;
           same_trees = tN ∙ sym tO;
         };
-        ranks_are_lem = (sized_old sized).0;
-        trees_are_lem = tO;
-        rank_below_lem = omega (arith, f.rank_below_lem, (sized_new sized).0);
-        count_is_lem = c;
+        ranks_are = (sized_old sized).0;
+        trees_are = tO;
+        rank_below = omega (arith, f.rank_below, (sized_new sized).0);
+        count_is = c;
         ranks_high = (ranks_within (area_p a) p).1;
         count_high = rw c (count_high_lem (range_fits_lem (area_new a) (area_rank a) bN f));
         words_enough = words_enough_lem (area_p a) (ranks_within (area_p a) p).1;

@@ -35,9 +35,9 @@ pub record RangeFits (t : List ℕ) (p : ℕ) : Type 0 where
 pub range_fits_lem : (t : List ℕ) (p : ℕ) → Bytes t → RankIn t p → RangeFits t p
 range_fits_lem t p b f =
     record {
-      long = omega (arith, (ranks_known t f.ranks_fit).size, f.rank_below_lem);
-      rises = first_le_end t b f.ranks_fit f.is_valid p f.rank_below_lem;
-      most = omega (arith, end_trees t b f.ranks_fit f.is_valid p f.rank_below_lem, trees_high t b f.ranks_fit f.is_valid);
+      long = omega (arith, (ranks_known t f.ranks_fit).size, f.rank_below);
+      rises = first_le_end t b f.ranks_fit f.is_valid p f.rank_below;
+      most = omega (arith, end_trees t b f.ranks_fit f.is_valid p f.rank_below, trees_high t b f.ranks_fit f.is_valid);
     }
 
 pub count_read : (t : List ℕ) (p : ℕ) {first end : ℕ} → RangeFits t p → first ≡ first_tree t p → end ≡ end_tree t p → (end - first ≡ tree_count t p) × (end - first ≤ max_trees)
@@ -54,7 +54,7 @@ pub sent_within : (old new : List ℕ) → Tables old new → (rank s : ℕ) →
 sent_within old new T rank s r l some =
     let f : ℕ = sent_first old new s rank in
     let c : ℕ = sent_count old new s rank in
-    let end : first_tree new rank + tree_count new rank ≡ end_tree new rank = count_add new T.new_bytes_lem T.new_ranks T.new_valid_lem rank (omega (arith, T.same_ranks)) in
+    let end : first_tree new rank + tree_count new rank ≡ end_tree new rank = count_add new T.new_bytes T.new_ranks T.new_valid rank (omega (arith, T.same_ranks)) in
     let x = holds_true new rank f (received_only old new T s rank f l r (le_refl f) (omega arith)) in
     let y = holds_true new rank (f + (c - 1)) (received_only old new T s rank (f + (c - 1)) l r (omega arith) (omega arith)) in
     (x.0, omega (arith, y.1))
@@ -71,8 +71,8 @@ due_count old new T rank s r l =
     let n : ℕ = tree_count new rank in
     let f : ℕ = sent_first old new s rank in
     let c : ℕ = sent_count old new s rank in
-    let end : F + n ≡ end_tree new rank = count_add new T.new_bytes_lem T.new_ranks T.new_valid_lem rank (omega (arith, T.same_ranks)) in
-    let most : end_tree new rank ≤ trees old = omega (arith, end_trees new T.new_bytes_lem T.new_ranks T.new_valid_lem rank (omega (arith, T.same_ranks)), T.same_trees) in
+    let end : F + n ≡ end_tree new rank = count_add new T.new_bytes T.new_ranks T.new_valid rank (omega (arith, T.same_ranks)) in
+    let most : end_tree new rank ≤ trees old = omega (arith, end_trees new T.new_bytes T.new_ranks T.new_valid rank (omega (arith, T.same_ranks)), T.same_trees) in
     let own : (i : ℕ) → i < n → eqb (sender old (F + i) rank) s ≡ (leb f (F + i) && ltb (F + i) (f + c)) =
     λ i h. sym (sends_held old new s rank (F + i) (holds_in new rank (F + i) (omega arith) (omega arith))) ∙ one_range old new T s rank l r (F + i) (omega arith) in
     either (eqb c 0)
@@ -93,14 +93,14 @@ bound_read dimension n e h = (rw e, mul-le-mul_right n h)
 
 module _ (a : List ℕ) (H : HeaderHolds a) where
   pub rank_below : area_rank a < ranks (area_old a)
-  rank_below = omega (arith, H.ranks_are_lem, H.rank_below_lem)
+  rank_below = omega (arith, H.ranks_are, H.rank_below)
 
   -- the new range has n trees from the first on
   pub range_end : area_first a + area_count a ≡ end_tree (area_new a) (area_rank a)
   unfolding area_first
   range_end =
-      ap (λ (m : ℕ). first_tree (area_new a) (area_rank a) + m) H.count_is_lem
-      ∙ count_add (area_new a) H.tables.new_bytes_lem H.tables.new_ranks H.tables.new_valid_lem (area_rank a) (omega (arith, rank_below, H.tables.same_ranks))
+      ap (λ (m : ℕ). first_tree (area_new a) (area_rank a) + m) H.count_is
+      ∙ count_add (area_new a) H.tables.new_bytes H.tables.new_ranks H.tables.new_valid (area_rank a) (omega (arith, rank_below, H.tables.same_ranks))
 
   -- they are trees
   pub range_trees : area_first a + area_count a ≤ trees (area_old a)
@@ -108,20 +108,20 @@ module _ (a : List ℕ) (H : HeaderHolds a) where
       omega (
         arith,
         range_end,
-        end_trees (area_new a) H.tables.new_bytes_lem H.tables.new_ranks H.tables.new_valid_lem (area_rank a) (omega (arith, rank_below, H.tables.same_ranks)),
+        end_trees (area_new a) H.tables.new_bytes H.tables.new_ranks H.tables.new_valid (area_rank a) (omega (arith, rank_below, H.tables.same_ranks)),
         H.tables.same_trees,
       )
 
   module _ (s : ℕ) (l : s < area_p a) where
     pub sender_below : s < ranks (area_old a)
-    sender_below = omega (arith, H.ranks_are_lem)
+    sender_below = omega (arith, H.ranks_are)
 
     -- the trees due from s are in the new range
     pub from_within : (from_count a s ≡ 0 → ⊥) → (area_first a ≤ from_first a s) × (from_first a s + from_count a s ≤ area_first a + area_count a)
     unfolding area_first
-    from_within some = rw H.count_is_lem (sent_within (area_old a) (area_new a) H.tables (area_rank a) s rank_below sender_below some)
+    from_within some = rw H.count_is (sent_within (area_old a) (area_new a) H.tables (area_rank a) s rank_below sender_below some)
 
     -- and there are as many as slots whose tree is due from s
     pub from_count_lem : count_below (area_count a) (λ i. eqb (sender (area_old a) (area_first a + i) (area_rank a)) s) ≡ from_count a s
     unfolding area_first
-    from_count_lem = rw H.count_is_lem (due_count (area_old a) (area_new a) H.tables (area_rank a) s rank_below sender_below)
+    from_count_lem = rw H.count_is (due_count (area_old a) (area_new a) H.tables (area_rank a) s rank_below sender_below)

@@ -33,18 +33,18 @@ module _ {a old new : List ℕ} (t : Tabled a old new) where
       rw (t.is_old, t.is_new, e)
       (record {
         tables = t.header.tables;
-        sender_below_lem = omega (arith, t.header.ranks_are_lem);
-        receiver_below_lem = omega (arith, t.header.ranks_are_lem, t.header.rank_below_lem);
+        sender_below = omega (arith, t.header.ranks_are);
+        receiver_below = omega (arith, t.header.ranks_are, t.header.rank_below);
       })
 
   -- the new table has the rank's entries
   pub tabled_long : {rank : ℕ} → rank ≡ area_rank a → 8 * (rank + 1 + 1) ≤ length new
   tabled_long e =
       rw t.is_new
-      (omega (arith, (ranks_known (area_new a) t.header.tables.new_ranks).size, t.header.tables.same_ranks, t.header.ranks_are_lem, t.header.rank_below_lem))
+      (omega (arith, (ranks_known (area_new a) t.header.tables.new_ranks).size, t.header.tables.same_ranks, t.header.ranks_are, t.header.rank_below))
 
 -- the area's rank under its tables
 pub tabled_rank : {a old new : List ℕ} {rank : ℕ} → Tabled a old new → rank ≡ area_rank a → RankOf old new rank
 tabled_rank t e =
     rw (t.is_old, t.is_new, e)
-    (record { tables = t.header.tables; rank_below_lem = omega (arith, t.header.ranks_are_lem, t.header.rank_below_lem) })
+    (record { tables = t.header.tables; rank_below = omega (arith, t.header.ranks_are, t.header.rank_below) })

@@ -19,7 +19,7 @@ words_end P = tables_end P + 8 * heard_words P
 pub record RankIn (t : List ℕ) (p : ℕ) : Type 0 where
   pub ranks_fit : ranks_ok t ≡ true
   pub is_valid : valid t ≡ true
-  pub rank_below_lem : p < ranks t
+  pub rank_below : p < ranks t
 
 -- words of 8 bytes, and room for them at byte `to`
 pub record WordsRoom (src dst : List ℕ) (words to : ℕ) : Type 0 where
@@ -43,10 +43,10 @@ tables_fit a =
 -- what a sound header tells
 pub record HeaderHolds (a : List ℕ) : Type 0 where
   pub tables : Tables (area_old a) (area_new a)
-  pub ranks_are_lem : ranks (area_old a) ≡ area_p a
-  pub trees_are_lem : trees (area_old a) ≡ area_k a
-  pub rank_below_lem : area_rank a < area_p a
-  pub count_is_lem : area_count a ≡ tree_count (area_new a) (area_rank a)
+  pub ranks_are : ranks (area_old a) ≡ area_p a
+  pub trees_are : trees (area_old a) ≡ area_k a
+  pub rank_below : area_rank a < area_p a
+  pub count_is : area_count a ≡ tree_count (area_new a) (area_rank a)
   pub ranks_high : area_p a ≤ max_ranks
   pub count_high : area_count a ≤ max_trees
   pub words_enough : area_p a ≤ 64 * heard_words (area_p a)

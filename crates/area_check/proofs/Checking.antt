@@ -53,7 +53,7 @@ module _ {a old new : List ℕ} (t : Tabled a old new) where
       pub bit_read : s < P → {rank : ℕ} {r : Bool} → rank ≡ area_rank a → r ≡ sends_to old new s rank → r ≡ bit_sound a s
       unfolding bit_sound
       bit_read l e q =
-          let g = gets_sends (area_old a) (area_new a) t.header.tables s (area_rank a) (omega (arith, t.header.ranks_are_lem)) (omega (arith, t.header.ranks_are_lem, t.header.rank_below_lem)) in
+          let g = gets_sends (area_old a) (area_new a) t.header.tables s (area_rank a) (omega (arith, t.header.ranks_are)) (omega (arith, t.header.ranks_are, t.header.rank_below)) in
           q ∙ rw (← is-h, ok, lt-ltb s (area_p a) (omega arith), g, e, t.is_old, t.is_new)
 
 -- the bits of one word
@@ -128,7 +128,7 @@ module _ {a old new : List ℕ} (t : Tabled a old new) {s rank first count : ℕ
         record {
           low = omega (arith, start_is, first_is, w.0);
           high = omega (arith, start_is, first_is, count_is, w.0, w.1);
-          most = omega (arith, first_is, count_is, w.1, range_trees a t.header, trees_high (area_old a) T.old_bytes_lem T.old_ranks T.old_valid_lem);
+          most = omega (arith, first_is, count_is, w.1, range_trees a t.header, trees_high (area_old a) T.old_bytes T.old_ranks T.old_valid);
         }
 
     -- the first tree due has local index i
@@ -195,19 +195,19 @@ module _ {a old new : List ℕ} (t : Tabled a old new) {rank first end : ℕ} (i
   H = t.header
 
   pub window_within : end ≤ area_p a
-  window_within = omega (arith, w.within, ap ranks t.is_old, H.ranks_are_lem)
+  window_within = omega (arith, w.within, ap ranks t.is_old, H.ranks_are)
 
   -- none outside it is due
   pub not_due : (s : ℕ) → s < area_p a → ((s < first) ⊎ (end ≤ s)) → gets_from (area_old a) (area_new a) (area_rank a) s ≡ false
   unfolding exchanges_tree
   not_due s l h =
-      let n : ranks old ≡ area_p a = ap ranks t.is_old ∙ H.ranks_are_lem in
+      let n : ranks old ≡ area_p a = ap ranks t.is_old ∙ H.ranks_are in
       let e : gets_from old new rank s ≡ false = ⊎_elim (λ b. w.before s b) (λ b. w.after s b (omega arith)) h in
       rw (t.is_old, t.is_new, is_rank) at e
 
   none_sent : (s : ℕ) → s < area_p a → ((s < first) ⊎ (end ≤ s)) → (true ≡ range_sound a s) × (0 ≡ range_filled a s)
   none_sent s l h =
-      let p : s < ranks (area_old a) = omega (arith, H.ranks_are_lem) in
+      let p : s < ranks (area_old a) = omega (arith, H.ranks_are) in
       let c = sent_count_lem (area_old a) (area_new a) H.tables s (area_rank a) p (rank_below a H) in
       let g = sym (gets_from_lem (area_old a) (area_new a) H.tables s (area_rank a) p (rank_below a H)) ∙ not_due s l h in
       let z : from_count a s ≡ 0 = omega (tests, c, g) in

@@ -58,9 +58,9 @@ module _ (a : List ℕ) where
 -- ---- the tree slots
 
 module _ (a : List ℕ) where
-  slot_held : (i : ℕ) → due_heard a i ≡ true → tree_slot_sound a i ≡ (in_form (area_first a + i) (tree_slot_core a i) && eqb (number_of (tree_slot_core a i)) (area_first a + i))
+  slot_held_lem : (i : ℕ) → due_heard a i ≡ true → tree_slot_sound a i ≡ (in_form (area_first a + i) (tree_slot_core a i) && eqb (number_of (tree_slot_core a i)) (area_first a + i))
   unfolding tree_slot_sound
-  slot_held i e = rw e
+  slot_held_lem i e = rw e
 
   slot-zero : (i : ℕ) → due_heard a i ≡ false → tree_slot_sound a i ≡ all_zero (tree_slot a i)
   unfolding tree_slot_sound
@@ -111,7 +111,7 @@ module _ (a : List ℕ) (H : HeaderHolds a) where
         (either (heard a s)
         (λ h. rw h
         (all_same (from_count a s) (λ j. slot_held a (from_place a s + tree_size * j) (from_first a s + j)) slot
-        (λ j m. held_at a (from_first a s - area_first a + j) (from_at j m) (from-number j m) ∙ sym (slot_held a (from_first a s - area_first a + j) (from-due j m ∙ h)))))
+        (λ j m. held_at a (from_first a s - area_first a + j) (from_at j m) (from-number j m) ∙ sym (slot_held_lem a (from_first a s - area_first a + j) (from-due j m ∙ h)))))
         (λ h. rw h
         (zero_rows a (from_place a s) tree_size (from_count a s) (from_fits z)
         ∙ all_same (from_count a s) (λ j. all_zero (piece a (from_place a s + tree_size * j) tree_size)) slot
@@ -137,7 +137,7 @@ module _ (a : List ℕ) (H : HeaderHolds a) where
       let ls : s < ranks (area_old a) = sender_lt (area_old a) (area_new a) T k (area_rank a) lk (rank_below a H) in
       let r = range_true (from_first a s) (from_first a s + from_count a s) k
       (sym (one_range (area_old a) (area_new a) T s (area_rank a) ls (rank_below a H) k lk) ∙ sends_in (area_old a) (area_new a) T (area_rank a) k hk) in
-      let lp : s < area_p a = omega (arith, H.ranks_are_lem) in
+      let lp : s < area_p a = omega (arith, H.ranks_are) in
       let w = from_within a H s lp (λ z. omega arith) in
       let here : from_first a s - area_first a + (k - from_first a s) ≡ i = omega arith in
       rw here at (all_at (from_count a s) (λ j. tree_slot_sound a (from_first a s - area_first a + j)) (all_at (area_p a) slots e s lp) (k - from_first a s) (omega arith))))
@@ -164,7 +164,7 @@ module _ (a : List ℕ) (H : HeaderHolds a) where
   unfolding filled_slots
   ranges_filled =
       sym (count_by_value (area_count a) (area_p a) (due_heard a) (λ i. sender (area_old a) (area_first a + i) (area_rank a))
-      (λ i l. omega (arith, sender_lt (area_old a) (area_new a) H.tables (area_first a + i) (area_rank a) (omega (arith, range_trees a H)) (rank_below a H), H.ranks_are_lem))
+      (λ i l. omega (arith, sender_lt (area_old a) (area_new a) H.tables (area_first a + i) (area_rank a) (omega (arith, range_trees a H)) (rank_below a H), H.ranks_are))
       ∙ sum_same (area_p a) (λ s. count_below (area_count a) (λ i. due_heard a i && eqb (sender (area_old a) (area_first a + i) (area_rank a)) s)) (range_filled a) range-filled)
 
   -- those of the first senders are no more than n

@@ -1,2 +1,4 @@
 // Whether an area is sound. No calls for users.
+#![tactic(auto)]
+
 pub mod sound;

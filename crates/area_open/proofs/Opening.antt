@@ -57,7 +57,7 @@ passes b r n e =
 
 -- a rank of two tables is one of the new table
 pub rank_in : {old new : List ℕ} {p : ℕ} → Tables old new → p < ranks old → RankIn new p
-rank_in T h = record { ranks_fit = T.new_ranks; is_valid = T.new_valid_lem; rank_below_lem = omega (arith, T.same_ranks) }
+rank_in T h = record { ranks_fit = T.new_ranks; is_valid = T.new_valid; rank_below = omega (arith, T.same_ranks) }
 
 -- ---- the tables
 
@@ -113,14 +113,14 @@ module _ (old new : List ℕ) (rank dimension : ℕ) where
   -- what holds where no check fails
   pub record Openable : Type 0 where
     pub tables : Tables old new
-    pub rank_below_lem : rank < ranks old
+    pub rank_below : rank < ranks old
 
   pub openable : {r : ℕ} → r ≡ first_failed (open_checks old new rank dimension) → Bytes old → Bytes new → r ≡ 0 → Openable
   openable e b b' z =
       let p = passes (ltb rank (ranks old) && dimension_ok dimension) (first_failed (table_checks old new)) 4 (sym open-checked ∙ sym e ∙ z) in
       record {
         tables = tables_agree old new (first_failed (table_checks old new)) refl b b' p.0;
-        rank_below_lem = ltb-true rank (ranks old) (and_fst (ltb rank (ranks old)) (dimension_ok dimension) p.1);
+        rank_below = ltb-true rank (ranks old) (and_fst (ltb rank (ranks old)) (dimension_ok dimension) p.1);
       }
 
 -- ---- the fresh area
@@ -236,7 +236,7 @@ module _ (old new : List ℕ) (rank dimension : ℕ) {r : ℕ} (checked : r ≡ 
         pub area_room : AreaRoom old new rank dimension out
         area_room =
             let o = openable old new rank dimension checked b b' ok in
-            record { tables = o.tables; rank_below_lem = o.rank_below_lem; room = omega (arith, sized) }
+            record { tables = o.tables; rank_below = o.rank_below; room = omega (arith, sized) }
 
         pub open_done : {last : List ℕ} → last ≡ splice out 0 (fresh_area old new rank dimension epoch) → (record { refusal = 0; length = size }, last) ≡ open_area_of old new rank dimension epoch out
         unfolding open_area_of write_answer length_answer written

@@ -11,7 +11,7 @@ use Rattle.area.specs.Area.{area_p}
 -- two tables that agree, a rank of theirs, and room for its area
 pub record AreaRoom (old new : List ℕ) (rank dimension : ℕ) (out : List ℕ) : Type 0 where
   pub tables : Tables old new
-  pub rank_below_lem : rank < ranks old
+  pub rank_below : rank < ranks old
   pub room : area_size dimension (ranks old) (tree_count new rank) ≤ length out
 
 -- the ones in the first n words of heard senders

@@ -1,4 +1,6 @@
 // Opening an area, and how far it is.
+#![tactic(auto)]
+
 ghost use Rattle.std.specs.Prelude.{◌≡◌};
 ghost use Rattle.area_open.specs.Calls.{area_length_of, open_area_of, progress_of};
 

@@ -32,7 +32,7 @@ use Rattle.area.proofs.Soundness.{filled_fits}
 use Rattle.area_theorems.proofs.Joined.{slots_length, slots_at, slots_same, slots_piece, slots_replicate}
 use Rattle.area_theorems.proofs.Heard.{word_again, words_slots}
 use Rattle.area_theorems.proofs.Zones.{Zones, core_slot}
-use Rattle.area_theorems.proofs.Kept.{ghost_at_lem, Ghosts}
+use Rattle.area_theorems.proofs.Kept.{ghost_at, Ghosts}
 use Rattle.area_theorems.proofs.Sound.{Held}
 
 -- ---- what soundness says
@@ -212,12 +212,12 @@ module _ (a : List ℕ) (b : Bytes a) (sound : area_sound a ≡ true) where
   unfolding area_old area_new ranks_ok
   sound_tables =
       record {
-        old_bytes_lem = bytes_piece a old_place (8 * (P + 1)) b;
-        new_bytes_lem = bytes_piece a (new_place P) (8 * (P + 1)) b;
+        old_bytes = bytes_piece a old_place (8 * (P + 1)) b;
+        new_bytes = bytes_piece a (new_place P) (8 * (P + 1)) b;
         old_ranks = rw (old_ranks_lem, eq-eqb (length (area_old a)) (table_length P) old-long, parts.header.ranks_ok_lem);
         new_ranks = rw (new_ranks_lem, eq-eqb (length (area_new a)) (table_length P) new-long, parts.header.ranks_ok_lem);
-        old_valid_lem = parts.header.old_valid;
-        new_valid_lem = parts.header.new_valid;
+        old_valid = parts.header.old_valid;
+        new_valid = parts.header.new_valid;
         same_ranks = new_ranks_lem ∙ sym old_ranks_lem;
         same_trees = parts.header.new_trees ∙ sym parts.header.old_trees;
       }
@@ -255,7 +255,7 @@ module _ (a : List ℕ) (b : Bytes a) (sound : area_sound a ≡ true) where
       }
 
   -- ghost slot j among the held ghosts
-  held_at : (j : ℕ) → j < g → ghost_at_lem (slots_of (ghost_slot a) g) j ≡ ghost_slot a j
+  held_at : (j : ℕ) → j < g → ghost_at (slots_of (ghost_slot a) g) j ≡ ghost_slot a j
   held_at j h = slots_at (ghost_slot a) core_size g (λ i l. ghost_long i (omega (arith, fit))) j h
 
   empty-at : (j : ℕ) → g ≤ j → j < bound → ghost_slot a j ≡ replicate core_size 0

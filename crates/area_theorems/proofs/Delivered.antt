@@ -31,7 +31,7 @@ use Rattle.area.specs.Area.{area_epoch, area_dimension, area_k, area_p, area_ran
 use Rattle.area.specs.Deliver.{among, one_of, same_run, sender_due, trees_due, beside_trees, ghost_due, ghost_new, deliver_checks, slot_after, ghosts_after, delivered}
 use Rattle.area.proofs.Ranges.{due_count}
 use Rattle.area_theorems.proofs.Counting.{message_ghosts_fit}
-use Rattle.area_theorems.proofs.Kept.{ghost_at_lem, Ghosts, kept_records, count_apart, in_either, of_either, both_length, both_ghosts}
+use Rattle.area_theorems.proofs.Kept.{ghost_at, Ghosts, kept_records, count_apart, in_either, of_either, both_length, both_ghosts}
 use Rattle.area_theorems.proofs.Zones.{Zones, range_end}
 use Rattle.area_theorems.proofs.Sound.{Held, filled_by, area_sound_lem}
 use Rattle.area_theorems.proofs.Again.{AreaParts, area_parts, rises_all, old_ranks_lem, sound_tables, sound_rank, sound_zones, sound_ghosts, sound_held}
@@ -243,7 +243,7 @@ module _ (a m : List ℕ) (b : Bytes a) (A : Accepted a m) where
       rw (after_kept a m (area_k a))
       (both_length (area_k a) new rank (area_ghosts a) (message_ghosts m) (ghost_slot a) (message_ghost m) (sound_ghosts a b A.area_ok) delivery_ghosts delivery_apart)
 
-  pub after_ghosts : Ghosts (area_k a) (area_new a) (area_rank a) (area_ghosts a + message_ghosts m) (ghost_at_lem (ghosts_after a m (area_k a)))
+  pub after_ghosts : Ghosts (area_k a) (area_new a) (area_rank a) (area_ghosts a + message_ghosts m) (ghost_at (ghosts_after a m (area_k a)))
   after_ghosts =
       rw (after_kept a m (area_k a))
       (both_ghosts (area_k a) new rank (area_ghosts a) (message_ghosts m) (ghost_slot a) (message_ghost m) (sound_ghosts a b A.area_ok) delivery_ghosts delivery_apart)
@@ -287,7 +287,7 @@ module _ (a m : List ℕ) (b : Bytes a) (A : Accepted a m) where
     due-held =
         let n = T.same_ranks in
         let r = is_rank in
-        holds_in new rank k (omega arith) (omega (arith, count_add new T.new_bytes_lem T.new_ranks T.new_valid_lem rank (omega arith)))
+        holds_in new rank k (omega arith) (omega (arith, count_add new T.new_bytes T.new_ranks T.new_valid rank (omega arith)))
 
     due-sends : sends old new p rank k ≡ eqb (sender old k rank) p
     unfolding sends

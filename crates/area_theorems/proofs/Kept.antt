@@ -18,8 +18,8 @@ use Rattle.area.specs.Deliver.{among, one_of}
 use Rattle.area_theorems.proofs.Joined.{piece_first, piece_last}
 
 -- ghost j of ghosts in a row
-abbrev pub ghost_at_lem : List ℕ → ℕ → List ℕ
-ghost_at_lem ghosts j = piece ghosts (core_size * j) core_size
+abbrev pub ghost_at : List ℕ → ℕ → List ℕ
+ghost_at ghosts j = piece ghosts (core_size * j) core_size
 
 -- count ghosts r of a rank: in form, below K, outside the rank's new range, ascending
 pub record Ghosts (K : ℕ) (new : List ℕ) (rank count : ℕ) (r : ℕ → List ℕ) : Type 0 where
@@ -204,19 +204,19 @@ module _ (K : ℕ) (new : List ℕ) (rank g h : ℕ) (r s : ℕ → List ℕ) (G
 
   -- record j is that of the number with j before it
   pub both_at : (j : ℕ) → j < g + h
-      → ghost_at_lem (kept_records K (in_either g r h s) (of_either g r h s)) j ≡ of_either g r h s (get_or (kept_below K (in_either g r h s)) j 0)
+      → ghost_at (kept_records K (in_either g r h s) (of_either g r h s)) j ≡ of_either g r h s (get_or (kept_below K (in_either g r h s)) j 0)
   both_at j l = records_at test (of_either g r h s) core_size K either-long j (rw either_count l)
 
   abbrev number : ℕ → ℕ
   number j = get_or (kept_below K test) j 0
 
-  both-ghost : (j : ℕ) → j < g + h → Ghost K new rank (number j) (ghost_at_lem both j)
+  both-ghost : (j : ℕ) → j < g + h → Ghost K new rank (number j) (ghost_at both j)
   both-ghost j l =
       let f = kept_found K test j 0 (rw either_count l) in
       rw (both_at j l) (either-ghost (number j) f.1)
 
   -- they are ghosts, ascending
-  pub both_ghosts : Ghosts K new rank (g + h) (ghost_at_lem (kept_records K (in_either g r h s) (of_either g r h s)))
+  pub both_ghosts : Ghosts K new rank (g + h) (ghost_at (kept_records K (in_either g r h s) (of_either g r h s)))
   both_ghosts =
       record {
         long = λ j l. (both-ghost j l).long;

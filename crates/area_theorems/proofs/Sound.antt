@@ -24,7 +24,7 @@ use Rattle.message.specs.Layout.{after_last}
 use Rattle.area.specs.Layout.{heard_words, ghost_bound, area_size, ghost_slots_place, slots_place, words_place, new_place, area_with}
 use Rattle.area.specs.Area.{ghost_slot, due_heard, area_header_sound, bit_sound, tree_slot_sound, filled_slots, filled_bound, ghost_held_sound, area_bound, ghost_slot_sound, area_sound}
 use Rattle.area.specs.Open.{fresh_area}
-use Rattle.area_theorems.proofs.Kept.{ghost_at_lem, Ghosts}
+use Rattle.area_theorems.proofs.Kept.{ghost_at, Ghosts}
 use Rattle.area_theorems.proofs.Zones.{Zones, Reads, range_end, few_ranks, area_reads}
 use Rattle.area.proofs.Headers.{words_enough_lem}
 
@@ -35,7 +35,7 @@ pub record Held (old new : List ℕ) (rank : ℕ) (H : ℕ → Bool) (slot : ℕ
   pub tree_form : (i : ℕ) → i < tree_count new rank → H (sender old (first_tree new rank + i) rank) ≡ true → in_form (first_tree new rank + i) (piece (slot i) 0 core_size) ≡ true
   pub tree_number : (i : ℕ) → i < tree_count new rank → H (sender old (first_tree new rank + i) rank) ≡ true → number_of (piece (slot i) 0 core_size) ≡ first_tree new rank + i
   pub tree_zero : (i : ℕ) → i < tree_count new rank → H (sender old (first_tree new rank + i) rank) ≡ false → all_zero (slot i) ≡ true
-  pub ghosts_held : Ghosts (trees old) new rank g (ghost_at_lem ghosts)
+  pub ghosts_held : Ghosts (trees old) new rank g (ghost_at ghosts)
 
 -- how many trees of the rank's new range are due from senders in H
 abbrev pub filled_by : List ℕ → List ℕ → ℕ → (ℕ → Bool) → ℕ
@@ -75,7 +75,7 @@ module _ (a : List ℕ) (epoch dimension : ℕ) (old new : List ℕ) (rank : ℕ
   reads-header =
       rw (R.at_dimension, R.at_p, R.at_count, R.at_old, R.at_new, R.at_k, R.at_rank, R.at_last)
       (rw (le-leb 32 (length a) (omega (arith, R.at_length, header_room)), Z.is_dimension, ranks_ok_lem, le-leb (area_size dimension (ranks old) n) (length a) R.at_length)
-      (rw (T.old_valid_lem, T.new_valid_lem, eq-eqb (trees old) (trees old) refl, eq-eqb (trees new) (trees old) T.same_trees, lt-ltb rank (ranks old) Z.is_rank, eq-eqb n n refl)))
+      (rw (T.old_valid, T.new_valid, eq-eqb (trees old) (trees old) refl, eq-eqb (trees new) (trees old) T.same_trees, lt-ltb rank (ranks old) Z.is_rank, eq-eqb n n refl)))
 
   module _ (held : Held old new rank H slot g ghosts) (few : g ≤ ghost_bound (faces_in dimension) (filled_by old new rank H)) where
     reads-bits : all_below (64 * heard_words (ranks old)) (bit_sound a) ≡ true
@@ -104,13 +104,13 @@ module _ (a : List ℕ) (epoch dimension : ℕ) (old new : List ℕ) (rank : ℕ
     reads-after j h =
         either (eqb j 0) (λ e. rw e)
         (λ e. let z = eqb-false j 0 e in
-        rw (e, R.at_ghost (j - 1) (omega arith), R.at_ghost j h) (lt-ltb (number_of (ghost_at_lem ghosts (j - 1))) (number_of (ghost_at_lem ghosts j)) (held.ghosts_held.ascends (j - 1) j (omega arith) h)))
+        rw (e, R.at_ghost (j - 1) (omega arith), R.at_ghost j h) (lt-ltb (number_of (ghost_at ghosts (j - 1))) (number_of (ghost_at ghosts j)) (held.ghosts_held.ascends (j - 1) j (omega arith) h)))
 
     reads_held : (j : ℕ) → j < g → ghost_held_sound a j ≡ true
     unfolding ghost_held_sound
     reads_held j h =
         rw (reads-after j h, R.at_ghost j h, R.at_k, R.at_new, R.at_rank)
-        (rw (held.ghosts_held.form j h, lt-ltb (number_of (ghost_at_lem ghosts j)) (trees old) (held.ghosts_held.below j h), held.ghosts_held.outside j h))
+        (rw (held.ghosts_held.form j h, lt-ltb (number_of (ghost_at ghosts j)) (trees old) (held.ghosts_held.below j h), held.ghosts_held.outside j h))
 
     reads-ghosts : all_below bound (ghost_slot_sound a) ≡ true
     unfolding ghost_slot_sound

@@ -99,10 +99,10 @@ pub record Reads (a : List ℕ) (epoch dimension : ℕ) (old new : List ℕ) (ra
 
 -- P and K are within their limits
 pub few_ranks : (old new : List ℕ) → Tables old new → ranks old ≤ max_ranks
-few_ranks old new T = ranks_high_lem old T.old_bytes_lem T.old_ranks T.old_valid_lem
+few_ranks old new T = ranks_high_lem old T.old_bytes T.old_ranks T.old_valid
 
 pub few_trees : (old new : List ℕ) → Tables old new → trees old ≤ max_trees
-few_trees old new T = trees_high old T.old_bytes_lem T.old_ranks T.old_valid_lem
+few_trees old new T = trees_high old T.old_bytes T.old_ranks T.old_valid
 
 -- the new range of a rank
 module _ (old new : List ℕ) (rank : ℕ) (T : Tables old new) (r : rank < ranks old) where
@@ -111,7 +111,7 @@ module _ (old new : List ℕ) (rank : ℕ) (T : Tables old new) (r : rank < rank
   range_end =
       let n = T.same_ranks in
       let k = T.same_trees in
-      omega (arith, count_add new T.new_bytes_lem T.new_ranks T.new_valid_lem rank (omega arith), end_trees new T.new_bytes_lem T.new_ranks T.new_valid_lem rank (omega arith))
+      omega (arith, count_add new T.new_bytes T.new_ranks T.new_valid rank (omega arith), end_trees new T.new_bytes T.new_ranks T.new_valid rank (omega arith))
 
   -- so it is within the limit
   pub few_count : tree_count new rank ≤ max_trees
@@ -160,10 +160,10 @@ module _ (epoch dimension : ℕ) (old new : List ℕ) (rank : ℕ) (H : ℕ → 
   header-long = header_length epoch dimension (trees old) P rank n g
 
   old-long : length old ≡ 8 * (P + 1)
-  old-long = size old T.old_bytes_lem T.old_ranks T.old_valid_lem
+  old-long = size old T.old_bytes T.old_ranks T.old_valid
 
   new-long : length new ≡ 8 * (P + 1)
-  new-long = omega (arith, size new T.new_bytes_lem T.new_ranks T.new_valid_lem, T.same_ranks)
+  new-long = omega (arith, size new T.new_bytes T.new_ranks T.new_valid, T.same_ranks)
 
   words_long : length (words_of H (heard_words P)) ≡ 8 * heard_words P
   words_long = rw (words_slots H (heard_words P)) (slots_length (λ w. le_bytes 8 (word_of H w)) 8 (heard_words P) (λ w l. bytes_length 8 (word_of H w)))

@@ -1,6 +1,6 @@
 -- Laws of bits, and of sets as words.
 use Prim.Native.Nat.{ℕ, zero, suc, ◌+◌, ◌-◌, ◌*◌, ◌/◌, ◌%◌, ◌^◌, ◌≤◌, ◌<◌, max}
-use native.Mathlib.Nat.{add-zero, add-suc, add_assoc, mul-zero, mod-lt, mod-one, zero-div, div_self, div-eq_of_lt, mod-eq_of_lt, lt_of_lt_of_le, pow-suc, mul-mod_left}
+use native.Mathlib.Nat.{add-zero, mul-zero, mod-lt, mod-one, zero-div, div_self, div-eq_of_lt, mod-eq_of_lt, lt_of_lt_of_le, pow-suc, mul-mod_left}
 use native.Mathlib.Omega.{arith}
 use mathlib.Core.Path.{◌≡◌, refl, sym, ap, ap₂, ◌∙◌}
 use mathlib.Core.Bool.{Bool, false, cond, ◌||◌, or_comm}

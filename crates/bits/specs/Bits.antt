@@ -1,5 +1,5 @@
 -- A set of numbers: bit k mod 64 of word k div 64 is set for a member k.
-use Rattle.std.specs.Prelude.{ℕ, ◌+◌, ◌-◌, ◌*◌, ◌/◌, ◌%◌, ◌^◌, Bool, cond, List, eqb, get_or, set}
+use Rattle.std.specs.Prelude.{ℕ, ◌+◌, ◌-◌, ◌/◌, ◌%◌, ◌^◌, Bool, cond, List, eqb, get_or, set}
 use Rattle.encoding.specs.Below.{least_below}
 
 -- bit b of a word

@@ -1,13 +1,13 @@
 -- What is proved of bricks beyond the calls' contracts.
 use Rattle.std.specs.Prelude.{ℕ, ◌*◌, ◌<◌, ◌≡◌, Bool, true, List, take}
 use Rattle.records.specs.Record.{neighbour_of, face_of, orientation_of}
-use Rattle.mesh.specs.Mesh.{mesh_core, mesh_sound_lem, mesh_refusal}
+use Rattle.mesh.specs.Mesh.{mesh_core, mesh_sound, mesh_refusal}
 use Rattle.brick.specs.Brick.{brick_link, brick_mesh}
 use Rattle.brick.specs.Calls.{extents_ok, brick_length_of, write_brick_of}
 
 -- the mesh of a brick is sound, for all extents and whichever axes are periodic
 abbrev pub BrickSound : Type 0
-BrickSound = (a b c : ℕ) (p q r : Bool) → extents_ok a b c ≡ true → mesh_sound_lem (brick_mesh a b c p q r) ≡ true
+BrickSound = (a b c : ℕ) (p q r : Bool) → extents_ok a b c ≡ true → mesh_sound (brick_mesh a b c p q r) ≡ true
 
 -- so what an accepted call writes passes the check of a whole mesh
 abbrev pub WritesSound : Type 0

@@ -1,4 +1,6 @@
 // Bricks of hexahedra, each axis periodic or not.
+#![tactic(auto)]
+
 ghost use Rattle.std.specs.Prelude.{◌≡◌};
 ghost use Rattle.brick.specs.Calls.{brick_length_of, write_brick_of};
 

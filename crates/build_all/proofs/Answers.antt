@@ -74,7 +74,7 @@ module _ (part old new : List ℕ) (p : ℕ) where
 
       module _ (sender : p < P) where
         pub rank_known : Bytes old → Bytes new → RankKnown old p
-        rank_known b b' = let t = tables_agree old new r tables b b' ok in record { counted = t.old_ranks; checked = t.old_valid_lem; below = rw is_p at sender }
+        rank_known b b' = let t = tables_agree old new r tables b b' ok in record { counted = t.old_ranks; checked = t.old_valid; below = rw is_p at sender }
 
         module _ {s : Bool} (is-s : s ≡ part_sound part old p) where
           pub fails_part : s ≡ false → 8 ≡ first_failed (build_all_checks part old new p)
@@ -89,11 +89,11 @@ module _ (part old new : List ℕ) (p : ℕ) where
       held = all_hold tables_failed (ltb p (ranks old)) (part_sound part old p) (sym checked ∙ sym fails ∙ z)
 
       pub may_build : RankOf old new p
-      may_build = record { tables = tables_agree old new tables_failed refl b b' held.0; rank_below_lem = ltb-true p (ranks old) held.1.0 }
+      may_build = record { tables = tables_agree old new tables_failed refl b b' held.0; rank_below = ltb-true p (ranks old) held.1.0 }
 
       -- words for the marks
       K-high : trees old ≤ max_trees
-      K-high = let T = may_build.tables in trees_high old T.old_bytes_lem T.old_ranks T.old_valid_lem
+      K-high = let T = may_build.tables in trees_high old T.old_bytes T.old_ranks T.old_valid
 
       pub words_known : (part_header ≤ length part) × (part_k part ≤ max_trees)
       words_known = (omega (arith, part_length part old p held.1.1), omega (arith, (part_header_lem part old p held.1.1).all_trees, K-high))

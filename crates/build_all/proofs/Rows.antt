@@ -107,7 +107,7 @@ module _ {part old new : List ℕ} {p q lower upper : ℕ} {marks : List ℕ} (t
   pub near_to : PairNear old new p q lower upper
   near_to =
       let r = to.sender.rank in
-      record { pair = record { tables = r.tables; sender_below_lem = r.rank_below_lem; receiver_below_lem = to.below }; is_lower = to.is_lower; is_upper = to.is_upper }
+      record { pair = record { tables = r.tables; sender_below = r.rank_below; receiver_below = to.below }; is_lower = to.is_lower; is_upper = to.is_upper }
 
   pub range_to : {low n : ℕ} → low ≡ sent_first old new p q → n ≡ sent_count old new p q → SendingRange part old new p q low n
   range_to e f = record { sending = record { pair = near_to.pair; sound = to.sender.sound }; begins = e; many = f }

@@ -2,7 +2,7 @@
 ghost use Rattle.std.specs.Prelude.{◌≡◌, ℕ, ◌*◌, ◌≤◌, length};
 ghost use Rattle.encoding.specs.Pieces.{splice};
 ghost use Rattle.offsets.specs.Limits.{max_ranks, max_trees};
-ghost use Rattle.offsets.specs.Table.{ranks as ranks_of_lem};
+ghost use Rattle.offsets.specs.Table.{ranks as ranks_of};
 ghost use Rattle.message.specs.Layout.{message_size};
 ghost use Rattle.build_all.specs.Means.{message_to, messages_below, BuildFrom, BuildTo};
 ghost use Rattle.message_build.specs.Means.{built_range};
@@ -68,7 +68,7 @@ fn write_to(
 // How long the messages to all ranks are together. Only the ranks of the window are asked: p sends the others nothing.
 pub fn messages_length(part: &[u8], old: &[u8], new: &[u8], p: u32, marks: &mut [u64]) -> usize
     requires { BuildFrom part.now old.now new.now p marks.old }
-    ensures { ((epoch : ℕ) → result ≡ length (messages_below part.now old.now new.now p epoch (ranks_of_lem old.now))) × (result ≤ max_ranks * message_size max_trees max_trees) }
+    ensures { ((epoch : ℕ) → result ≡ length (messages_below part.now old.now new.now p epoch (ranks_of old.now))) × (result ≤ max_ranks * message_size max_trees max_trees) }
 {
     let window = window_of(old, new, p as usize, true);
     let end = window.end as u32;
@@ -93,8 +93,8 @@ pub fn write_messages(
     marks: &mut [u64],
     out: &mut [u8],
 )
-    requires { BuildFrom part.now old.now new.now p marks.old × (length (messages_below part.now old.now new.now p epoch (ranks_of_lem old.now)) ≤ length out.old) }
-    ensures { out.new ≡ splice out.old 0 (messages_below part.now old.now new.now p epoch (ranks_of_lem old.now)) }
+    requires { BuildFrom part.now old.now new.now p marks.old × (length (messages_below part.now old.now new.now p epoch (ranks_of old.now)) ≤ length out.old) }
+    ensures { out.new ≡ splice out.old 0 (messages_below part.now old.now new.now p epoch (ranks_of old.now)) }
 {
     let window = window_of(old, new, p as usize, true);
     let end = window.end as u32;
@@ -130,7 +130,7 @@ pub fn build_messages(
     out: &mut [u8],
 ) -> Length
     requires { BuildFrom part.now old.now new.now p marks.old }
-    ensures { (result, out.new) ≡ built_range (messages_below part.now old.now new.now p epoch (ranks_of_lem old.now)) out.old }
+    ensures { (result, out.new) ≡ built_range (messages_below part.now old.now new.now p epoch (ranks_of old.now)) out.old }
 {
     let total = messages_length(part, old, new, p, &mut *marks);
     if out.len() < total {

@@ -1,4 +1,6 @@
 // Building the messages to all receivers under one check of the part.
+#![tactic(auto)]
+
 ghost use Rattle.std.specs.Prelude.{◌≡◌};
 ghost use Rattle.build_all.specs.Calls.{build_all_length_of, build_all_of};
 

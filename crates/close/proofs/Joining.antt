@@ -79,7 +79,7 @@ module _ (a : List ℕ) (b : Bytes a) (sound : area_sound a ≡ true) where
       }
 
   pub trees_few : area_k a ≤ max_trees
-  trees_few = omega (arith, header.trees_are_lem, trees_high (area_old a) header.tables.old_bytes_lem header.tables.old_ranks header.tables.old_valid_lem)
+  trees_few = omega (arith, header.trees_are, trees_high (area_old a) header.tables.old_bytes header.tables.old_ranks header.tables.old_valid)
 
   abbrev is : ℕ → ℕ → Bool
   is k j = eqb (number_of (ghost_slot a j)) k

@@ -1,4 +1,6 @@
 // Closing an area: its joined part is written into a lent buffer.
+#![tactic(auto)]
+
 ghost use Rattle.std.specs.Prelude.{◌≡◌};
 ghost use Rattle.area.specs.Area.{area_new};
 ghost use Rattle.area.specs.Close.{close_length_of, close_of};

@@ -89,8 +89,8 @@ module _ (a : List ℕ) (b : Bytes a) (sound : area_sound a ≡ true) where
   range_end : area_first a + area_count a ≡ end_tree (area_new a) (area_rank a)
   unfolding area_first
   range_end =
-      ap (λ (m : ℕ). first_tree (area_new a) (area_rank a) + m) header.count_is_lem
-      ∙ count_add (area_new a) header.tables.new_bytes_lem header.tables.new_ranks header.tables.new_valid_lem (area_rank a) (omega (arith, header.rank_below_lem, header.ranks_are_lem, header.tables.same_ranks))
+      ap (λ (m : ℕ). first_tree (area_new a) (area_rank a) + m) header.count_is
+      ∙ count_add (area_new a) header.tables.new_bytes header.tables.new_ranks header.tables.new_valid (area_rank a) (omega (arith, header.rank_below, header.ranks_are, header.tables.same_ranks))
 
   pub range_is : (k : ℕ) → in_range (area_first a) (area_first a + area_count a) k ≡ holds (area_new a) (area_rank a) k
   unfolding in_range holds area_first
@@ -108,13 +108,13 @@ module _ (a : List ℕ) (b : Bytes a) (sound : area_sound a ≡ true) where
     tree-heard : (i : ℕ) → i < area_count a → due_heard a i ≡ true
     unfolding all_heard due_heard area_first gets_from
     tree-heard i h =
-        let rank-old : area_rank a < ranks (area_old a) = omega (arith, header.ranks_are_lem, header.rank_below_lem) in
+        let rank-old : area_rank a < ranks (area_old a) = omega (arith, header.ranks_are, header.rank_below) in
         let k : ℕ = first_tree (area_new a) (area_rank a) + i in
         let s : ℕ = sender (area_old a) k (area_rank a) in
         let l : s < ranks (area_old a) = sender_lt (area_old a) (area_new a) header.tables k (area_rank a) (omega (arith, range_trees a header)) rank-old in
         let due : gets_from (area_old a) (area_new a) (area_rank a) s ≡ true =
-        any_intro (tree_count (area_new a) (area_rank a)) (λ m. eqb (sender (area_old a) (first_tree (area_new a) (area_rank a) + m) (area_rank a)) s) i (omega (arith, header.count_is_lem)) (eq-eqb s s refl) in
-        rw due at (all_at (area_p a) (λ m. cond (gets_from (area_old a) (area_new a) (area_rank a) m) (heard a m) true) all s (omega (arith, header.ranks_are_lem)))
+        any_intro (tree_count (area_new a) (area_rank a)) (λ m. eqb (sender (area_old a) (first_tree (area_new a) (area_rank a) + m) (area_rank a)) s) i (omega (arith, header.count_is)) (eq-eqb s s refl) in
+        rw due at (all_at (area_p a) (λ m. cond (gets_from (area_old a) (area_new a) (area_rank a) m) (heard a m) true) all s (omega (arith, header.ranks_are)))
 
     pub tree_slot_lem : (i : ℕ) → i < area_count a → (in_form (area_first a + i) (tree_slot_core a i) && eqb (number_of (tree_slot_core a i)) (area_first a + i)) ≡ true
     unfolding tree_slot_sound

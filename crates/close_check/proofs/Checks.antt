@@ -31,7 +31,7 @@ use Rattle.close_check.proofs.Reading.{join_sound_part}
 module _ {a old new : List ℕ} (t : Tabled a old new) (s : ℕ) (l : s < area_p a) {rank : ℕ} (is_rank : rank ≡ area_rank a) {b : Bool} (is_b : b ≡ sends_to old new s rank) where
   due_is : gets_from (area_old a) (area_new a) (area_rank a) s ≡ b
   due_is =
-      gets_sends (area_old a) (area_new a) t.header.tables s (area_rank a) (omega (arith, t.header.ranks_are_lem)) (omega (arith, t.header.ranks_are_lem, t.header.rank_below_lem))
+      gets_sends (area_old a) (area_new a) t.header.tables s (area_rank a) (omega (arith, t.header.ranks_are)) (omega (arith, t.header.ranks_are, t.header.rank_below))
       ∙ sym (is_b ∙ rw (t.is_old, t.is_new, is_rank))
 
   pub sender_free : b ≡ false → true ≡ sender_heard a s

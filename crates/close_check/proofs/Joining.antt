@@ -56,7 +56,7 @@ module _ (a : List ℕ) (bytes : Bytes a) (sound : area_sound a ≡ true) where
   ghostly = ghost_from a (slots_place (area_p a)) (area_count a)
 
   pub range_most : area_first a + area_count a ≤ max_trees
-  range_most = omega (arith, range_trees a H, trees_high (area_old a) H.tables.old_bytes_lem H.tables.old_ranks H.tables.old_valid_lem)
+  range_most = omega (arith, range_trees a H, trees_high (area_old a) H.tables.old_bytes H.tables.old_ranks H.tables.old_valid)
 
   -- ---- the ghosts
 
@@ -109,10 +109,10 @@ module _ (a : List ℕ) (bytes : Bytes a) (sound : area_sound a ≡ true) where
         record {
           slots = area-slots;
           below = held-ghosts.below;
-          range = omega (arith, H.trees_are_lem, range_trees a H);
+          range = omega (arith, H.trees_are, range_trees a H);
           trees_formed = tree-formed;
           ghosts_formed = held-ghosts.form;
-          few = omega (arith, H.trees_are_lem, trees_high (area_old a) H.tables.old_bytes_lem H.tables.old_ranks H.tables.old_valid_lem);
+          few = omega (arith, H.trees_are, trees_high (area_old a) H.tables.old_bytes H.tables.old_ranks H.tables.old_valid);
         }
 
     tree-same : (D i : ℕ) → i < area_count a → local_sound first n g tree ghostly D i ≡ tree_joins link_between a at first n g D i

@@ -331,8 +331,8 @@ module _ (a : List ℕ) (b : Bytes a) (sound : area_sound a ≡ true) where
       sound-is : part_sound part (area_new a) (area_rank a) ≡ join_sound a
       sound-is =
           let T : Tables (area_old a) (area_new a) = header.tables in
-          let below : area_rank a < ranks (area_new a) = omega (arith, header.rank_below_lem, header.ranks_are_lem, T.same_ranks) in
-          rw (part_sound_view part (area_new a) (area_rank a) T.new_bytes_lem T.new_ranks T.new_valid_lem below, header-sound, length-ok) view_is
+          let below : area_rank a < ranks (area_new a) = omega (arith, header.rank_below, header.ranks_are, T.same_ranks) in
+          rw (part_sound_view part (area_new a) (area_rank a) T.new_bytes T.new_ranks T.new_valid below, header-sound, length-ok) view_is
 
     -- ---- a sound part
 
@@ -345,7 +345,7 @@ module _ (a : List ℕ) (b : Bytes a) (sound : area_sound a ≡ true) where
       held_below_lem m e =
           held_cases first n g (global_tree part) (stored_ghost part) m e
           (λ i h q. omega (arith, few))
-          (λ j h q o. omega (arith, (view_ghosts first n g (global_tree part) (stored_ghost part) (area_dimension a) (area_k a) view j h).below, few_trees _ _ header.tables, header.trees_are_lem))
+          (λ j h q o. omega (arith, (view_ghosts first n g (global_tree part) (stored_ghost part) (area_dimension a) (area_k a) view j h).below, few_trees _ _ header.tables, header.trees_are))
 
       module _ (i : ℕ) (h : i < n) (f : ℕ) (face : f < face_count (shape_of (tree_slot_core a i))) where
         abbrev r : List ℕ

@@ -201,7 +201,7 @@ equal_files a b s t p q out other ea eb =
 pub accepted_exactly : AcceptedExactly
 accepted_exactly file table rank out ok =
     record {
-      no_file_lem = λ e w.
+      no_file = λ e w.
           let k = part_passes w.0 table rank w.1 in
           let is : part_columns w.0 ≡ file = sym (forward_wrote w.0 table rank w.0 ok k.1 (le_refl (length w.0))) ∙ w.2 w.0 (le_refl (length w.0)) in
           let s : columns_sound file table rank ≡ true = rw is at (columns-sound w.0 table rank k.1) in

@@ -49,7 +49,7 @@ FileOfSound file table rank =
 
 -- 33 exactly where it isn't, for a valid table and a rank of it, whatever the buffer
 pub record RefusedWhere (file table : List ℕ) (rank : ℕ) (out : List ℕ) : Type 0 where
-  pub no_file_lem : (columns_to_part file table rank out).0.refusal ≡ 33 → FileOfSound file table rank → ⊥
+  pub no_file : (columns_to_part file table rank out).0.refusal ≡ 33 → FileOfSound file table rank → ⊥
   pub a_file : ((columns_to_part file table rank out).0.refusal ≡ 33 → ⊥) → FileOfSound file table rank
 
 abbrev pub AcceptedExactly : Type 0

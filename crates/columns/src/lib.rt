@@ -1,4 +1,6 @@
 // Parts stored by columns, and back.
+#![tactic(auto)]
+
 ghost use Rattle.std.specs.Prelude.{◌≡◌};
 ghost use Rattle.columns.specs.Calls.{part_to_columns, columns_to_part};
 

@@ -73,9 +73,9 @@ module _ (r s : List ℕ) where
   unfolding counts_on
   counts_read j k p q e x y z = rw (p, e, q, x, y, z)
 
-  same_byte : (j : ℕ) → same_byte r s j ≡ true → get_or s j 0 ≡ get_or r j 0
+  same_byte_lem : (j : ℕ) → same_byte r s j ≡ true → get_or s j 0 ≡ get_or r j 0
   unfolding same_byte
-  same_byte j h = eqb-true (get_or s j 0) (get_or r j 0) h
+  same_byte_lem j h = eqb-true (get_or s j 0) (get_or r j 0) h
 
   module _ (j k : ℕ) (long : j + 4 ≤ length r) (other : j + 4 ≤ length s) (room : get_or r j 0 + k < 256) (h : counts_on r s j k ≡ true) where
     low_byte : get_or s j 0 ≡ get_or r j 0 + k
@@ -90,10 +90,10 @@ module _ (r s : List ℕ) where
 
     counts-number : u32_at s j ≡ u32_at r j + k
     counts-number =
-        let b1 : get_or s (j + 1) 0 ≡ get_or r (j + 1) 0 = same_byte (j + 1) (and_fst (same_byte r s (j + 1)) (same_byte r s (j + 2) && same_byte r s (j + 3)) high-bytes) in
+        let b1 : get_or s (j + 1) 0 ≡ get_or r (j + 1) 0 = same_byte_lem (j + 1) (and_fst (same_byte r s (j + 1)) (same_byte r s (j + 2) && same_byte r s (j + 3)) high-bytes) in
         let rest : (same_byte r s (j + 2) && same_byte r s (j + 3)) ≡ true = and_snd (same_byte r s (j + 1)) (same_byte r s (j + 2) && same_byte r s (j + 3)) high-bytes in
-        let b2 : get_or s (j + 2) 0 ≡ get_or r (j + 2) 0 = same_byte (j + 2) (and_fst (same_byte r s (j + 2)) (same_byte r s (j + 3)) rest) in
-        let b3 : get_or s (j + 3) 0 ≡ get_or r (j + 3) 0 = same_byte (j + 3) (and_snd (same_byte r s (j + 2)) (same_byte r s (j + 3)) rest) in
+        let b2 : get_or s (j + 2) 0 ≡ get_or r (j + 2) 0 = same_byte_lem (j + 2) (and_fst (same_byte r s (j + 2)) (same_byte r s (j + 3)) rest) in
+        let b3 : get_or s (j + 3) 0 ≡ get_or r (j + 3) 0 = same_byte_lem (j + 3) (and_snd (same_byte r s (j + 2)) (same_byte r s (j + 3)) rest) in
         sym (four_bytes s j other) ∙ (rw (low_byte, b1, b2, b3) (omega arith) ∙ ap (λ (x : ℕ). x + k) (four_bytes r j long))
 
 -- what a face has in common with that of a record k before
@@ -116,8 +116,8 @@ module _ (r s : List ℕ) (k : ℕ) (long : length r ≡ 40) (other : length s �
       let rest : (same_byte r s (32 + f) && same_byte r s 4) ≡ true = and_snd (counts_on r s (8 + 4 * f) k) (same_byte r s (32 + f) && same_byte r s 4) h in
       record {
         neighbour = counts-number r s (8 + 4 * f) k (omega arith) (omega arith) room (and_fst (counts_on r s (8 + 4 * f) k) (same_byte r s (32 + f) && same_byte r s 4) h);
-        code = same_byte r s (32 + f) (and_fst (same_byte r s (32 + f)) (same_byte r s 4) rest);
-        shape = same_byte r s 4 (and_snd (same_byte r s (32 + f)) (same_byte r s 4) rest);
+        code = same_byte_lem r s (32 + f) (and_fst (same_byte r s (32 + f)) (same_byte r s 4) rest);
+        shape = same_byte_lem r s 4 (and_snd (same_byte r s (32 + f)) (same_byte r s 4) rest);
       }
 
   head-like : get_or r 0 0 + k < 256 → head_like r s k ≡ true → HeadLike r s k
@@ -128,14 +128,14 @@ module _ (r s : List ℕ) (k : ℕ) (long : length r ≡ 40) (other : length s �
       let h6 = and_snd (same_byte r s 5) (same_byte r s 6 && (same_byte r s 7 && (same_byte r s 38 && same_byte r s 39))) h5 in
       let h7 = and_snd (same_byte r s 6) (same_byte r s 7 && (same_byte r s 38 && same_byte r s 39)) h6 in
       let h8 = and_snd (same_byte r s 7) (same_byte r s 38 && same_byte r s 39) h7 in
-      let b5 : get_or s 5 0 ≡ get_or r 5 0 = same_byte r s 5 (and_fst (same_byte r s 5) (same_byte r s 6 && (same_byte r s 7 && (same_byte r s 38 && same_byte r s 39))) h5) in
-      let b6 : get_or s 6 0 ≡ get_or r 6 0 = same_byte r s 6 (and_fst (same_byte r s 6) (same_byte r s 7 && (same_byte r s 38 && same_byte r s 39)) h6) in
-      let b7 : get_or s 7 0 ≡ get_or r 7 0 = same_byte r s 7 (and_fst (same_byte r s 7) (same_byte r s 38 && same_byte r s 39) h7) in
-      let b38 : get_or s 38 0 ≡ get_or r 38 0 = same_byte r s 38 (and_fst (same_byte r s 38) (same_byte r s 39) h8) in
-      let b39 : get_or s 39 0 ≡ get_or r 39 0 = same_byte r s 39 (and_snd (same_byte r s 38) (same_byte r s 39) h8) in
+      let b5 : get_or s 5 0 ≡ get_or r 5 0 = same_byte_lem r s 5 (and_fst (same_byte r s 5) (same_byte r s 6 && (same_byte r s 7 && (same_byte r s 38 && same_byte r s 39))) h5) in
+      let b6 : get_or s 6 0 ≡ get_or r 6 0 = same_byte_lem r s 6 (and_fst (same_byte r s 6) (same_byte r s 7 && (same_byte r s 38 && same_byte r s 39)) h6) in
+      let b7 : get_or s 7 0 ≡ get_or r 7 0 = same_byte_lem r s 7 (and_fst (same_byte r s 7) (same_byte r s 38 && same_byte r s 39) h7) in
+      let b38 : get_or s 38 0 ≡ get_or r 38 0 = same_byte_lem r s 38 (and_fst (same_byte r s 38) (same_byte r s 39) h8) in
+      let b39 : get_or s 39 0 ≡ get_or r 39 0 = same_byte_lem r s 39 (and_snd (same_byte r s 38) (same_byte r s 39) h8) in
       record {
         number = counts-number r s 0 k (omega arith) (omega arith) room (and_fst (counts_on r s 0 k) (same_byte r s 4 && (same_byte r s 5 && (same_byte r s 6 && (same_byte r s 7 && (same_byte r s 38 && same_byte r s 39))))) h);
-        shape = same_byte r s 4 (and_fst (same_byte r s 4) (same_byte r s 5 && (same_byte r s 6 && (same_byte r s 7 && (same_byte r s 38 && same_byte r s 39)))) h4);
+        shape = same_byte_lem r s 4 (and_fst (same_byte r s 4) (same_byte r s 5 && (same_byte r s 6 && (same_byte r s 7 && (same_byte r s 38 && same_byte r s 39)))) h4);
         zeros = rw (b5, b6, b7);
         region = rw (two r (omega arith), two s (omega arith), b38, b39);
       }

@@ -120,7 +120,7 @@ module _ (epoch dimension : ℕ) (old new : List ℕ) (rank : ℕ) (H : ℕ → 
   front_long : words_place P ≡ length front
   unfolding words_place new_place
   front_long =
-      rw (length-append, header_length epoch dimension (trees old) P rank n g, length-append, size old T.old_bytes_lem T.old_ranks T.old_valid_lem, size new T.new_bytes_lem T.new_ranks T.new_valid_lem, T.same_ranks)
+      rw (length-append, header_length epoch dimension (trees old) P rank n g, length-append, size old T.old_bytes T.old_ranks T.old_valid, size new T.new_bytes T.new_ranks T.new_valid, T.same_ranks)
       (omega arith)
 
   word-long : (h : ℕ → Bool) (w : ℕ) → w < heard_words P → length (le_bytes 8 (word_of h w)) ≡ 8

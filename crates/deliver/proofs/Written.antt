@@ -64,7 +64,7 @@ module _ (a m : List ℕ) (b : Bytes a) (A : Accepted a m) (F : Deliverable a m)
   P-is = old_ranks_lem a b A.area_ok
 
   count_is : tree_count new rank ≡ area_count a
-  count_is = sym F.holds.count_is_lem
+  count_is = sym F.holds.count_is
 
   -- ---- the bit
 
@@ -242,7 +242,7 @@ unfolding piece
 delivery_done a m b e F {trees = trees} P e1 e2 e3 e4 =
     let n : 32 + 64 * trees - 32 ≡ tree_size * message_trees m = omega (arith, P.is_trees) in
     let f : 32 + 64 * trees ≡ 32 + tree_size * message_trees m = omega (arith, P.is_trees) in
-    delivery_written a m b (accepted_parts a m e) F (rw (P.is_words, P.is_sender) at e1) (rw (P.is_slots, n) at e2) f (rw (P.is_ghosts, P.is_held_lem, P.is_came) at e3) (rw (P.is_held_lem, P.is_came) at e4)
+    delivery_written a m b (accepted_parts a m e) F (rw (P.is_words, P.is_sender) at e1) (rw (P.is_slots, n) at e2) f (rw (P.is_ghosts, P.is_held, P.is_came) at e3) (rw (P.is_held, P.is_came) at e4)
 
 -- ---- the call
 

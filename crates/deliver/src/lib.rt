@@ -1,4 +1,6 @@
 // Delivering a message into an area.
+#![tactic(auto)]
+
 ghost use Rattle.std.specs.Prelude.{◌≡◌};
 ghost use Rattle.area.specs.Deliver.{deliver_of};
 

@@ -1,4 +1,6 @@
 // Delivering many messages into an area under one check of it.
+#![tactic(auto)]
+
 ghost use Rattle.std.specs.Prelude.{◌≡◌};
 ghost use Rattle.deliver_all.specs.Calls.{deliver_all_of};
 

@@ -51,7 +51,7 @@ module _ (a m : List ℕ) where
       pub sender_read : {P : ℕ} {r : Bool} → P ≡ area_p a → s < P → r ≡ sends_to old new s rank → r ≡ sender_due a m
       unfolding sender_due
       sender_read e h q =
-          let g = gets_sends (area_old a) (area_new a) t.header.tables (message_sender m) (area_rank a) (omega (arith, t.header.ranks_are_lem)) (omega (arith, t.header.ranks_are_lem, t.header.rank_below_lem)) in
+          let g = gets_sends (area_old a) (area_new a) t.header.tables (message_sender m) (area_rank a) (omega (arith, t.header.ranks_are)) (omega (arith, t.header.ranks_are, t.header.rank_below)) in
           q ∙ rw (lt-ltb (message_sender m) (area_p a) (omega arith), g, is-s, is_rank, t.is_old, t.is_new)
 
       module _ {n count : ℕ} (is_n : n ≡ message_trees m) (is_count : count ≡ sent_count old new s rank) where

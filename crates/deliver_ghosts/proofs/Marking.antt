@@ -133,7 +133,7 @@ module _ {a m : List ℕ} (R : Checkable a m) where
   pub few_trees : message_k m ≤ max_trees
   few_trees =
       let T = R.header.tables in
-      omega (arith, R.same_trees, R.header.trees_are_lem, trees_high (area_old a) T.old_bytes_lem T.old_ranks T.old_valid_lem)
+      omega (arith, R.same_trees, R.header.trees_are, trees_high (area_old a) T.old_bytes T.old_ranks T.old_valid)
 
   -- n words hold every tree
   pub trees_fit : (n : ℕ) → message_k m ≤ 64 * n → TreesFit m (replicate n 0)
@@ -146,7 +146,7 @@ module _ {a m : List ℕ} (R : Checkable a m) where
         let H = R.header in
         record {
           laid = R.laid;
-          long = rw is-new (omega (arith, is_rank, (ranks_known (area_new a) H.tables.new_ranks).size, H.tables.same_ranks, H.ranks_are_lem, H.rank_below_lem));
+          long = rw is-new (omega (arith, is_rank, (ranks_known (area_new a) H.tables.new_ranks).size, H.tables.same_ranks, H.ranks_are, H.rank_below));
           room = omega (arith, p.same_length, length-replicate {A = ℕ} n 0);
           members = λ k. p.members k ∙ ap (λ (b : Bool). b || beside_first m (message_trees m) k) (in_none n k);
         }

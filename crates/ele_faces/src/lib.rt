@@ -1,2 +1,4 @@
 // Faces of triangles.
+#![tactic(auto)]
+
 pub mod face;

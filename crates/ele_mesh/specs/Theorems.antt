@@ -1,14 +1,14 @@
 -- What is proved of the mesh beyond the calls' contracts.
 use Rattle.std.specs.Prelude.{ℕ, ◌+◌, ◌*◌, ◌<◌, ◌≡◌, true, false, List, length, take}
 use Rattle.records.specs.Record.{neighbour_of, face_of, orientation_of}
-use Rattle.mesh.specs.Mesh.{mesh_sound_lem, mesh_trees, mesh_core, mesh_refusal}
+use Rattle.mesh.specs.Mesh.{mesh_sound, mesh_trees, mesh_core, mesh_refusal}
 use Rattle.ele_text.specs.Text.{text_ok, vertices, triangles}
 use Rattle.ele_faces.specs.Faces.{same_set, vertices_differ, first_vertex}
 use Rattle.ele_mesh.specs.Calls.{triangle_mesh, triangle_refusal, triangle_length, import_triangle}
 
 -- the mesh of an accepted text is sound
 abbrev pub TrianglesSound : Type 0
-TrianglesSound = (text : List ℕ) → triangle_refusal text ≡ 0 → mesh_sound_lem (triangle_mesh text) ≡ true
+TrianglesSound = (text : List ℕ) → triangle_refusal text ≡ 0 → mesh_sound (triangle_mesh text) ≡ true
 
 -- face i of tree t is linked to face j of tree u
 abbrev pub Joined : List ℕ → ℕ → ℕ → ℕ → ℕ → Type 0

@@ -1,4 +1,6 @@
 // Import of Triangle's element files.
+#![tactic(auto)]
+
 ghost use Rattle.std.specs.Prelude.{◌≡◌, length};
 ghost use Rattle.ele_mesh.specs.Calls.{triangle_length, import_triangle};
 ghost use Rattle.ele_mesh.specs.Means.{hashes};

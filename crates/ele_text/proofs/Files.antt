@@ -202,7 +202,7 @@ run_yes (t ∷ ts) rows n k vs h e l =
     run_yes ts (rows + 1) n (suc k) (vs ++ (row_number t 1 ∷ row_number t 2 ∷ row_number t 3 ∷ [])) (omega arith) (rest-numbered k t ts e) (omega arith) in
     rw (triangle-added rows n k vs (omega arith) t, this-ok k t ts e, le-leb rows n (omega arith), a, eq-eqb k k refl, s) (rw append_assoc at ih)
 
--- what `isNext` says
+-- what `is_next` says
 module _ (rows n k : ℕ) (t : List (List ℕ)) (e : is_next rows n k t ≡ true) where
   next-ok : row_ok 4 t ≡ true
   unfolding is_next

@@ -1,12 +1,11 @@
 -- Laws of pieces and splices.
-use Prim.Native.Nat.{ℕ, zero, suc, ◌+◌, ◌-◌, ◌≤◌, ◌<◌, min}
+use Prim.Native.Nat.{ℕ, zero, suc, ◌+◌, ◌-◌, ◌≤◌, ◌<◌}
 use mathlib.Core.Path.{◌≡◌, refl, sym, ap, ◌∙◌}
 use mathlib.Core.List.{List, [], ◌∷◌, ◌++◌, append_assoc}
-use mathlib.Core.Logic.{⊎_elim}
-use native.Mathlib.Nat.{add-zero, add-suc, suc-add, add_assoc, add-sub_cancel_left}
+use native.Mathlib.Nat.{add-zero}
 use native.Mathlib.Omega.{arith}
-use lib.ListN.{length, get_or, take, drop, set, length-append, length-take, length-drop, length-set, take-append-drop, get_or-append, get_or-eq_default, drop_of_length-le}
-use lib.Seq.{length-take-le, take-add, drop-drop, drop-cons, take-suc, take_at, drop_at, get_or-take, get_or-drop, take-append-le, drop-append-le, take-append-add, drop-append-add, take-take, take_all, get_or-append-add, set_split, drop-set-lt, take-suc-set}
+use lib.ListN.{length, get_or, take, drop, set, length-append, length-take, length-drop, take-append-drop, drop_of_length-le}
+use lib.Seq.{length-take-le, take-add, drop-drop, drop-cons, take_at, drop_at, get_or-take, get_or-drop, take-append-le, drop-append-le, take-take, drop-set-lt, take-suc-set}
 use Rattle.encoding.specs.Pieces.{piece, splice, Bytes}
 
 bytes_take : (n : ℕ) (l : List ℕ) → Bytes l → Bytes (take n l)

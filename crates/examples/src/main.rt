@@ -3,79 +3,87 @@
 // Q is the call, A and B are the place and the length of its first slice in the memory, C and D of its second, E and F of its third.
 // X and Y are numbers. The list from Z on has the call's last number: one call for each.
 // O is the place in the memory that gets what was written, P the room for it. A line without Q is a title, or a text for the plan.
-ghost use Rattle.std.specs.Prelude.{◌≡◌, ◌≤◌, length};
+#![tactic(auto)]
+
+ghost use Rattle.std.specs.Prelude.{◌≡◌, ◌≤◌, length, IfOk};
 
 use encoding::answer::Length;
-use libc::{STDIN_FILENO, STDOUT_FILENO};
 use records::index::{GlobalIndex, LocalIndex};
+use std::io;
+use std::io::{BufWriter, Read, Write};
 
 // ---- answers
 
-fn text(t: &[u8]) {
-    io::write_all(STDOUT_FILENO, t);
+fn text(to: &mut impl Write, t: &[u8]) -> io::Result<()> {
+    to.write_all(t)
 }
 
-fn word(n: u64) {
-    text(b" ");
-    io::print_decimal(STDOUT_FILENO, n);
+fn word(to: &mut impl Write, n: u64) -> io::Result<()> {
+    write!(to, " {n}")
 }
 
-fn word32(n: u32) {
-    word(n as u64);
+fn word32(to: &mut impl Write, n: u32) -> io::Result<()> {
+    word(to, n as u64)
 }
 
 // A number of 64 bits with its sign.
-fn signed(n: u64) {
+fn signed(to: &mut impl Write, n: u64) -> io::Result<()> {
     if n < 9223372036854775808 {
-        word(n);
-    } else {
-        text(b" -");
-        io::print_decimal(STDOUT_FILENO, std::num::wrapping_sub_u64(0, n));
+        return word(to, n);
     }
+    let size = std::num::wrapping_sub_u64(0, n);
+    write!(to, " -{size}")
 }
 
 // A rank below 3, or −1 or −2, which stand for none.
-fn show_rank(n: i32) {
+fn show_rank(to: &mut impl Write, n: i32) -> io::Result<()> {
     if n == 0 {
-        word(0);
+        word(to, 0)
     } else if n == 1 {
-        word(1);
+        word(to, 1)
     } else if n == 2 {
-        word(2);
+        word(to, 2)
     } else if n == -1 {
-        signed(18446744073709551615);
+        signed(to, 18446744073709551615)
     } else {
-        signed(18446744073709551614);
+        signed(to, 18446744073709551614)
     }
 }
 
-fn refusal(n: u32) {
-    text(b" =");
-    word32(n);
+fn refusal(to: &mut impl Write, n: u32) -> io::Result<()> {
+    text(to, b" =")?;
+    word32(to, n)
 }
 
-fn show_length(l: Length) -> u64 {
-    refusal(l.refusal);
-    word(l.length);
-    l.length
+fn show_length(to: &mut impl Write, l: Length) -> io::Result<u64> {
+    refusal(to, l.refusal)?;
+    word(to, l.length)?;
+    Ok(l.length)
 }
 
-fn show_range(r: offsets::Range) {
-    refusal(r.refusal);
-    word32(r.first);
-    word32(r.count);
+fn show_range(to: &mut impl Write, r: offsets::Range) -> io::Result<()> {
+    refusal(to, r.refusal)?;
+    word32(to, r.first)?;
+    word32(to, r.count)
 }
 
 // The length of a record and its number.
-fn show_record(r: &[u8]) {
-    text(b" =");
-    word(r.len() as u64);
+fn show_record(to: &mut impl Write, r: &[u8]) -> io::Result<()> {
+    text(to, b" =")?;
+    word(to, r.len() as u64)?;
     if 4 <= r.len() {
-        word32(encoding::bytes::read_u32(r, 0));
+        word32(to, encoding::bytes::read_u32(r, 0))?;
     }
+    Ok(())
 }
 
 // ---- bytes
+
+fn input_buffer() -> [u8; 65536]
+    ensures { 65536 ≡ length result }
+{
+    [0; 65536]
+}
 
 fn blank() -> [u8; 32768]
     ensures { 32768 ≡ length result }
@@ -151,26 +159,28 @@ fn read_list(bs: &[u8], xs: &mut [u32]) -> usize
     i
 }
 
-fn show_list(xs: &[u32]) {
+fn show_list(to: &mut impl Write, xs: &[u32]) -> io::Result<()> {
     let mut i = 0;
     while i < xs.len() {
-        word32(xs[i]);
+        word32(to, xs[i])?;
         i += 1;
     }
+    Ok(())
 }
 
 // The numbers in some bytes, of eight bytes each or of four.
-fn show_numbers(bs: &[u8], wide: bool) {
+fn show_numbers(to: &mut impl Write, bs: &[u8], wide: bool) -> io::Result<()> {
     let mut i = 0;
     while i < bs.len() / 8 {
         if wide {
-            signed(encoding::bytes::read_u64(bs, 8 * i));
+            signed(to, encoding::bytes::read_u64(bs, 8 * i))?;
         } else {
-            word32(encoding::bytes::read_u32(bs, 8 * i));
-            word32(encoding::bytes::read_u32(bs, 8 * i + 4));
+            word32(to, encoding::bytes::read_u32(bs, 8 * i))?;
+            word32(to, encoding::bytes::read_u32(bs, 8 * i + 4))?;
         }
         i += 1;
     }
+    Ok(())
 }
 
 // ---- calls
@@ -189,120 +199,146 @@ fn load(size: u32, z: u64, k: usize, out: &mut [u8]) -> u64 {
     at as u64 / 2 + size as u64
 }
 
-fn bytes_call(op: u64, a: &[u8], x: u32, z: u64, k: usize, out: &mut [u8]) -> u64 {
+fn bytes_call(
+    to: &mut impl Write,
+    op: u64,
+    a: &[u8],
+    x: u32,
+    z: u64,
+    k: usize,
+    out: &mut [u8],
+) -> io::Result<u64> {
     if op == 1 {
-        return load(x, z, k, out);
+        return Ok(load(x, z, k, out));
     }
     if op == 2 {
         store(out, 0, a);
-        return a.len() as u64;
+        return Ok(a.len() as u64);
     }
     if 3 <= op {
-        text(b" =");
-        show_numbers(a, op == 3);
+        text(to, b" =")?;
+        show_numbers(to, a, op == 3)?;
     }
-    0
+    Ok(0)
 }
 
-fn show_sender(s: pattern::SenderAnswer) {
-    refusal(s.refusal);
-    show_rank(s.sender);
+fn show_sender(to: &mut impl Write, s: pattern::SenderAnswer) -> io::Result<()> {
+    refusal(to, s.refusal)?;
+    show_rank(to, s.sender)
 }
 
-fn show_ranks(r: pattern::Ranks, xs: &[u32]) {
-    refusal(r.refusal);
-    word32(r.count);
-    show_rank(r.smallest);
-    show_rank(r.largest);
-    show_list(xs);
+fn show_ranks(to: &mut impl Write, r: pattern::Ranks, xs: &[u32]) -> io::Result<()> {
+    refusal(to, r.refusal)?;
+    word32(to, r.count)?;
+    show_rank(to, r.smallest)?;
+    show_rank(to, r.largest)?;
+    show_list(to, xs)
 }
 
 // The first set or the second, in the first places of a list.
-fn set_in(op: u64, a: &[u8], b: &[u8], x: u32, room: usize, xs: &mut [u32]) {
+fn set_in(
+    to: &mut impl Write,
+    op: u64,
+    a: &[u8],
+    b: &[u8],
+    x: u32,
+    room: usize,
+    xs: &mut [u32],
+) -> io::Result<()> {
     if room <= xs.len() {
         if op == 24 {
             let r = pattern::send_set(a, b, x, &mut xs[..room]);
-            show_ranks(r, xs);
+            show_ranks(to, r, xs)?;
         } else {
             let r = pattern::receive_set(a, b, x, &mut xs[..room]);
-            show_ranks(r, xs);
+            show_ranks(to, r, xs)?;
         }
     }
+    Ok(())
 }
 
-fn set_call(op: u64, a: &[u8], b: &[u8], x: u32, z: u32) {
+fn set_call(to: &mut impl Write, op: u64, a: &[u8], b: &[u8], x: u32, z: u32) -> io::Result<()> {
     let mut xs = [9u32; 4];
-    set_in(op, a, b, x, z as usize, &mut xs);
+    set_in(to, op, a, b, x, z as usize, &mut xs)
 }
 
-fn show_neighbour(n: part_neighbour::link::NeighbourAnswer) {
-    refusal(n.refusal);
-    word32(n.shape);
-    word32(n.kind);
-    word32(n.index);
-    word32(n.face);
-    word32(n.orientation);
+fn show_neighbour(to: &mut impl Write, n: part_neighbour::link::NeighbourAnswer) -> io::Result<()> {
+    refusal(to, n.refusal)?;
+    word32(to, n.shape)?;
+    word32(to, n.kind)?;
+    word32(to, n.index)?;
+    word32(to, n.face)?;
+    word32(to, n.orientation)
 }
 
-fn show_found(f: lookup::Found) {
-    refusal(f.which);
-    word(f.offset);
+fn show_found(to: &mut impl Write, f: lookup::Found) -> io::Result<()> {
+    refusal(to, f.which)?;
+    word(to, f.offset)
 }
 
-// The first record that a reader over the message hands out, proved by a walk of its MIR, since it has a reader in it.
+// The first record that a reader over the message hands out.
 fn first_record<'a>(message: &'a [u8]) -> &'a [u8] {
     let begun = message_reader::begin(message);
     let step = message_reader::next(begun.reader);
     step.piece
 }
 
-fn read_call(message: &[u8], place: u64) {
-    show_record(message_reader::place::read(message, place));
+fn read_call(to: &mut impl Write, message: &[u8], place: u64) -> io::Result<()> {
+    show_record(to, message_reader::place::read(message, place))?;
     let f = message_reader::place::after(message, place);
-    word(f.remain);
-    word(f.at);
+    word(to, f.remain)?;
+    word(to, f.at)
 }
 
 // Calls that write nothing. Both slices have one lifetime, since `lookup` lends back a part of either.
-fn ask<'a>(op: u64, a: &'a [u8], b: &'a [u8], x: u32, y: u32, z: u32, place: u64) {
+fn ask<'a>(
+    to: &mut impl Write,
+    op: u64,
+    a: &'a [u8],
+    b: &'a [u8],
+    x: u32,
+    y: u32,
+    z: u32,
+    place: u64,
+) -> io::Result<()> {
     if op == 10 {
-        refusal(offsets::check_table(a));
+        refusal(to, offsets::check_table(a))
     } else if op == 11 {
-        show_range(offsets::table_range(a, z));
+        show_range(to, offsets::table_range(a, z))
     } else if op == 12 {
-        show_length(offsets_write::table_length(z));
+        show_length(to, offsets_write::table_length(z))?;
+        Ok(())
     } else if op == 13 {
-        show_sender(pattern::sender_of(a, b, z, x));
+        show_sender(to, pattern::sender_of(a, b, z, x))
     } else if op == 14 {
-        show_range(pattern::trees_sent(a, b, x, z));
+        show_range(to, pattern::trees_sent(a, b, x, z))
     } else if op == 15 {
-        refusal(mesh::check_mesh(a));
+        refusal(to, mesh::check_mesh(a))
     } else if op == 16 {
-        show_length(part_cut::part_length(a, b, z));
+        show_length(to, part_cut::part_length(a, b, z))?;
+        Ok(())
     } else if op == 17 {
-        refusal(part_check::check_part(a, b, z));
+        refusal(to, part_check::check_part(a, b, z))
     } else if op == 18 {
-        show_neighbour(part_neighbour::link::flat(part_neighbour::neighbour_of(
-            a,
-            b,
-            x,
-            LocalIndex(y),
-            z,
-        )));
+        show_neighbour(
+            to,
+            part_neighbour::link::flat(part_neighbour::neighbour_of(a, b, x, LocalIndex(y), z)),
+        )
     } else if op == 19 {
-        show_found(lookup::find_record(a, b, GlobalIndex(z)));
+        show_found(to, lookup::find_record(a, b, GlobalIndex(z)))
     } else if op == 20 {
-        show_length(message::begin_reading(a));
+        show_length(to, message::begin_reading(a))?;
+        Ok(())
     } else if op == 21 {
-        show_record(message::place::record_at(a, place));
+        show_record(to, message::place::record_at(a, place))
     } else if op == 22 {
-        read_call(a, place);
+        read_call(to, a, place)
     } else if op == 23 {
-        show_record(lookup::lookup(a, b, GlobalIndex(z)));
+        show_record(to, lookup::lookup(a, b, GlobalIndex(z)))
     } else if op == 26 {
-        show_record(first_record(a));
+        show_record(to, first_record(a))
     } else {
-        set_call(op, a, b, x, z);
+        set_call(to, op, a, b, x, z)
     }
 }
 
@@ -358,20 +394,27 @@ fn make(op: u64, a: &[u8], b: &[u8], c: &[u8], x: u32, y: u32, z: u32, out: &mut
 }
 
 // The plan of the text of so many bytes that begins x bytes in front of the line.
-fn plan_call(past: &[u8], x: u64, z: u64, out: &mut [u8]) -> u64 {
+fn plan_call(to: &mut impl Write, past: &[u8], x: u64, z: u64, out: &mut [u8]) -> io::Result<u64> {
     let start = std::num::wrapping_sub_u64(past.len() as u64, x);
-    let n = show_length(plan_text::plan_output(piece(past, start, z), &mut *out));
-    text(b"\n");
-    text(piece(out, 0, n));
-    n
+    let n = show_length(to, plan_text::plan_output(piece(past, start, z), &mut *out))?;
+    text(to, b"\n")?;
+    text(to, piece(out, 0, n))?;
+    Ok(n)
 }
 
 // ---- lines
 
 // Call k of a line.
-fn call(w: &[u64; 96], k: usize, past: &[u8], memory: &[u8], out: &mut [u8]) -> u64 {
+fn call(
+    to: &mut impl Write,
+    w: &[u64; 96],
+    k: usize,
+    past: &[u8],
+    memory: &[u8],
+    out: &mut [u8],
+) -> io::Result<u64> {
     if 70 <= k {
-        return 0;
+        return Ok(0);
     }
     let op = w[17];
     let a = piece(memory, w[1], w[2]);
@@ -381,43 +424,57 @@ fn call(w: &[u64; 96], k: usize, past: &[u8], memory: &[u8], out: &mut [u8]) -> 
     let wide = w[26 + k];
     let z = (wide % 4294967296) as u32;
     if op < 10 {
-        return bytes_call(op, a, x, wide, k, out);
+        return bytes_call(to, op, a, x, wide, k, out);
     }
     if op < 40 {
-        ask(op, a, b, x, y, z, wide);
-        return 0;
+        ask(to, op, a, b, x, y, z, wide)?;
+        return Ok(0);
     }
     if op < 50 {
-        return plan_call(past, x as u64, wide, out);
+        return plan_call(to, past, x as u64, wide, out);
     }
-    show_length(make(op, a, b, piece(memory, w[5], w[6]), x, y, z, out))
+    show_length(to, make(op, a, b, piece(memory, w[5], w[6]), x, y, z, out))
 }
 
 // The calls of a line, in the room for what they write. Answers the length of what the last wrote.
-fn calls(w: &[u64; 96], last: usize, past: &[u8], memory: &[u8], out: &mut [u8]) -> u64 {
+fn calls(
+    to: &mut impl Write,
+    w: &[u64; 96],
+    last: usize,
+    past: &[u8],
+    memory: &[u8],
+    out: &mut [u8],
+) -> io::Result<u64> {
     let room = w[16] as usize;
     if out.len() < room {
-        return 0;
+        return Ok(0);
     }
-    let mut n = call(w, 0, past, memory, &mut out[..room]);
+    let mut n = call(to, w, 0, past, memory, &mut out[..room])?;
     let mut k = 26;
     while k < last {
-        n = call(w, k - 25, past, memory, &mut out[..room]);
+        n = call(to, w, k - 25, past, memory, &mut out[..room])?;
         k += 1;
     }
-    n
+    Ok(n)
 }
 
 // Runs a line and puts what was written in the memory. The room is full of bytes 170 before; the place behind the last that changed is shown.
-fn run(w: &[u64; 96], last: usize, past: &[u8], memory: &mut [u8]) {
+fn run(
+    to: &mut impl Write,
+    w: &[u64; 96],
+    last: usize,
+    past: &[u8],
+    memory: &mut [u8],
+) -> io::Result<()> {
     let mut out = blank();
-    let n = calls(w, last, past, &*memory, &mut out);
+    let n = calls(to, w, last, past, &*memory, &mut out)?;
     let end = written(&out);
     if 0 < end {
-        text(b" wrote");
-        word(end as u64);
+        text(to, b" wrote")?;
+        word(to, end as u64)?;
         store(memory, w[15], piece(&out, 0, n));
     }
+    Ok(())
 }
 
 // The register that the next digit goes to, the digits so far, and 0, or all ones behind a minus.
@@ -466,7 +523,7 @@ fn read_char(w: &mut [u64; 96], s: Scan, c: u8) -> Scan {
 }
 
 // Each line is written, from the line feed in front of it on, and then run.
-fn run_all(input: &[u8], memory: &mut [u8]) {
+fn run_all(to: &mut impl Write, input: &[u8], memory: &mut [u8]) -> io::Result<()> {
     let mut w = registers();
     let mut s = Scan {
         at: 96,
@@ -480,8 +537,8 @@ fn run_all(input: &[u8], memory: &mut [u8]) {
         let c = input[here];
         i += 1;
         if c == 10 {
-            text(&input[begin..here]);
-            run(&w, s.at, &input[..begin + 1], memory);
+            text(to, &input[begin..here])?;
+            run(to, &w, s.at, &input[..begin + 1], memory)?;
             w = registers();
             s = Scan {
                 at: 96,
@@ -493,12 +550,29 @@ fn run_all(input: &[u8], memory: &mut [u8]) {
             s = read_char(&mut w, s, c);
         }
     }
-    text(b"\n");
+    text(to, b"\n")
 }
 
-fn main() {
-    let mut input = io::large_buffer();
-    let n = io::read_full(STDIN_FILENO, &mut input);
+// Reads until the buffer is full or the input ends, and answers how many bytes it put at the buffer's beginning.
+fn read_full(reader: &mut impl Read, input: &mut [u8]) -> io::Result<usize>
+    ensures { IfOk result (λ n. n ≤ length input.new) }
+{
+    let mut done = 0;
+    while done < input.len() {
+        let n = reader.read(&mut input[done..])?;
+        if n == 0 {
+            break;
+        }
+        done += n;
+    }
+    Ok(done)
+}
+
+fn main(rt: HostRuntime) -> io::Result<()> {
+    let mut input = input_buffer();
+    let n = read_full(&mut rt.reader(), &mut input)?;
+    let mut to = BufWriter::new(rt.alloc(), io::writer(&rt))?;
     let mut memory = blank();
-    run_all(&input[..n], &mut memory);
+    run_all(&mut to, &input[..n], &mut memory)?;
+    to.flush()
 }

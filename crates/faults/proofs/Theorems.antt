@@ -1,15 +1,15 @@
 -- The fault is what the check answers, and nothing before it is wrong.
-use Prim.Native.Nat.{ℕ, ◌+◌, ◌<◌}
+use Prim.Native.Nat.{ℕ, ◌<◌}
 use native.Mathlib.Omega.{arith}
 use mathlib.Core.Path.{◌≡◌, refl, sym, ap, ◌∙◌}
-use mathlib.Core.Bool.{Bool, true, false, cond, not, ◌&&◌, ◌||◌}
+use mathlib.Core.Bool.{Bool, true, false, cond}
 use mathlib.Core.List.{List}
-use lib.Dec.{eqb, leb, ltb}
-use borrow.Author.Tests.{eq-eqb, ne_eqb, eqb-true, le-leb, lt-ltb, ltb-true}
+use lib.Dec.{eqb}
+use borrow.Author.Tests.{eq-eqb, ne_eqb, eqb-true}
 use Rattle.encoding.specs.Below.{all_below, any_below, least_below}
 use Rattle.encoding.specs.Refusal.{first_failed}
-use Rattle.encoding.proofs.Below.{tests, either, clash, iff_eq, and_fst, and_snd, and_intro, all_at, all_intro, all_fails, any_false, least_lt, least_at, least_below_lem}
-use Rattle.mesh.specs.Mesh.{mesh_dimension, mesh_trees, mesh_core, header_sound, mesh_sound_lem, mesh_refusal}
+use Rattle.encoding.proofs.Below.{either, clash, all_intro, all_fails, any_false, least_lt, least_at, least_below_lem}
+use Rattle.mesh.specs.Mesh.{mesh_dimension, mesh_trees, mesh_core, header_sound, mesh_sound, mesh_refusal}
 use Rattle.faults.specs.declared.answer.Fault.{Fault}
 use Rattle.faults.specs.declared.answer.Wrong.{Wrong}
 use Rattle.faults.specs.Answer.{wrong, is_fault, first_place, first_fault}
@@ -18,7 +18,7 @@ use Rattle.records.specs.Record.{number_of}
 use Rattle.faults.specs.Mesh.{tree_face_kind, tree_wrong}
 use Rattle.faults.specs.Calls.{mesh_fault_of}
 use Rattle.faults.specs.Theorems.{AsChecked, MeshAsChecked, FirstTree, MeshFirst}
-use Rattle.faults.proofs.Firsts.{quiet, quiet_at}
+use Rattle.faults.proofs.Firsts.{quiet}
 use Rattle.faults.proofs.Right.{tree_right}
 use Rattle.faults.proofs.Searches.{trees_right}
 
@@ -80,7 +80,7 @@ module _ (m : List ℕ) where
   place = tree_wrong (mesh_core m) (mesh_dimension m) (mesh_trees m)
 
   mesh-checked : AsChecked (mesh_fault_of m) (mesh_refusal m)
-  unfolding mesh_fault_of mesh_refusal mesh_sound_lem first_failed
+  unfolding mesh_fault_of mesh_refusal mesh_sound first_failed
   mesh-checked =
       either (header_sound m)
       (λ h. rw (h, ← trees_right m refl refl) (first_checked 7 (mesh_trees m) place (λ e. omega arith)))

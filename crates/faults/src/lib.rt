@@ -1,4 +1,6 @@
 // Where a whole mesh fails: the first place that is wrong, and what is wrong there.
+#![tactic(auto)]
+
 ghost use Rattle.std.specs.Prelude.{◌≡◌};
 ghost use Rattle.faults.specs.Calls.{mesh_fault_of};
 

@@ -3,7 +3,7 @@ ghost use Rattle.std.specs.Prelude.{◌≡◌, ◌+◌, ◌≤◌, ◌<◌, ltb,
 ghost use Rattle.encoding.specs.Pieces.{piece};
 ghost use Rattle.records.specs.Shape.{face_count};
 ghost use Rattle.records.specs.Record.{core_size, shape_of, zeros_ok};
-ghost use Rattle.mesh.specs.Link.{same_corners, answered as is_answered_lem};
+ghost use Rattle.mesh.specs.Link.{same_corners, answered as is_answered};
 ghost use Rattle.faults.specs.Record.{record_kind, link_kind};
 ghost use Rattle.faults.specs.Means.{form_kind};
 
@@ -75,7 +75,7 @@ fn same_corners(bs: &[u8], at: usize, face: u32, to: usize) -> bool
 
 fn answered(bs: &[u8], back: u32, at: usize, face: u32, to: usize) -> bool
     requires { (at + core_size ≤ length bs.now) × (face < 6) × (to + core_size ≤ length bs.now) }
-    ensures { result ≡ is_answered_lem back (piece bs.now at core_size) face (piece bs.now to core_size) }
+    ensures { result ≡ is_answered back (piece bs.now at core_size) face (piece bs.now to core_size) }
 {
     let there = face_of(bs, at, face);
     (neighbour_of(bs, to, there) == back)

@@ -13,7 +13,7 @@ use Rattle.encoding.proofs.Below.{either, clash, and_fst, and_snd}
 use Rattle.offsets.specs.Limits.{tree_count_ok}
 use Rattle.offsets.specs.Table.{ranks, ranks_ok, valid, trees, first_tree, tree_count}
 use Rattle.records.specs.Record.{tree_size}
-use Rattle.mesh.specs.Mesh.{mesh_header, mesh_dimension, mesh_trees, dimension_ok, header_sound, mesh_sound_lem, mesh_refusal}
+use Rattle.mesh.specs.Mesh.{mesh_header, mesh_dimension, mesh_trees, dimension_ok, header_sound, mesh_sound, mesh_refusal}
 use Rattle.mesh.proofs.Checking.{header_short}
 use Rattle.part.specs.Layout.{part_header, part_size}
 use Rattle.part.specs.Part.{part_dimension, part_k, part_first, part_count, part_ghost_count, part_header_sound, part_sound}
@@ -143,5 +143,5 @@ unfolding mesh_header_of
 mesh_header_as_sound m = none_is (mesh_fields m) (mesh-numbered m) ∙ mesh-right m
 
 pub mesh_header_accepted : MeshHeaderAccepted
-unfolding mesh_header_of mesh_refusal first_failed mesh_sound_lem
-mesh_header_accepted m e = all_none (mesh_fields m) (mesh-right m ∙ and_fst (header_sound m) _ (two_pass (mesh_sound_lem m) e))
+unfolding mesh_header_of mesh_refusal first_failed mesh_sound
+mesh_header_accepted m e = all_none (mesh_fields m) (mesh-right m ∙ and_fst (header_sound m) _ (two_pass (mesh_sound m) e))

@@ -1,4 +1,6 @@
 // What is wrong with the header or the length of a part or a whole mesh: the first field that isn't what is due.
+#![tactic(auto)]
+
 ghost use Rattle.std.specs.Prelude.{◌≡◌};
 ghost use Rattle.headers.specs.Calls.{part_header_of, mesh_header_of};
 

@@ -44,7 +44,7 @@ module _ (first count : ℕ → ℕ) (P K : ℕ) (t : List ℕ) (i : IsTable fir
     unfolding holds
     past_none p k h l =
         let e : end_tree t p ≤ trees t = end_trees t i.bytes ranks_fit_lem i.is_valid p (rw ranks_counted h) in
-        rw (le-ltb k (end_tree t p) (omega (arith, i.trees_are_lem)), and-false)
+        rw (le-ltb k (end_tree t p) (omega (arith, i.trees_are)), and-false)
 
 -- ---- the table of cuts
 
@@ -78,7 +78,7 @@ module _ (ls : List ℕ) (P : ℕ) (bound : ℕ → ℕ) (ro : rank_count_ok P �
         bytes = cuts_is.bytes;
         accepted = table-accepted (leaf_first ls bound) (leaf_count ls bound) P (length ls) (table_of (leaf_first ls bound) (leaf_count ls bound) P) cuts_is ro;
         ranks_are = ranks_counted (leaf_first ls bound) (leaf_count ls bound) P (length ls) (table_of (leaf_first ls bound) (leaf_count ls bound) P) cuts_is;
-        trees_are = cuts_is.trees_are_lem;
+        trees_are = cuts_is.trees_are;
         held = cuts-hold;
       }
 

@@ -1,4 +1,6 @@
 // The table that leaf counts give.
+#![tactic(auto)]
+
 ghost use Rattle.std.specs.Prelude.{◌≡◌};
 ghost use Rattle.leaves.specs.Calls.{table_from_leaves, table_from_weights, table_from_blocks};
 

@@ -1,24 +1,21 @@
 -- What the functions read and find is what the definitions say.
 use Prim.Native.Nat.{ℕ, ◌+◌, ◌-◌, ◌*◌, ◌≤◌, ◌<◌}
-use native.Mathlib.Nat.{add-sub_cancel_left}
 use native.Mathlib.Omega.{arith}
-use mathlib.Core.Path.{◌≡◌, refl, sym, ap, ◌∙◌}
+use mathlib.Core.Path.{◌≡◌, sym, ap, ◌∙◌}
 use mathlib.Core.Bool.{Bool, true, false, cond, not, ◌&&◌, and-false}
 use mathlib.Core.List.{List}
-use lib.Dec.{leb, ltb, eqb}
+use lib.Dec.{ltb, eqb}
 use lib.ListN.{length}
 use borrow.Author.Tests.{ltb-true, eqb-true, eqb-false, lt-ltb, le-ltb, le-leb, lt-leb, eq-eqb, ne_eqb}
-use Rattle.encoding.specs.Below.{all_below, count_below, least_below}
+use Rattle.encoding.specs.Below.{count_below}
 use Rattle.encoding.specs.Pieces.{piece}
 use Rattle.encoding.proofs.Below.{tests, either, clash, and_fst, and_snd}
-use Rattle.records.specs.Shape.{face_count}
-use Rattle.records.specs.Record.{core_size, tree_size, number_of, shape_of, neighbour_of, boundary_ok}
+use Rattle.records.specs.Record.{core_size, tree_size, number_of, neighbour_of, boundary_ok}
 use Rattle.mesh.specs.Means.{link_by_dimension}
-use Rattle.part.specs.Means.{in_range, ghost_has}
-use Rattle.positions.specs.Means.{member_position, Indexed}
+use Rattle.part.specs.Means.{in_range}
+use Rattle.positions.specs.Means.{member_position}
 use Rattle.ghost_links.specs.Means.{core_from}
 use Rattle.ghost_links.proofs.Checking.{position_is}
-use Rattle.ghost_links.proofs.FromOneEnd.{range_both}
 use Rattle.linked.specs.declared.layout.Records.{Records}
 use Rattle.linked.specs.Means.{record_place, tree_of, ghost_of, named, name_of, place_of, tree_numbered, tree_to, tree_link, tree_up, tree_down, tree_listed, tree_fits, tree_face, tree_place, Laid, Marked, TreeKnown}
 

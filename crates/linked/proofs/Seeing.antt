@@ -5,19 +5,17 @@ use mathlib.Core.Path.{◌≡◌, refl, sym, ap, ◌∙◌}
 use mathlib.Core.Bool.{Bool, true, false, cond, not, ◌&&◌, ◌||◌, and-false}
 use mathlib.Core.List.{List}
 use lib.Dec.{leb, ltb, eqb}
-use borrow.Author.Tests.{ltb-true, leb-true, eqb-true, eqb-false, lt-ltb, le-ltb, le-leb, eq-eqb, ne_eqb}
+use borrow.Author.Tests.{ltb-true, leb-true, eqb-true, eqb-false, lt-ltb, le-ltb, le-leb, eq-eqb}
 use Rattle.encoding.specs.Below.{all_below, count_below}
 use Rattle.encoding.specs.Pieces.{piece}
-use Rattle.encoding.proofs.Below.{tests, either, clash, and_fst, and_snd, and_intro, iff_eq}
+use Rattle.encoding.proofs.Below.{tests, either, and_fst, and_snd, and_intro, iff_eq}
 use Rattle.records.specs.Shape.{shape_ok, dimension_of, face_count}
 use Rattle.records.specs.Record.{core_size, tree_size, number_of, shape_of, neighbour_of, code_of, zeros_ok, region_ok, boundary_ok}
-use Rattle.records.specs.Means.{unused_from}
 use Rattle.records.proofs.Forms.{unused_first}
 use Rattle.mesh.specs.Means.{link_by_dimension, SeenAs}
 use Rattle.mesh.proofs.PlainTrees.{plain_edge}
 use Rattle.part.specs.Means.{in_range}
 use Rattle.ghost_links.specs.Means.{form_alone}
-use Rattle.ghost_links.proofs.FromOneEnd.{range_both}
 use Rattle.linked.specs.declared.layout.Records.{Records}
 use Rattle.linked.specs.Means.{tree_of, named, name_of, place_of, tree_numbered, tree_to, tree_link, tree_up, tree_down, tree_listed, tree_fits, tree_face, tree_seen, tree_ups, tree_downs, tree_place, TreeKnown}
 

@@ -1,4 +1,6 @@
 // Finding a record by its global number.
+#![tactic(auto)]
+
 ghost use Rattle.std.specs.Prelude.{◌≡◌, ◌/◌, ◌≤◌, length};
 ghost use Rattle.encoding.specs.Below.{least_below};
 ghost use Rattle.lookup.specs.Lookup.{has_number, lookup_record, found_record};

@@ -14,7 +14,7 @@ use Rattle.offsets.specs.Limits.{tree_count_ok}
 use Rattle.records.specs.Shape.{shape_ok, dimension_of, face_count, faces_in}
 use Rattle.records.specs.Record.{core_size, tree_size, number_of, shape_of, neighbour_of, code_of, zeros_ok, region_ok, boundary_ok, in_form}
 use Rattle.records.specs.Means.{unused_from}
-use Rattle.mesh.specs.Mesh.{mesh_header, mesh_dimension, mesh_trees, dimension_ok, mesh_core, header_sound, mesh_sound_lem}
+use Rattle.mesh.specs.Mesh.{mesh_header, mesh_dimension, mesh_trees, dimension_ok, mesh_core, header_sound, mesh_sound}
 use Rattle.mesh.specs.Means.{corners_fit, corners_by_dimension, answered_there, answered_by_dimension, link_by_dimension, face_by_dimension, tree_by_dimension, leads_up, leads_down, links_up, links_down}
 use Rattle.mesh.specs.Means.{alone_by_dimension, leads_inside, listed_link, down_sound, listed_sound, face_from_above, tree_from_above, trees_from_above, SeenAs, FacesAs, Reached, RunAs}
 use Rattle.mesh.proofs.FromAbove.{trees_from_above_lem}
@@ -153,8 +153,8 @@ module _ (m : List ℕ) where
   unfolding header_sound
   header_read e t p q r = rw (p, q, r, e, t)
 
-  pub sound_read : {d K : ℕ} {r : Bool} → header_sound m ≡ true → d ≡ mesh_dimension m → K ≡ mesh_trees m → r ≡ trees_from_above (mesh_core m) d K → r ≡ mesh_sound_lem m
-  unfolding mesh_sound_lem
+  pub sound_read : {d K : ℕ} {r : Bool} → header_sound m ≡ true → d ≡ mesh_dimension m → K ≡ mesh_trees m → r ≡ trees_from_above (mesh_core m) d K → r ≡ mesh_sound m
+  unfolding mesh_sound
   sound_read {d} {K} h e t p = rw (p, trees_from_above_lem (mesh_core m) d K, h, e, t)
 
   -- one tree fails; or all pass, and the counts decide

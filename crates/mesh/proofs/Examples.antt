@@ -11,7 +11,7 @@ use Rattle.offsets.specs.Limits.{tree_count_ok}
 use Rattle.records.specs.Shape.{shape_ok, dimension_of, face_count, faces_in, corners_of, corners}
 use Rattle.records.specs.Record.{number_of, shape_of, neighbour_of, code_of, faces_of, face_of, orientation_of, region_of, region_ok, zeros_ok, unused, unused_ok, to_itself, boundary_ok, in_form}
 use Rattle.mesh.specs.Link.{orientation_ok, same_corners, answered, link_ok}
-use Rattle.mesh.specs.Mesh.{mesh_dimension, mesh_trees, dimension_ok, mesh_core, face_sound, tree_sound, header_sound, mesh_sound_lem}
+use Rattle.mesh.specs.Mesh.{mesh_dimension, mesh_trees, dimension_ok, mesh_core, face_sound, tree_sound, header_sound, mesh_sound}
 
 -- numbers of four bytes, one after the other
 unfoldable pub numbers : List ℕ → List ℕ
@@ -35,6 +35,6 @@ unfoldable pub periodic : List ℕ → List ℕ
 periodic codes = numbers (2 ∷ 1 ∷ []) ++ tree_bytes 0 0 (0 ∷ 0 ∷ 0 ∷ 0 ∷ unused ∷ unused ∷ []) codes
 
 -- the three triangles are sound, and so is a quadrilateral whose faces 0 and 1 are linked to each other and, with orientation 1, faces 2 and 3; it isn't where face 3 answers with orientation 0
-pub small_meshes : (mesh_sound_lem triangles ≡ true) × (mesh_sound_lem (periodic (1 ∷ 0 ∷ 7 ∷ 6 ∷ 0 ∷ 0 ∷ [])) ≡ true) × (mesh_sound_lem (periodic (1 ∷ 0 ∷ 7 ∷ 2 ∷ 0 ∷ 0 ∷ [])) ≡ false)
-unfolding mesh_sound_lem header_sound mesh_dimension mesh_trees dimension_ok tree_count_ok mesh_core tree_sound face_sound link_ok orientation_ok same_corners answered shape_ok dimension_of face_count faces_in corners_of corners number_of shape_of neighbour_of code_of faces_of face_of orientation_of region_of region_ok zeros_ok unused_ok to_itself boundary_ok in_form all_below le_at le_value le_bytes piece numbers tree_bytes triangle triangles periodic
+pub small_meshes : (mesh_sound triangles ≡ true) × (mesh_sound (periodic (1 ∷ 0 ∷ 7 ∷ 6 ∷ 0 ∷ 0 ∷ [])) ≡ true) × (mesh_sound (periodic (1 ∷ 0 ∷ 7 ∷ 2 ∷ 0 ∷ 0 ∷ [])) ≡ false)
+unfolding mesh_sound header_sound mesh_dimension mesh_trees dimension_ok tree_count_ok mesh_core tree_sound face_sound link_ok orientation_ok same_corners answered shape_ok dimension_of face_count faces_in corners_of corners number_of shape_of neighbour_of code_of faces_of face_of orientation_of region_of region_ok zeros_ok unused_ok to_itself boundary_ok in_form all_below le_at le_value le_bytes piece numbers tree_bytes triangle triangles periodic
 small_meshes = (refl, refl, refl)

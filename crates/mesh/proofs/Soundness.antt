@@ -19,7 +19,7 @@ use Rattle.records.specs.Record.{core_size, tree_size, number_of, shape_of, neig
 use Rattle.records.proofs.Shapes.{corners_none}
 use Rattle.records.proofs.Forms.{at_piece}
 use Rattle.mesh.specs.Link.{orientation_ok, same_corners, answered, link_ok}
-use Rattle.mesh.specs.Mesh.{mesh_header, mesh_dimension, mesh_trees, dimension_ok, mesh_core, face_sound, tree_sound, header_sound, mesh_sound_lem, face_neighbour}
+use Rattle.mesh.specs.Mesh.{mesh_header, mesh_dimension, mesh_trees, dimension_ok, mesh_core, face_sound, tree_sound, header_sound, mesh_sound, face_neighbour}
 
 -- where three pass, each does
 and_three : (a b c : Bool) → (a && b && c) ≡ true → (a ≡ true) × (b ≡ true) × (c ≡ true)
@@ -71,9 +71,9 @@ header_parts m e =
     let t = and_three (dimension_ok (mesh_dimension m)) (tree_count_ok (mesh_trees m)) (eqb (length m) (mesh_header + tree_size * mesh_trees m)) e in
     (t.0, t.1, eqb-true _ _ t.2)
 
-module _ (m : List ℕ) (sound : mesh_sound_lem m ≡ true) where
+module _ (m : List ℕ) (sound : mesh_sound m ≡ true) where
   pub sound_header : header_sound m ≡ true
-  unfolding mesh_sound_lem
+  unfolding mesh_sound
   sound_header = and_fst (header_sound m) _ sound
 
   pub sound_dimension : (mesh_dimension m ≡ 2) ⊎ (mesh_dimension m ≡ 3)
@@ -88,7 +88,7 @@ module _ (m : List ℕ) (sound : mesh_sound_lem m ≡ true) where
 
   module _ (k : ℕ) (tree : k < mesh_trees m) where
     pub sound_tree : tree_sound (mesh_core m) (mesh_dimension m) (mesh_trees m) k ≡ true
-    unfolding mesh_sound_lem
+    unfolding mesh_sound
     sound_tree = all_at (mesh_trees m) _ (and_snd (header_sound m) _ sound) k tree
 
     -- the record is in the buffer
@@ -161,8 +161,8 @@ module _ (a b : ℕ → List ℕ) (K : ℕ) (same : (k : ℕ) → k < K → a k 
   unfolding tree_sound
   tree-cores d = rw (same k tree, all_same (face_count (shape_of (b k))) (face_sound a K k) (face_sound b K k) (λ f p. face-cores f))
 
-pub sound_cores : (a b : List ℕ) → length a ≡ length b → piece a 0 mesh_header ≡ piece b 0 mesh_header → ((k : ℕ) → k < mesh_trees a → mesh_core a k ≡ mesh_core b k) → mesh_sound_lem a ≡ mesh_sound_lem b
-unfolding mesh_sound_lem header_sound mesh_dimension mesh_trees
+pub sound_cores : (a b : List ℕ) → length a ≡ length b → piece a 0 mesh_header ≡ piece b 0 mesh_header → ((k : ℕ) → k < mesh_trees a → mesh_core a k ≡ mesh_core b k) → mesh_sound a ≡ mesh_sound b
+unfolding mesh_sound header_sound mesh_dimension mesh_trees
 sound_cores a b l e same =
     let number : (off : ℕ) → off + 4 ≤ mesh_header → u32_at a (0 + off) ≡ u32_at b (0 + off) =
     λ off h. sym (at_piece 4 a 0 mesh_header off h) ∙ ap (λ p. u32_at p off) e ∙ at_piece 4 b 0 mesh_header off h in

@@ -1,5 +1,5 @@
 -- A whole mesh: dimension and K (u32 each), then K tree records in order, neighbours as global numbers.
-use Rattle.std.specs.Prelude.{ℕ, ◌+◌, ◌*◌, Bool, true, cond, ◌&&◌, ◌||◌, List, [], ◌∷◌, ltb, eqb, length}
+use Rattle.std.specs.Prelude.{ℕ, ◌+◌, ◌*◌, Bool, ◌&&◌, ◌||◌, List, [], ◌∷◌, ltb, eqb, length}
 use Rattle.encoding.specs.Below.{all_below, any_below}
 use Rattle.encoding.specs.Numbers.{u32_at}
 use Rattle.encoding.specs.Pieces.{piece}
@@ -44,12 +44,12 @@ unfoldable pub header_sound : List ℕ → Bool
 header_sound m = dimension_ok (mesh_dimension m) && tree_count_ok (mesh_trees m) && eqb (length m) (mesh_header + tree_size * mesh_trees m)
 
 -- the mesh is sound
-unfoldable pub mesh_sound_lem : List ℕ → Bool
-mesh_sound_lem m = header_sound m && all_below (mesh_trees m) (tree_sound (mesh_core m) (mesh_dimension m) (mesh_trees m))
+unfoldable pub mesh_sound : List ℕ → Bool
+mesh_sound m = header_sound m && all_below (mesh_trees m) (tree_sound (mesh_core m) (mesh_dimension m) (mesh_trees m))
 
 -- check a whole mesh
 unfoldable pub mesh_refusal : List ℕ → ℕ
-mesh_refusal m = first_failed (check (mesh_sound_lem m) 7 ∷ [])
+mesh_refusal m = first_failed (check (mesh_sound m) 7 ∷ [])
 
 -- n is a face neighbour of tree k
 unfoldable pub face_neighbour : (ℕ → List ℕ) → ℕ → ℕ → Bool

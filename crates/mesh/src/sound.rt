@@ -3,7 +3,7 @@ ghost use Rattle.std.specs.Prelude.{◌≡◌, true, false, cond, ◌+◌, ◌*�
 ghost use Rattle.encoding.specs.Below.{all_below, count_below};
 ghost use Rattle.encoding.specs.Pieces.{piece};
 ghost use Rattle.records.specs.Record.{core_size, tree_size};
-ghost use Rattle.mesh.specs.Mesh.{mesh_header, mesh_core, mesh_sound_lem};
+ghost use Rattle.mesh.specs.Mesh.{mesh_header, mesh_core, mesh_sound};
 ghost use Rattle.mesh.specs.Means.{packed, link_by_dimension, leads_inside, listed_link, down_sound, listed_sound, leads_up, leads_down, links_up, links_down, alone_by_dimension, face_from_above, tree_from_above, trees_from_above, SeenAs};
 
 use crate::layout::{dimension, header_sound, tree_at, trees};
@@ -227,7 +227,7 @@ fn trees_sound(mesh: &[u8], dimension: u32, trees: u32) -> bool
 }
 
 pub fn sound(mesh: &[u8]) -> bool
-    ensures { result ≡ mesh_sound_lem mesh.now }
+    ensures { result ≡ mesh_sound mesh.now }
 {
     if !header_sound(mesh) {
         return false;

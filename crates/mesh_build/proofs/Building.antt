@@ -22,7 +22,7 @@ use Rattle.records.specs.Links.{Rows}
 use Rattle.records.proofs.Shapes.{count_six, count_faces, faces_six, faces_positive, corners_none}
 use Rattle.records.proofs.Forms.{piece_piece, form_intro}
 use Rattle.mesh.specs.Link.{orientation_ok, same_corners, answered, link_ok}
-use Rattle.mesh.specs.Mesh.{mesh_header, mesh_dimension, mesh_trees, dimension_ok, mesh_core, face_sound, tree_sound, header_sound, mesh_sound_lem}
+use Rattle.mesh.specs.Mesh.{mesh_header, mesh_dimension, mesh_trees, dimension_ok, mesh_core, face_sound, tree_sound, header_sound, mesh_sound}
 use Rattle.mesh_build.specs.Build.{NewLink, tree_rows, new_core, new_tree, new_header, built_trees, built_mesh, LinksFit, BuiltSound}
 use Rattle.mesh_build.proofs.Records.{core_length, core_number, core_shape, core_zeros, core_region, core_neighbour, core_code, core_face, core_orientation, tree_length, rows_six, row_used, row_unused}
 
@@ -237,7 +237,7 @@ module _ (shape : ℕ) (link : ℕ → ℕ → NewLink) (K : ℕ) (fit : LinksFi
       rw (form-ok k tree, built_number k tree, built_shape k tree, eq-eqb k k refl, eq-eqb (dimension_of shape) (dimension_of shape) refl) all
 
 pub built_sound : BuiltSound
-unfolding mesh_sound_lem header_sound
+unfolding mesh_sound header_sound
 built_sound shape link K fit =
     let d : dimension_ok (dimension_of shape) ≡ true = shape_dimension shape fit.shape_there in
     let all : all_below K (tree_sound (mesh_core (built_mesh shape link K)) (dimension_of shape) K) ≡ true = all_intro K _ (λ k h. tree_ok shape link K fit k h) in

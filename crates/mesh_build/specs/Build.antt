@@ -5,7 +5,7 @@ use Rattle.offsets.specs.Limits.{tree_count_ok}
 use Rattle.records.specs.Shape.{dimension_of, face_count, faces_in, corners}
 use Rattle.records.specs.Record.{unused}
 use Rattle.records.specs.Links.{with_rows}
-use Rattle.mesh.specs.Mesh.{mesh_sound_lem}
+use Rattle.mesh.specs.Mesh.{mesh_sound}
 
 -- the link of a face: the neighbour across it, the neighbour's face, and the orientation
 pub record NewLink : Type 0 where
@@ -62,4 +62,4 @@ module _ (shape : ℕ) (link : ℕ → ℕ → NewLink) where
 
 -- such a mesh is sound
 abbrev pub BuiltSound : Type 0
-BuiltSound = (shape : ℕ) (link : ℕ → ℕ → NewLink) (K : ℕ) → LinksFit shape link K → mesh_sound_lem (built_mesh shape link K) ≡ true
+BuiltSound = (shape : ℕ) (link : ℕ → ℕ → NewLink) (K : ℕ) → LinksFit shape link K → mesh_sound (built_mesh shape link K) ≡ true

@@ -1,2 +1,4 @@
 // Whole meshes written from a function of links.
+#![tactic(auto)]
+
 pub mod write;

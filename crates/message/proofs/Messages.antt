@@ -24,7 +24,7 @@ use Rattle.records.proofs.Forms.{piece_piece}
 use Rattle.pattern.specs.Sender.{Tables, sends, sent_first, sent_count}
 use Rattle.pattern.proofs.Senders.{sender_holds, sends_true}
 use Rattle.pattern.proofs.Sets.{new_below, sent_below, sent_in}
-use Rattle.mesh.specs.Mesh.{mesh_header, mesh_dimension, mesh_trees, dimension_ok, mesh_core, mesh_record, mesh_sound_lem}
+use Rattle.mesh.specs.Mesh.{mesh_header, mesh_dimension, mesh_trees, dimension_ok, mesh_core, mesh_record, mesh_sound}
 use Rattle.mesh.proofs.Soundness.{header_parts, sound_header, sound_fits, sound_core, sound_form, sound_number, sound_shape, neighbour_below}
 use Rattle.part.specs.Ghosts.{is_ghost}
 use Rattle.message.specs.Layout.{message_tree_place, message_size, message_header_bytes, message_epoch, message_dimension, message_k, message_p, message_sender, message_receiver, message_trees, message_ghosts, message_tree, message_ghost, record_laid, size_laid, after_last, records_laid, in_layout}
@@ -233,10 +233,10 @@ module _ (core : ℕ → List ℕ) (old new : List ℕ) (hand : ℕ → Bool) (t
 
     -- all below 2 ^ 32
     few_trees : trees old ≤ 1048576
-    few_trees = trees_high old T.old_bytes_lem T.old_ranks T.old_valid_lem
+    few_trees = trees_high old T.old_bytes T.old_ranks T.old_valid
 
     few_ranks : ranks old ≤ max_ranks
-    few_ranks = ranks_high_lem old T.old_bytes_lem T.old_ranks T.old_valid_lem
+    few_ranks = ranks_high_lem old T.old_bytes T.old_ranks T.old_valid
 
     few-sent : n ≤ 1048576
     few-sent = omega (arith, sent_below old new T p q is_sender is-receiver, few_trees)
@@ -342,7 +342,7 @@ module _ (core : ℕ → List ℕ) (old new : List ℕ) (hand : ℕ → Bool) (t
 
 -- ---- the message of a sound mesh
 
-module _ (mesh old new : List ℕ) (sound : mesh_sound_lem mesh ≡ true) (same : mesh_trees mesh ≡ trees old) (T : Tables old new) (p q : ℕ) (is-receiver : q < ranks old) where
+module _ (mesh old new : List ℕ) (sound : mesh_sound mesh ≡ true) (same : mesh_trees mesh ≡ trees old) (T : Tables old new) (p q : ℕ) (is-receiver : q < ranks old) where
   record_core : (k : ℕ) → piece (mesh_record mesh k) 0 core_size ≡ mesh_core mesh k
   unfolding mesh_record mesh_core
   record_core k = piece_piece mesh (mesh_header + tree_size * k) tree_size 0 core_size (omega arith) ∙ ap (λ (at : ℕ). piece mesh at core_size) (add-zero (mesh_header + tree_size * k))

@@ -1,4 +1,6 @@
 // Messages between ranks.
+#![tactic(auto)]
+
 ghost use Rattle.std.specs.Prelude.{◌≡◌};
 ghost use Rattle.message.specs.Calls.{message_refusal, reading_of};
 

@@ -46,8 +46,8 @@ module _ (part old new : List ℕ) (p q low n : ℕ) (range : SendingRange part 
   ghosts_go marks {g} ghosts e =
       let c : g ≡ count_below (trees old) (ghost_goes (part_core part) old new (part_holds part) (part_record part) p q) = e ∙ count_is part old new p q from marks ghosts in
       let T = from.pair.tables in
-      let K = trees_high old T.old_bytes_lem T.old_ranks T.old_valid_lem in
-      let sent = sent_below old new T p q from.pair.sender_below_lem from.pair.receiver_below_lem in
+      let K = trees_high old T.old_bytes T.old_ranks T.old_valid in
+      let sent = sent_below old new T p q from.pair.sender_below from.pair.receiver_below in
       record {
         marked = ghosts;
         counted = e;
@@ -63,7 +63,7 @@ module _ (part old new : List ℕ) (p q low n : ℕ) (range : SendingRange part 
   pub words_known : (part_header ≤ length part) × (part_k part ≤ max_trees)
   words_known =
       let T = from.pair.tables in
-      (omega (arith, part_length part old p from.sound), omega (arith, (part_header_lem part old p from.sound).all_trees, trees_high old T.old_bytes_lem T.old_ranks T.old_valid_lem))
+      (omega (arith, part_length part old p from.sound), omega (arith, (part_header_lem part old p from.sound).all_trees, trees_high old T.old_bytes T.old_ranks T.old_valid))
 
   pub marks_room : (marks : List ℕ) {words : ℕ} → length marks ≡ words → part_k part ≤ 64 * words → words ≤ mark_words → Room old marks
   marks_room marks e h l = record { enough = omega (arith, (part_header_lem part old p from.sound).all_trees); few = omega arith }
@@ -110,10 +110,10 @@ all_hold r false e f h = absurd (either (eqb r 0) (λ z. omega (arith, rw z at h
 module _ (old new : List ℕ) (p q : ℕ) (b : Bytes old) (b' : Bytes new) {r : ℕ} (tables : r ≡ first_failed (table_checks old new)) (ok : r ≡ 0) {P : ℕ} (is_p : P ≡ ranks old)
     (sender : p < P) (receiver : q < P) where
   pub pair_of : PairOf old new p q
-  pair_of = record { tables = tables_agree old new r tables b b' ok; sender_below_lem = rw is_p at sender; receiver_below_lem = rw is_p at receiver }
+  pair_of = record { tables = tables_agree old new r tables b b' ok; sender_below = rw is_p at sender; receiver_below = rw is_p at receiver }
 
   pub rank_known : RankKnown old p
-  rank_known = let t = tables_agree old new r tables b b' ok in record { counted = t.old_ranks; checked = t.old_valid_lem; below = rw is_p at sender }
+  rank_known = let t = tables_agree old new r tables b b' ok in record { counted = t.old_ranks; checked = t.old_valid; below = rw is_p at sender }
 
 module _ (part old new : List ℕ) (p q : ℕ) where
   abbrev ranks_below : Bool
@@ -157,8 +157,8 @@ module _ (part old new : List ℕ) (p q : ℕ) where
       record {
         pair = record {
           tables = tables_agree old new tables_failed refl b b' h.0;
-          sender_below_lem = ltb-true p (ranks old) (and_fst (ltb p (ranks old)) (ltb q (ranks old)) h.1.0);
-          receiver_below_lem = ltb-true q (ranks old) (and_snd (ltb p (ranks old)) (ltb q (ranks old)) h.1.0);
+          sender_below = ltb-true p (ranks old) (and_fst (ltb p (ranks old)) (ltb q (ranks old)) h.1.0);
+          receiver_below = ltb-true q (ranks old) (and_snd (ltb p (ranks old)) (ltb q (ranks old)) h.1.0);
         };
         sound = h.1.1;
       }

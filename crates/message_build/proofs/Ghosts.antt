@@ -106,19 +106,19 @@ module _ (part : List ℕ) (k : ℕ) where
 
 module _ (part : List ℕ) (count ghosts faces first k : ℕ) (known : Searchable part count ghosts faces first) {b : Bool} (test : b ≡ in_range first (first + count) k) where
   test-is : b ≡ inside part k
-  test-is = rw (known.is_first_lem, known.opened.is_count_lem) at test
+  test-is = rw (known.is_first, known.opened.is_count) at test
 
   pub core_local : b ≡ true → renamed (global_number part) faces (piece part (tree_place (k - first)) core_size) ≡ part_core part k
   unfolding global_tree stored_tree
-  core_local h = rw (core-read part k, ← test-is, h, known.is_faces, known.is_first_lem)
+  core_local h = rw (core-read part k, ← test-is, h, known.is_faces, known.is_first)
 
   module _ (out : b ≡ false) where
     some-ghost : part_holds part k ≡ true → any_below ghosts (ghost_has (ghost_core part count) k) ≡ true
-    some-ghost e = rw (known.opened.is_count_lem, known.opened.is_ghosts_lem) (rw (holds_read part k, ← test-is, out) at e)
+    some-ghost e = rw (known.opened.is_count, known.opened.is_ghosts) (rw (holds_read part k, ← test-is, out) at e)
 
     core-found : {p : ℕ} → p ≡ least_below ghosts (ghost_has (ghost_core part count) k) → piece part (ghost_place count p) core_size ≡ part_core part k
     unfolding ghost_core
-    core-found e = rw (core-read part k, ← test-is, out, e, known.opened.is_count_lem, known.opened.is_ghosts_lem)
+    core-found e = rw (core-read part k, ← test-is, out, e, known.opened.is_count, known.opened.is_ghosts)
 
 module _ (part out : List ℕ) (count ghosts faces first k to : ℕ) (room : GhostRoom part out count ghosts faces first k to) {b : Bool} (test : b ≡ in_range first (first + count) k) where
   pub local_room : {from : ℕ} → b ≡ true → from ≡ tree_place (k - first) → RecordRoom part out count ghosts faces core_size from to

@@ -34,7 +34,7 @@ module _ (part : List ℕ) (count ghosts faces first low n : ℕ) (out₀ : List
 
   record_is : (k : ℕ) → renamed (global_number part) faces (piece part (tree_place (k - first)) tree_size) ≡ part_record part k
   unfolding part_record
-  record_is k = rw (room.known.is_faces, room.known.is_first_lem)
+  record_is k = rw (room.known.is_faces, room.known.is_first)
 
   record_long : (k : ℕ) → low ≤ k → k < low + n → length (part_record part k) ≡ tree_size
   unfolding renamed

@@ -80,7 +80,7 @@ module _ (part old new : List ℕ) (p q : ℕ) (from : Sending part old new p q)
   says = part_header_lem part old p from.sound
 
   range_end : part_first part + part_count part ≡ end_tree old p
-  range_end = rw (says.first_tree_lem, says.tree_count_lem) (count_add old T.old_bytes_lem T.old_ranks T.old_valid_lem p from.pair.sender_below_lem)
+  range_end = rw (says.first_tree_lem, says.tree_count_lem) (count_add old T.old_bytes T.old_ranks T.old_valid p from.pair.sender_below)
 
   number_there : (i : ℕ) → number_at part (ghost_place (part_count part) 0) i ≡ number_of (stored_ghost part i)
   unfolding number_at stored_ghost
@@ -91,11 +91,11 @@ module _ (part old new : List ℕ) (p q : ℕ) (from : Sending part old new p q)
   searchable : Searchable part (part_count part) (part_ghost_count part) (faces_in (part_dimension part)) (part_first part)
   searchable =
       record {
-        opened = record { is_count_lem = refl; is_ghosts_lem = refl; long = part_length part old p from.sound };
+        opened = record { is_count = refl; is_ghosts = refl; long = part_length part old p from.sound };
         faced = faces_positive (part_dimension part);
         is_faces = refl;
-        is_first_lem = refl;
-        small = omega (arith, range_end, end_trees old T.old_bytes_lem T.old_ranks T.old_valid_lem p from.pair.sender_below_lem, trees_high old T.old_bytes_lem T.old_ranks T.old_valid_lem);
+        is_first = refl;
+        small = omega (arith, range_end, end_trees old T.old_bytes T.old_ranks T.old_valid p from.pair.sender_below, trees_high old T.old_bytes T.old_ranks T.old_valid);
         ascending = record {
           fits = omega (arith, part_length part old p from.sound);
           ascends = λ i j h l. rw (number_there i, number_there j) (part_ascends part old p from.sound i j h l);
@@ -106,13 +106,13 @@ module _ (part old new : List ℕ) (p q : ℕ) (from : Sending part old new p q)
   sent-here : (k : ℕ) → sends old new p q k ≡ true → (part_first part ≤ k) × (k < part_first part + part_count part)
   sent-here k e =
       let s = sends_true old new T p q k e in
-      let below : k < trees old = new_below old new T q k from.pair.receiver_below_lem s.0 in
-      let h : holds old p k ≡ true = rw s.1 at (sender_holds old new T k q below from.pair.receiver_below_lem) in
+      let below : k < trees old = new_below old new T q k from.pair.receiver_below s.0 in
+      let h : holds old p k ≡ true = rw s.1 at (sender_holds old new T k q below from.pair.receiver_below) in
       let r = holds_true old p k h in
       (omega (arith, r.0, says.first_tree_lem), omega (arith, r.1, range_end))
 
   sent-inside : (k : ℕ) → sent_first old new p q ≤ k → k < sent_first old new p q + sent_count old new p q → (part_first part ≤ k) × (k < part_first part + part_count part)
-  sent-inside k h l = sent-here k (sent_in old new T p q from.pair.sender_below_lem from.pair.receiver_below_lem k h l)
+  sent-inside k h l = sent-here k (sent_in old new T p q from.pair.sender_below from.pair.receiver_below k h l)
 
   abbrev goes : ℕ → Bool
   goes = ghost_goes (part_core part) old new (part_holds part) (part_record part) p q
@@ -127,7 +127,7 @@ module _ (part old new : List ℕ) (p q : ℕ) (from : Sending part old new p q)
 
   -- and below K
   goes-below : (k : ℕ) → goes k ≡ true → k < trees old
-  goes-below k e = omega (arith, says.all_trees, part_below part old p from.sound T.old_bytes_lem T.old_ranks T.old_valid_lem from.pair.sender_below_lem k (goes-held k e))
+  goes-below k e = omega (arith, says.all_trees, part_below part old p from.sound T.old_bytes T.old_ranks T.old_valid from.pair.sender_below k (goes-held k e))
 
   records-fit : RecordsLong (part_core part) old new (part_holds part) (part_record part) p q
   unfolding part_record renamed
@@ -145,7 +145,7 @@ module _ (part old new : List ℕ) (p q : ℕ) (from : Sending part old new p q)
   pub built_length : (epoch : ℕ) → length (part_message part old new p q epoch) ≡ message_size (sent_count old new p q) (count_below (trees old) goes)
   unfolding part_message
   built_length epoch =
-      message_length (part_core part) old new (part_holds part) (part_record part) p q T from.pair.sender_below_lem from.pair.receiver_below_lem epoch (part_dimension part) records-fit
+      message_length (part_core part) old new (part_holds part) (part_record part) p q T from.pair.sender_below from.pair.receiver_below epoch (part_dimension part) records-fit
 
   trees_are : (low n : ℕ) → records_from (part_record part) low n ≡ trees_from (part_core part) old new (part_holds part) (part_record part) p q low n
   unfolding records_from trees_from
@@ -216,7 +216,7 @@ module _ (part old new : List ℕ) (p q low n g epoch : ℕ) (marks out : List �
         record {
           known = searchable part old new p q from;
           inside = rw (is_low, is_n) (sent-inside part old new p q from);
-          within = rw (is_low, is_n) (omega (arith, sent_below old new from.pair.tables p q from.pair.sender_below_lem from.pair.receiver_below_lem, trees_high old from.pair.tables.old_bytes_lem from.pair.tables.old_ranks from.pair.tables.old_valid_lem));
+          within = rw (is_low, is_n) (omega (arith, sent_below old new from.pair.tables p q from.pair.sender_below from.pair.receiver_below, trees_high old from.pair.tables.old_bytes from.pair.tables.old_ranks from.pair.tables.old_valid));
           members = record {
             words = ok.ghosts.room.few;
             has = λ k e. goes-held part old new p q from k (sym (ok.ghosts.member k) ∙ e);

@@ -28,20 +28,20 @@ module _ (part : List ℕ) (count ghosts : ℕ) (o : Opened part count ghosts) (
   module _ (used : j ≡ unused → ⊥) where
     pub index_tree : {at r : ℕ} → j < count → at ≡ tree_place j → r ≡ number_of (piece part at core_size) → r ≡ global_number part j
     unfolding global_number stored_tree
-    index_tree h e p = rw (ne_eqb j unused used, ← o.is_count_lem, lt-ltb j count h, ← e, p)
+    index_tree h e p = rw (ne_eqb j unused used, ← o.is_count, lt-ltb j count h, ← e, p)
 
     module _ (past : count ≤ j) where
       pub index_ghost : {at r : ℕ} → j - count < ghosts → at ≡ ghost_place count (j - count) → r ≡ number_of (piece part at core_size) → r ≡ global_number part j
       unfolding global_number stored_ghost
       index_ghost h e p =
           let l : j < count + ghosts = omega arith in
-          rw (ne_eqb j unused used, ← o.is_count_lem, ← o.is_ghosts_lem, le-ltb j count past, lt-ltb j (count + ghosts) l, ← e, p)
+          rw (ne_eqb j unused used, ← o.is_count, ← o.is_ghosts, le-ltb j count past, lt-ltb j (count + ghosts) l, ← e, p)
 
       pub index_none : ghosts ≤ j - count → no_tree ≡ global_number part j
       unfolding global_number
       index_none h =
           let l : count + ghosts ≤ j = omega arith in
-          rw (ne_eqb j unused used, ← o.is_count_lem, ← o.is_ghosts_lem, le-ltb j count past, le-ltb j (count + ghosts) l)
+          rw (ne_eqb j unused used, ← o.is_count, ← o.is_ghosts, le-ltb j count past, le-ltb j (count + ghosts) l)
 
 -- ---- one record
 

@@ -19,8 +19,8 @@ use Rattle.message_ghosts.specs.Means.{SendingRange, Marks}
 
 -- what stands in the header of a part, and its length
 pub record Opened (part : List ℕ) (count ghosts : ℕ) : Type 0 where
-  pub is_count_lem : count ≡ part_count part
-  pub is_ghosts_lem : ghosts ≡ part_ghost_count part
+  pub is_count : count ≡ part_count part
+  pub is_ghosts : ghosts ≡ part_ghost_count part
   pub long : length part ≡ part_size count ghosts
 
 -- and what is known of a sound part besides: the trees begin with the first, the ghosts ascend
@@ -28,7 +28,7 @@ pub record Searchable (part : List ℕ) (count ghosts faces first : ℕ) : Type 
   pub opened : Opened part count ghosts
   pub faced : 0 < faces
   pub is_faces : faces ≡ faces_in (part_dimension part)
-  pub is_first_lem : first ≡ part_first part
+  pub is_first : first ≡ part_first part
   pub small : first + count ≤ max_trees
   pub ascending : Ascending part (ghost_place count 0) ghosts
 

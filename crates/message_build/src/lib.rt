@@ -1,4 +1,6 @@
 // Building a message from a part.
+#![tactic(auto)]
+
 ghost use Rattle.std.specs.Prelude.{◌≡◌};
 ghost use Rattle.message.specs.Calls.{message_length_of, build_message_of};
 

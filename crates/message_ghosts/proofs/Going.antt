@@ -32,7 +32,7 @@ module _ (part old new : List ℕ) (p q : ℕ) (s : Sending part old new p q) wh
   T = s.pair.tables
 
   abbrev Q : q < ranks old
-  Q = s.pair.receiver_below_lem
+  Q = s.pair.receiver_below
 
   -- ---- one ghost
 
@@ -46,13 +46,13 @@ module _ (part old new : List ℕ) (p q : ℕ) (s : Sending part old new p q) wh
   in_range_lem : (t : ℕ) → sends old new p q t ≡ true → (low ≤ t) × (t < low + count)
   in_range_lem t e =
       let l : t < trees old = new_below old new T q t Q (sends_true old new T p q t e).0 in
-      range_true low (low + count) t (sym (one_range old new T p q s.pair.sender_below_lem Q t l) ∙ e)
+      range_true low (low + count) t (sym (one_range old new T p q s.pair.sender_below Q t l) ∙ e)
 
   -- p sends q a tree: then the trees that q gets from itself, or from a rank below p, are those that q held and those below the first from p
   module _ (t : ℕ) (sent : sends old new p q t ≡ true) where
     -- the first tree from p is one from p
     first-sent : sends old new p q low ≡ true
-    first-sent = let r = in_range_lem t sent in sent_in old new T p q s.pair.sender_below_lem Q low (omega arith) (omega (arith, r.0, r.1))
+    first-sent = let r = in_range_lem t sent in sent_in old new T p q s.pair.sender_below Q low (omega arith) (omega (arith, r.0, r.1))
 
     first_below : low < trees old
     first_below = new_below old new T q low Q (sends_true old new T p q low first-sent).0
@@ -152,7 +152,7 @@ module _ (part old new : List ℕ) (p q : ℕ) (s : Sending part old new p q) wh
         let own : sends_beside core old new q q g ≡ false =
         either (sends_beside core old new q q g) (λ c. clash (other-seen q c (rw (eq-eqb q q refl))) b) (λ c. c) in
         let is : least ≡ p =
-        least_is (ranks old) (λ r. sends_beside core old new r q g) p s.pair.sender_below_lem beside
+        least_is (ranks old) (λ r. sends_beside core old new r q g) p s.pair.sender_below beside
         (λ r l. either (sends_beside core old new r q g) (λ c. clash (other-seen r c (either (eqb r q) (λ x. rw x) (λ x. rw x (lt-ltb r p l)))) b) (λ c. c)) in
         rw (b, own, is) (eq-eqb p p refl))))
 
@@ -224,7 +224,7 @@ module _ (part old new : List ℕ) (p q : ℕ) (s : Sending part old new p q) wh
       let a = any_at count near e in
       let t : ℕ = low + a.0 in
       let b = any_at (face_count (shape_of (core t))) (λ f. goes_across part old new p q low t f k) a.2 in
-      goes-there t b.0 k (sent_in old new T p q s.pair.sender_below_lem Q t (omega arith) (omega (arith, a.1))) b.1 b.2)
+      goes-there t b.0 k (sent_in old new T p q s.pair.sender_below Q t (omega arith) (omega (arith, a.1))) b.1 b.2)
       (λ e.
       let b = goes_back k e in
       let t : ℕ = b.0 in

@@ -99,7 +99,7 @@ module _ (part old new : List ℕ) (p q : ℕ) (s : Sending part old new p q) wh
   -- words for all records
   pub words_few : Bytes part → (count ghosts : ℕ) → count ≡ part_count part → ghosts ≡ part_ghost_count part → count + ghosts ≤ 1048576
   words_few b count ghosts c g =
-      omega (arith, c, g, records_few part old new p q (part_count part) (record { sending = s; bytes = b; counted = refl }), trees_high old T.old_bytes_lem T.old_ranks T.old_valid_lem)
+      omega (arith, c, g, records_few part old new p q (part_count part) (record { sending = s; bytes = b; counted = refl }), trees_high old T.old_bytes T.old_ranks T.old_valid)
 
   -- nothing is sent
   pub none_sent : (marks ws : List ℕ) (n : ℕ) → Room old marks → ws ≡ replicate (length marks) 0 → n ≡ sent_count old new p q → n ≡ 0 → Marks part old new p q ws
@@ -131,8 +131,8 @@ module _ (part old new : List ℕ) (p q : ℕ) (s : Sending part old new p q) wh
         let e = part_header_lem part old p s.sound in
         let f : part_first part ≡ first_tree old p = e.first_tree_lem in
         let m : part_count part ≡ tree_count old p = e.tree_count_lem in
-        let r = holds_true old p (low + i) (sent_held part old new p q s (low + i) (sent_in old new T p q s.pair.sender_below_lem s.pair.receiver_below_lem (low + i) (omega arith) (omega arith))) in
-        (omega (arith, r.0), omega (arith, r.1, count_add old T.old_bytes_lem T.old_ranks T.old_valid_lem p s.pair.sender_below_lem))
+        let r = holds_true old p (low + i) (sent_held part old new p q s (low + i) (sent_in old new T p q s.pair.sender_below s.pair.receiver_below (low + i) (omega arith) (omega arith))) in
+        (omega (arith, r.0), omega (arith, r.1, count_add old T.old_bytes T.old_ranks T.old_valid p s.pair.sender_below))
 
     pub sent_from : 0 < n → own ≤ low
     sent_from h = omega (arith, (sent-range 0 h).0)
@@ -202,7 +202,7 @@ module _ (part old new : List ℕ) (p q : ℕ) (s : Sending part old new p q) wh
               let r = range_both start (start + n) j e in
               let i : number_in part count j ≡ part_first part + j = tree_number part old new p q count known j (omega (arith, in-part, r.1)) in
               let h : holds new q (part_first part + j) ≡ true =
-              (sends_true old new T p q (part_first part + j) (sent_in old new T p q s.pair.sender_below_lem s.pair.receiver_below_lem (part_first part + j) (omega (arith, r.0)) (omega (arith, r.1)))).0 in
+              (sends_true old new T p q (part_first part + j) (sent_in old new T p q s.pair.sender_below s.pair.receiver_below (part_first part + j) (omega (arith, r.0)) (omega (arith, r.1)))).0 in
               rw (i, h)
 
           -- the members that go are what goes beside the trees sent

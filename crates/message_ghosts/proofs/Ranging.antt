@@ -58,7 +58,7 @@ both_orders false l a b = refl
 module _ {old new : List ℕ} {q : ℕ} (r : RankOf old new q) where
   -- q's new range has 32 bits
   pub new_range : (first_tree new q ≤ end_tree new q) × (end_tree new q ≤ 1048576)
-  new_range = range_fits_lem new (ranks old) q r.tables.new_bytes_lem r.tables.new_ranks r.tables.new_valid_lem (sym r.tables.same_ranks) r.rank_below_lem
+  new_range = range_fits_lem new (ranks old) q r.tables.new_bytes r.tables.new_ranks r.tables.new_valid (sym r.tables.same_ranks) r.rank_below
 
   pub ranged : (low first end below kept until a b : ℕ) → first ≡ first_tree new q → end ≡ end_tree new q → a ≡ first_tree old q → b ≡ end_tree old q → CutAt first end low below → CutAt first end a kept → CutAt kept end b until
       → Ranged old new q low first end below kept until

@@ -46,10 +46,10 @@ module _ (part : List ℕ) (n j at : ℕ) (place : at ≡ record_place n j) wher
 
 module _ {old new : List ℕ} {q : ℕ} (r : RankOf old new q) where
   pub rank_row : table_length (q + 1) ≤ length old
-  rank_row = row_fits old q r.tables.old_ranks r.rank_below_lem
+  rank_row = row_fits old q r.tables.old_ranks r.rank_below
 
   pub rank_new_row : table_length (q + 1) ≤ length new
-  rank_new_row = receiver_in_new old new r.tables q r.rank_below_lem
+  rank_new_row = receiver_in_new old new r.tables q r.rank_below
 
 -- a neighbour as it is read
 pub neighbour_before : (part old new : List ℕ) (q low count j faces f : ℕ) → Beside part count j faces → f < faces → {h : ℕ} {b : Bool}

@@ -38,7 +38,7 @@ module _ (part old new : List ℕ) (p q count : ℕ) (k : Known part old new p q
   T = k.sending.pair.tables
 
   abbrev P : p < ranks old
-  P = k.sending.pair.sender_below_lem
+  P = k.sending.pair.sender_below
 
   abbrev ghosts : ℕ
   ghosts = part_ghost_count part
@@ -49,9 +49,9 @@ module _ (part old new : List ℕ) (p q count : ℕ) (k : Known part old new p q
   -- every record held is below K
   pub held_below_lem : (g : ℕ) → part_holds part g ≡ true → (g < trees old) × (g < 1048576)
   held_below_lem g h =
-      let l : g < part_k part = part_below part old p sound T.old_bytes_lem T.old_ranks T.old_valid_lem P g h in
+      let l : g < part_k part = part_below part old p sound T.old_bytes T.old_ranks T.old_valid P g h in
       let e = (part_header_lem part old p sound).all_trees in
-      (omega arith, omega (arith, trees_high old T.old_bytes_lem T.old_ranks T.old_valid_lem))
+      (omega arith, omega (arith, trees_high old T.old_bytes T.old_ranks T.old_valid))
 
   -- ---- where they stand
 
@@ -79,7 +79,7 @@ module _ (part old new : List ℕ) (p q count : ℕ) (k : Known part old new p q
       let f : part_first part ≡ first_tree old p = e.first_tree_lem in
       let n : part_count part ≡ tree_count old p = e.tree_count_lem in
       let c = k.counted in
-      holds_in old p (first + i) (omega arith) (omega (arith, count_add old T.old_bytes_lem T.old_ranks T.old_valid_lem p P))
+      holds_in old p (first + i) (omega arith) (omega (arith, count_add old T.old_bytes T.old_ranks T.old_valid p P))
 
   pub tree_held : (i : ℕ) → i < count → part_holds part (part_first part + i) ≡ true
   tree_held i h = part_tree_lem part old p sound (first + i) (tree-own i h)
@@ -121,29 +121,29 @@ module _ (part old new : List ℕ) (p q count : ℕ) (k : Known part old new p q
 
   -- ---- both
 
-  abbrev ghost_at_lem : ℕ → ℕ
-  ghost_at_lem j = number_of (stored_ghost part j)
+  abbrev ghost_at : ℕ → ℕ
+  ghost_at j = number_of (stored_ghost part j)
 
   -- ghost j has at least j numbers before it
-  ghost-from : (j : ℕ) → j < ghosts → j ≤ ghost_at_lem j
+  ghost-from : (j : ℕ) → j < ghosts → j ≤ ghost_at j
   ghost-from zero h = omega arith
   ghost-from (suc j) h = omega (arith, ghost-from j (omega arith), part_ascends part old p sound j (suc j) (omega arith) h)
 
   -- it is before the trees or behind them
-  ghost-apart : (j : ℕ) → j < ghosts → ghost_at_lem j < end_tree old p → ghost_at_lem j < first_tree old p
+  ghost-apart : (j : ℕ) → j < ghosts → ghost_at j < end_tree old p → ghost_at j < first_tree old p
   ghost-apart j h l =
-      either (ltb (ghost_at_lem j) (first_tree old p)) (λ e. ltb-true (ghost_at_lem j) (first_tree old p) e)
-      (λ e. clash (holds_in old p (ghost_at_lem j) (omega tests) l) (part_outside part old p sound j h))
+      either (ltb (ghost_at j) (first_tree old p)) (λ e. ltb-true (ghost_at j) (first_tree old p) e)
+      (λ e. clash (holds_in old p (ghost_at j) (omega tests) l) (part_outside part old p sound j h))
 
   -- behind them it has the trees before it too
-  ghost-behind : (j : ℕ) → j < ghosts → end_tree old p ≤ ghost_at_lem j → tree_count old p + j ≤ ghost_at_lem j
-  ghost-behind zero h l = omega (arith, count_add old T.old_bytes_lem T.old_ranks T.old_valid_lem p P)
+  ghost-behind : (j : ℕ) → j < ghosts → end_tree old p ≤ ghost_at j → tree_count old p + j ≤ ghost_at j
+  ghost-behind zero h l = omega (arith, count_add old T.old_bytes T.old_ranks T.old_valid p P)
   ghost-behind (suc j) h l =
       let a = part_ascends part old p sound j (suc j) (omega arith) h in
-      let n = count_add old T.old_bytes_lem T.old_ranks T.old_valid_lem p P in
+      let n = count_add old T.old_bytes T.old_ranks T.old_valid p P in
       let m : j < ghosts = omega arith in
-      either (ltb (ghost_at_lem j) (end_tree old p))
-      (λ e. omega (arith, n, ghost-from j m, ghost-apart j m (ltb-true (ghost_at_lem j) (end_tree old p) e)))
+      either (ltb (ghost_at j) (end_tree old p))
+      (λ e. omega (arith, n, ghost-from j m, ghost-apart j m (ltb-true (ghost_at j) (end_tree old p) e)))
       (λ e. omega (arith, a, ghost-behind j m (omega tests)))
 
   -- there are no more records than trees
@@ -153,14 +153,14 @@ module _ (part old new : List ℕ) (p q count : ℕ) (k : Known part old new p q
       let m : part_count part ≡ tree_count old p = e.tree_count_lem in
       let K : part_k part ≡ trees old = e.all_trees in
       let c = k.counted in
-      let n = count_add old T.old_bytes_lem T.old_ranks T.old_valid_lem p P in
-      let l = end_trees old T.old_bytes_lem T.old_ranks T.old_valid_lem p P in
+      let n = count_add old T.old_bytes T.old_ranks T.old_valid p P in
+      let l = end_trees old T.old_bytes T.old_ranks T.old_valid p P in
       either (ltb 0 ghosts)
       (λ g.
       let h : ghosts - 1 < ghosts = omega tests in
       let b = part_ghost_below part old p sound (ghosts - 1) h in
-      either (ltb (ghost_at_lem (ghosts - 1)) (end_tree old p))
-      (λ d. omega (tests, n, l, c, m, K, h, ghost-from (ghosts - 1) h, ghost-apart (ghosts - 1) h (ltb-true (ghost_at_lem (ghosts - 1)) (end_tree old p) d)))
+      either (ltb (ghost_at (ghosts - 1)) (end_tree old p))
+      (λ d. omega (tests, n, l, c, m, K, h, ghost-from (ghosts - 1) h, ghost-apart (ghosts - 1) h (ltb-true (ghost_at (ghosts - 1)) (end_tree old p) d)))
       (λ d. omega (tests, b, c, m, K, h, ghost-behind (ghosts - 1) h (omega tests))))
       (λ g. omega (tests, n, l, c, m))
 

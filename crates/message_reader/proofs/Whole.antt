@@ -1,5 +1,5 @@
 -- Reading from the beginning to the end hands out exactly the message's records in order, trees before ghosts, and the number that remain falls by one each time.
-use Prim.Native.Nat.{ℕ, zero, suc, ◌+◌, ◌-◌, ◌≤◌, ◌<◌}
+use Prim.Native.Nat.{ℕ, zero, suc, ◌+◌, ◌≤◌, ◌<◌}
 use native.Mathlib.Nat.{add-zero}
 use native.Mathlib.Numerals.{add-one}
 use native.Mathlib.Omega.{arith}
@@ -85,7 +85,7 @@ records_are m laid =
     let z : 0 + message_trees m ≡ message_trees m + 0 = omega arith in
     ap (λ n. row 0 n (record_at m)) (count_all m laid) ∙ (row-add (message_trees m) (message_ghosts m) 0 (record_at m) ∙ ap₂ ◌++◌ t (ap (λ k. row k (message_ghosts m) (record_at m)) z ∙ p))
 
--- one behind the other they are what `readTo` joins
+-- one behind the other they are what `read_to` joins
 row_joined : (m : List ℕ) (n i : ℕ) → read_to m (i + n) ≡ read_to m i ++ flatten (row i n (record_at m))
 unfolding read_to row flatten
 row_joined m zero i = ap (read_to m) (add-zero i) ∙ sym (append-nil (read_to m i))

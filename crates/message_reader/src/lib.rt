@@ -1,5 +1,6 @@
 // A reader over a lent message: it hands out the records one by one, trees first, then ghosts.
-// The borrow checker covers no function over such a struct: each takes it apart, calls functions that are covered, and is proved by a walk of its MIR.
+#![tactic(auto)]
+
 ghost use Rattle.std.specs.Prelude.{◌≡◌};
 ghost use Rattle.message_reader.specs.Handing.{begin_of, begun_seen, next_of, step_seen};
 

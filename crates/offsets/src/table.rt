@@ -2,7 +2,7 @@
 ghost use Rattle.std.specs.Prelude.{◌≡◌, true, ◌+◌, ◌*◌, ◌≤◌, ◌<◌, length};
 ghost use Rattle.encoding.specs.Below.{all_below};
 ghost use Rattle.offsets.specs.Limits.{max_ranks, rank_count_ok, tree_count_ok};
-ghost use Rattle.offsets.specs.Table.{table_length, ranks_ok, ranks as ranks_of_lem, entry as entry_of, negative as is_negative, magnitude as magnitude_of, first_of, valid as is_valid, first_tree, end_tree, trees as trees_of_lem, holds as is_held};
+ghost use Rattle.offsets.specs.Table.{table_length, ranks_ok, ranks as ranks_of, entry as entry_of, negative as is_negative, magnitude as magnitude_of, first_of, valid as is_valid, first_tree, end_tree, trees as trees_of, holds as is_held};
 ghost use Rattle.offsets.specs.Calls.{range_refused};
 ghost use Rattle.offsets.specs.Means.{entry_ok, entry_ok_at};
 
@@ -38,7 +38,7 @@ pub fn ranks_ok(t: &[u8]) -> bool
 
 pub fn ranks(t: &[u8]) -> usize
     requires { ranks_ok t.now ≡ true }
-    ensures { (result ≡ ranks_of_lem t.now) × ((1 ≤ result) × (result ≤ max_ranks) × (length t.now ≡ table_length result)) }
+    ensures { (result ≡ ranks_of t.now) × ((1 ≤ result) × (result ≤ max_ranks) × (length t.now ≡ table_length result)) }
 {
     t.len() / 8 - 1
 }
@@ -137,7 +137,7 @@ pub fn end_tree(t: &[u8], p: usize) -> u64
 // K.
 pub fn trees(t: &[u8]) -> u64
     requires { ranks_ok t.now ≡ true }
-    ensures { result ≡ trees_of_lem t.now }
+    ensures { result ≡ trees_of t.now }
 {
     entry(t, ranks(t))
 }

@@ -560,7 +560,7 @@ module _ (first count : ℕ → ℕ) (P K : ℕ) (ro : rank_count_ok P ≡ true)
         bytes = table_bytes_lem first count P;
         size = table_length_lem first count P;
         is_valid = table_valid;
-        trees_are_lem = rw (table_ranks first count P) trees_read;
+        trees_are = rw (table_ranks first count P) trees_read;
         counts = count_read;
         firsts = λ p h c. first_read p h (count_some first count p c);
       }
@@ -588,7 +588,7 @@ module _ (first count : ℕ → ℕ) (P : ℕ) (ro : rank_count_ok P ≡ true) w
     -- only a valid partition has a table
     pub table_fits : valid_partition first count P K ≡ true
     table_fits =
-        rw (← same_partition (first_tree t) (tree_count t) first count P K ranges-agree, ← i.trees_are_lem, ← ranks_are)
+        rw (← same_partition (first_tree t) (tree_count t) first count P K ranges-agree, ← i.trees_are, ← ranks_are)
         (table_partition t i.bytes ranks_ok_lem i.is_valid)
 
     -- the table's ranks hold the trees that the partition puts on them

@@ -33,8 +33,8 @@ module _ (P : ℕ) (first count : List ℕ) (ro : rank_count_ok P ≡ true) wher
       record {
         first_many = sized.0;
         count_many = sized.1;
-        tree_number_lem = K;
-        is_table_lem = table_of_lem (each first) (each count) P K ro (and_fst (tree_count_ok K) _ fit) (and_snd (tree_count_ok K) _ fit);
+        tree_number = K;
+        is_table = table_of_lem (each first) (each count) P K ro (and_fst (tree_count_ok K) _ fit) (and_snd (tree_count_ok K) _ fit);
       }
 
   module _ (t : List ℕ) (i : TableOfLists P first count t) where
@@ -42,13 +42,13 @@ module _ (P : ℕ) (first count : List ℕ) (ro : rank_count_ok P ≡ true) wher
     has-passes : partition_ok P first count ≡ true
     unfolding partition_ok ranges_fit
     has-passes =
-        let v : valid_partition (each first) (each count) P i.tree_number_lem ≡ true = table_fits (each first) (each count) P ro i.tree_number_lem t i.is_table_lem in
-        let k : tree_count_ok i.tree_number_lem ≡ true = rw i.is_table_lem.trees_are_lem at (tree_count_lem t i.is_table_lem.is_valid) in
-        rw (i.first_many, i.count_many, eq-eqb P P refl, ← trees_are (each first) (each count) P i.tree_number_lem v) (and_intro _ _ k v)
+        let v : valid_partition (each first) (each count) P i.tree_number ≡ true = table_fits (each first) (each count) P ro i.tree_number t i.is_table in
+        let k : tree_count_ok i.tree_number ≡ true = rw i.is_table.trees_are at (tree_count_lem t i.is_table.is_valid) in
+        rw (i.first_many, i.count_many, eq-eqb P P refl, ← trees_are (each first) (each count) P i.tree_number v) (and_intro _ _ k v)
 
     has-written : (out : List ℕ) → write_table P first count out ≡ write_answer (cond (leb (table_length P) (length out)) 0 22) t out
     unfolding write_table write_refusal first_failed
-    has-written out = rw (ro, has-passes, ← table_unique (each first) (each count) P ro i.tree_number_lem t i.is_table_lem)
+    has-written out = rw (ro, has-passes, ← table_unique (each first) (each count) P ro i.tree_number t i.is_table)
 
   module _ (out : List ℕ) where
     none-refused : NoTable P first count → write_table P first count out ≡ write_answer 6 [] out

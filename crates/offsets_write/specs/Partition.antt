@@ -40,7 +40,7 @@ pub record IsTable (first count : ℕ → ℕ) (P K : ℕ) (t : List ℕ) : Type
   pub bytes : Bytes t
   pub size : length t ≡ table_length P
   pub is_valid : valid t ≡ true
-  pub trees_are_lem : trees t ≡ K
+  pub trees_are : trees t ≡ K
   pub counts : (p : ℕ) → p < P → tree_count t p ≡ count p
   pub firsts : (p : ℕ) → p < P → 0 < count p → first_tree t p ≡ first p
 

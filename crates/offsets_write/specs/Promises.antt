@@ -10,8 +10,8 @@ use Rattle.offsets_write.specs.Calls.{each, write_table}
 pub record TableOfLists (P : ℕ) (first count t : List ℕ) : Type 0 where
   pub first_many : length first ≡ P
   pub count_many : length count ≡ P
-  pub tree_number_lem : ℕ
-  pub is_table_lem : IsTable (each first) (each count) P tree_number_lem t
+  pub tree_number : ℕ
+  pub is_table : IsTable (each first) (each count) P tree_number t
 
 -- there is none: the lists have other lengths, or no table is one of their partition
 abbrev pub NoTable : ℕ → List ℕ → List ℕ → Type 0

@@ -11,7 +11,7 @@ use Rattle.encoding.proofs.Below.{either, and_fst, and_snd, and_intro, iff_eq, a
 use Rattle.offsets.specs.Table.{holds}
 use Rattle.records.specs.Shape.{face_count}
 use Rattle.records.specs.Record.{shape_of, neighbour_of}
-use Rattle.mesh.specs.Mesh.{mesh_trees, mesh_core, mesh_sound_lem, face_neighbour}
+use Rattle.mesh.specs.Mesh.{mesh_trees, mesh_core, mesh_sound, face_neighbour}
 use Rattle.mesh.proofs.Soundness.{neighbour_below, neighbours_both}
 use Rattle.part.specs.Ghosts.{is_ghost, ghosts_of, ghost_position}
 use Rattle.part.specs.Means.{beside_rank}
@@ -72,7 +72,7 @@ module _ (core : ℕ → List ℕ) (table : List ℕ) (rank : ℕ) where
       → get_or (ghosts_of core table rank K) i d ≡ get_or (ghosts_of core table rank K) j d → i ≡ j
   ghost_once K i j d h l e = sym (ghost_found K i d h).2 ∙ ap (ghost_position core table rank) e ∙ (ghost_found K j d l).2
 
-module _ (m : List ℕ) (sound : mesh_sound_lem m ≡ true) (table : List ℕ) (rank : ℕ) where
+module _ (m : List ℕ) (sound : mesh_sound m ≡ true) (table : List ℕ) (rank : ℕ) where
   module _ (k : ℕ) (tree : k < mesh_trees m) where
     links : Bool
     links = any_below (face_count (shape_of (mesh_core m k))) (λ f. holds table rank (neighbour_of (mesh_core m k) f))

@@ -2,16 +2,16 @@
 use Prim.Native.Nat.{ℕ, ◌+◌, ◌-◌, ◌<◌}
 use native.Mathlib.Omega.{arith}
 use mathlib.Core.Path.{◌≡◌, refl, sym, ap, ◌∙◌}
-use mathlib.Core.Bool.{Bool, true, false, cond, not, ◌&&◌, ◌||◌}
+use mathlib.Core.Bool.{Bool, true, cond, not, ◌&&◌, ◌||◌}
 use mathlib.Core.List.{List}
-use lib.Dec.{leb, ltb, eqb}
-use Rattle.encoding.specs.Below.{all_below, any_below, least_below}
+use lib.Dec.{ltb, eqb}
+use Rattle.encoding.specs.Below.{all_below, any_below}
 use Rattle.encoding.proofs.Below.{either, all_same, any_same}
-use Rattle.records.specs.Shape.{dimension_of, face_count}
-use Rattle.records.specs.Record.{number_of, shape_of, neighbour_of, boundary_ok, in_form}
+use Rattle.records.specs.Shape.{face_count}
+use Rattle.records.specs.Record.{number_of, shape_of, neighbour_of, boundary_ok}
 use Rattle.mesh.specs.Link.{orientation_ok, link_ok}
 use Rattle.mesh.specs.Mesh.{face_neighbour}
-use Rattle.part.specs.View.{View, local_in, ghostly_in, held_in, core_in, tree_in_form, ghost_ascends, ghost_in_form, beside_tree, ghost_near, neighbours_ghostly, ghosts_exact, link_rule, links_obey, links_far, links_hold, records_hold}
+use Rattle.part.specs.View.{View, local_in, ghostly_in, held_in, tree_in_form, ghost_ascends, ghost_in_form, beside_tree, ghost_near, neighbours_ghostly, ghosts_exact, link_rule, links_obey, links_far, links_hold, records_hold}
 use Rattle.part.specs.Part.{part_first, part_count, part_ghost_count, stored_ghost, global_tree, part_holds, part_core}
 use Rattle.part.specs.Means.{is_local, ghost_is, held, held_core}
 use Rattle.part.proofs.Views.{link_same, local_at, local_held, ghost_at_held, held_same, core_same}

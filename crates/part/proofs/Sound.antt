@@ -4,10 +4,10 @@ use native.Mathlib.Omega.{arith}
 use mathlib.Core.Path.{◌≡◌, refl, sym, ap, ◌∙◌}
 use mathlib.Core.Bool.{Bool, true, false, cond, not, ◌&&◌, ◌||◌}
 use mathlib.Core.List.{List}
-use lib.Dec.{leb, ltb, eqb, eqb-suc-zero}
+use lib.Dec.{ltb, eqb, eqb-suc-zero}
 use lib.ListN.{length}
 use borrow.Author.Tests.{ltb-true, eqb-true, lt-ltb, eq-eqb, ne_eqb, eqb-false, not-true}
-use Rattle.encoding.specs.Below.{all_below, any_below, least_below}
+use Rattle.encoding.specs.Below.{all_below, any_below}
 use Rattle.encoding.specs.Numbers.{u32_at}
 use Rattle.encoding.specs.Pieces.{Bytes}
 use Rattle.encoding.proofs.Below.{either, tests, clash, below_suc, and_fst, and_snd, and_intro, iff_eq, all_at, all_intro, any_at, any_intro, any_same, least_is}
@@ -15,8 +15,8 @@ use Rattle.encoding.proofs.Pieces.{piece_length}
 use Rattle.offsets.specs.Limits.{max_trees}
 use Rattle.offsets.specs.Table.{ranks, trees, first_tree, tree_count}
 use Rattle.offsets.proofs.Tables.{count_add, end_trees, trees_high}
-use Rattle.records.specs.Shape.{shape_ok, dimension_of, face_count, faces_in}
-use Rattle.records.specs.Record.{core_size, unused, number_of, shape_of, neighbour_of, code_of, face_of, orientation_of, zeros_ok, unused_ok, to_itself, boundary_ok, in_form}
+use Rattle.records.specs.Shape.{dimension_of, face_count, faces_in}
+use Rattle.records.specs.Record.{core_size, unused, number_of, shape_of, neighbour_of, code_of, face_of, orientation_of, unused_ok, to_itself, boundary_ok, in_form}
 use Rattle.records.proofs.Forms.{form_shape, form_zeros, form_region, form_used, form_unused, form_intro, boundary_zero, unused_neighbour, unused_code}
 use Rattle.records.proofs.Shapes.{count_six}
 use Rattle.mesh.specs.Link.{orientation_ok, link_ok}
@@ -24,7 +24,7 @@ use Rattle.mesh.specs.Mesh.{dimension_ok, face_neighbour}
 use Rattle.mesh.proofs.Soundness.{link_there, link_answered}
 use Rattle.part.specs.Layout.{tree_place, part_size}
 use Rattle.part.specs.View.{View, local_in, ghostly_in, held_in, core_in, tree_in_form, ghost_ascends, ghost_in_form, beside_tree, ghost_near, neighbours_ghostly, ghosts_exact, link_rule, links_obey, links_far, links_hold, records_hold}
-use Rattle.part.specs.Part.{no_tree, part_dimension, part_k, part_first, part_count, part_ghost_count, stored_tree, stored_ghost, global_number, global_tree, view_of, part_header_sound, part_sound}
+use Rattle.part.specs.Part.{part_dimension, part_k, part_first, part_count, part_ghost_count, stored_tree, stored_ghost, global_number, global_tree, view_of, part_header_sound, part_sound}
 use Rattle.part.specs.Means.{RankKnown, is_local, ghost_is, held, held_core, ghost_link, ghost_after, ghost_beside, view_sound, part_linked}
 use Rattle.part.proofs.Global.{Alike, alike_face, alike_region, alike_orientation, renamed_alike, renamed_neighbour}
 use Rattle.part.proofs.Views.{TreeView, GhostView, tree_link_held, tree_link_make, view_make, view_trees, view_ghosts, local_at, local_held, ghost_at_held, core_tree, core_ghost, view_form, view_link, view_far, view_beside}

@@ -18,7 +18,7 @@ use Rattle.part.specs.Means.{neighbour_in, ghost_core}
 use Rattle.ghost_links.specs.Means.{core_from}
 use Rattle.linked.specs.declared.layout.Records.{Records}
 use Rattle.linked.specs.Means.{tree_of, ghost_of, named, name_of, place_of, tree_link, ghost_link, tree_whole, ghost_whole, ghost_after, records_linked}
-use Rattle.linked.specs.Means.{tree_numbered as numbered_tree, ghost_numbered as numbered_ghost, tree_to as link_of_tree, ghost_to as link_of_ghost, records_sound as records_right_lem}
+use Rattle.linked.specs.Means.{tree_numbered as numbered_tree, ghost_numbered as numbered_ghost, tree_to as link_of_tree, ghost_to as link_of_ghost, records_sound as records_right}
 use Rattle.linked.proofs.Seeing.{pick_true}
 use Rattle.part_check.specs.Means.{tree_to, tree_face, tree_stored, tree_numbered, ghost_behind, ghost_numbered, numbers_sound, ghost_to, ghost_face, ghost_stored, records_sound}
 
@@ -114,8 +114,8 @@ module _ (part : List ℕ) (x : Records) (head : x.head ≡ tree_place 0) (tail 
 
   -- ---- all records
 
-  pub records_are : records_right_lem part x ≡ records_sound (link_by_dimension x.dimension) x.first.0 x.count x.ghosts (stored_tree part) (ghost_core part x.count) x.dimension x.trees
-  unfolding records_right_lem records_linked records_sound numbers_sound
+  pub records_are : records_right part x ≡ records_sound (link_by_dimension x.dimension) x.first.0 x.count x.ghosts (stored_tree part) (ghost_core part x.count) x.dimension x.trees
+  unfolding records_right records_linked records_sound numbers_sound
   records_are =
       let N : Bool = all_below x.count (tree_numbered x.first.0 (stored_tree part)) in
       let G : Bool = all_below x.ghosts (ghost_numbered x.first.0 x.count (ghost_core part x.count) x.trees) in

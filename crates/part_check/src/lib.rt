@@ -1,4 +1,6 @@
 // Checking a part.
+#![tactic(auto)]
+
 ghost use Rattle.std.specs.Prelude.{◌≡◌};
 ghost use Rattle.part_check.specs.Calls.{part_refusal};
 

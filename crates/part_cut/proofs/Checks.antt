@@ -6,7 +6,7 @@ use mathlib.Core.List.{List}
 use borrow.Author.Tests.{eq-eqb, ne_eqb}
 use Rattle.encoding.specs.Refusal.{first_failed}
 use Rattle.offsets.specs.Table.{trees}
-use Rattle.mesh.specs.Mesh.{mesh_trees, mesh_sound_lem}
+use Rattle.mesh.specs.Mesh.{mesh_trees, mesh_sound}
 use Rattle.part.specs.Checks.{rank_checks}
 use Rattle.part_cut.specs.Calls.{cut_checks}
 use Rattle.part.proofs.Checks.{rank_fails, rank_passes}
@@ -17,7 +17,7 @@ module _ (table : List ℕ) (rank : ℕ) {r : ℕ} (checked : r ≡ first_failed
     unfolding cut_checks
     cut_rank h = rank_fails table rank checked _ h
 
-    module _ (ok : r ≡ 0) {d : Bool} (is-d : d ≡ mesh_sound_lem mesh) where
+    module _ (ok : r ≡ 0) {d : Bool} (is-d : d ≡ mesh_sound mesh) where
       pub fails_sound : d ≡ false → 7 ≡ first_failed (cut_checks mesh table rank)
       unfolding first_failed cut_checks
       fails_sound h = sym (rank_passes table rank checked ok _ ∙ rw (← is-d, h))

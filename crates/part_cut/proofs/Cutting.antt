@@ -18,7 +18,7 @@ use Rattle.offsets.specs.Limits.{max_trees}
 use Rattle.offsets.specs.Table.{ranks, ranks_ok, trees, valid, first_tree, end_tree, tree_count}
 use Rattle.offsets.proofs.Tables.{first_le_end, end_trees, trees_high, size}
 use Rattle.records.specs.Record.{core_size, tree_size}
-use Rattle.mesh.specs.Mesh.{mesh_header, mesh_trees, mesh_core, mesh_record, mesh_sound_lem}
+use Rattle.mesh.specs.Mesh.{mesh_header, mesh_trees, mesh_core, mesh_record, mesh_sound}
 use Rattle.mesh.proofs.Soundness.{sound_length, sound_fits, sound_core}
 use Rattle.part.specs.Layout.{part_size}
 use Rattle.part.specs.Ghosts.{is_ghost, ghost_position}
@@ -41,7 +41,7 @@ module _ (mesh table : List ℕ) (rank : ℕ) where
     pub table_ranks : ranks_ok table ≡ true
     pub table_valid : valid table ≡ true
     pub rank_below : rank < ranks table
-    pub mesh_sound : mesh_sound_lem mesh ≡ true
+    pub mesh_sound_lem : mesh_sound mesh ≡ true
     pub same_trees_lem : mesh_trees mesh ≡ trees table
 
   -- the bounds that follow
@@ -55,7 +55,7 @@ module _ (mesh table : List ℕ) (rank : ℕ) where
   pub cuttable : first_failed (cut_checks mesh table rank) ≡ 0 → Cuttable
   unfolding first_failed cut_checks rank_checks
   cuttable e =
-      let last : Bool = mesh_sound_lem mesh && eqb (mesh_trees mesh) (trees table) in
+      let last : Bool = mesh_sound mesh && eqb (mesh_trees mesh) (trees table) in
       let a = passes (ranks_ok table) (cond (valid table) (cond (ltb rank (ranks table)) (cond last 0 7) 5) 3) 1 e in
       let b = passes (valid table) (cond (ltb rank (ranks table)) (cond last 0 7) 5) 2 a.1 in
       let d = passes (ltb rank (ranks table)) (cond last 0 7) 4 b.1 in
@@ -64,13 +64,13 @@ module _ (mesh table : List ℕ) (rank : ℕ) where
         table_ranks = a.0;
         table_valid = b.0;
         rank_below = ltb-true _ _ d.0;
-        mesh_sound = and_fst (mesh_sound_lem mesh) _ f.0;
-        same_trees_lem = eqb-true _ _ (and_snd (mesh_sound_lem mesh) _ f.0);
+        mesh_sound_lem = and_fst (mesh_sound mesh) _ f.0;
+        same_trees_lem = eqb-true _ _ (and_snd (mesh_sound mesh) _ f.0);
       }
 
 -- ---- the length
 
-module _ (mesh table : List ℕ) (rank : ℕ) (sound : mesh_sound_lem mesh ≡ true) where
+module _ (mesh table : List ℕ) (rank : ℕ) (sound : mesh_sound mesh ≡ true) where
   -- tree record i
   pub tree_length : (i : ℕ) → first_tree table rank + i < mesh_trees mesh → length (part_tree mesh table rank i) ≡ tree_size
   unfolding part_tree renamed mesh_record
@@ -121,9 +121,9 @@ module _ (mesh table : List ℕ) (rank : ℕ) {r : ℕ} (checked : r ≡ first_f
           within = omega arith;
           most = omega arith;
           table_long = omega arith;
-          mesh_long = sound_length mesh h.mesh_sound;
+          mesh_long = sound_length mesh h.mesh_sound_lem;
         }
 
     -- the length of the part, where no check fails
     pub cut_size : Bytes table → length (cut_part mesh table rank) ≡ part_size (tree_count table rank) (ghost_count mesh table rank)
-    cut_size b = cut_length mesh table rank all_hold.mesh_sound (cut_fits b).rises (cut_fits b).within
+    cut_size b = cut_length mesh table rank all_hold.mesh_sound_lem (cut_fits b).rises (cut_fits b).within

@@ -1,5 +1,5 @@
 -- Laws of the set of a range's ghosts.
-use Prim.Native.Nat.{ℕ, ◌+◌, ◌-◌, ◌*◌, ◌/◌, ◌%◌, ◌^◌, ◌≤◌, ◌<◌}
+use Prim.Native.Nat.{ℕ, ◌+◌, ◌-◌, ◌*◌, ◌/◌, ◌^◌, ◌≤◌, ◌<◌}
 use native.Mathlib.Numerals.{add-one}
 use native.Mathlib.Omega.{arith}
 use mathlib.Core.Path.{◌≡◌, refl, sym, ap, ◌∙◌}
@@ -7,7 +7,7 @@ use mathlib.Core.Bool.{Bool, true, false, not, ◌&&◌, ◌||◌, and-false}
 use mathlib.Core.List.{List}
 use lib.Dec.{leb, ltb, eqb}
 use lib.ListN.{length, replicate, length-replicate}
-use borrow.Author.Tests.{ltb-true, leb-true, lt-ltb, le-ltb, le-leb, lt-leb, eqb-true, eq-eqb, ne_eqb}
+use borrow.Author.Tests.{ltb-true, leb-true, lt-ltb, le-leb, eqb-true, eq-eqb, ne_eqb}
 use Rattle.encoding.specs.Below.{any_below, count_below}
 use Rattle.encoding.specs.Pieces.{piece, Bytes}
 use Rattle.encoding.specs.Refusal.{first_failed}
@@ -17,7 +17,7 @@ use Rattle.offsets.specs.Limits.{max_trees}
 use Rattle.offsets.specs.Table.{first_tree, end_tree, tree_count}
 use Rattle.records.specs.Shape.{face_count}
 use Rattle.records.specs.Record.{core_size, tree_size, shape_of, neighbour_of}
-use Rattle.mesh.specs.Mesh.{mesh_header, mesh_trees, mesh_core, mesh_sound_lem, face_neighbour}
+use Rattle.mesh.specs.Mesh.{mesh_header, mesh_trees, mesh_core, mesh_sound, face_neighbour}
 use Rattle.mesh.proofs.Soundness.{sound_fits, neighbour_below, neighbours_both}
 use Rattle.part.specs.Means.{in_range, neighbour_in, ghost_in}
 use Rattle.positions.specs.Means.{Added, Countable, Counted}
@@ -102,7 +102,7 @@ module _ (mesh : List ℕ) (first end : ℕ) {ws₀ : List ℕ} (fit : TreesFit 
 
 -- ---- what is marked is a ghost
 
-module _ (m : List ℕ) (sound : mesh_sound_lem m ≡ true) (first end : ℕ) (range : first ≤ end) (within : end ≤ mesh_trees m) where
+module _ (m : List ℕ) (sound : mesh_sound m ≡ true) (first end : ℕ) (range : first ≤ end) (within : end ≤ mesh_trees m) where
   abbrev core : ℕ → List ℕ
   core = mesh_core m
 
@@ -173,7 +173,7 @@ module _ {mesh table : List ℕ} {rank : ℕ} {ws₀ behind₀ : List ℕ} (spac
     pub space_trees : TreesFit mesh first end ws₀
     space_trees =
         record {
-          sound = space_known.mesh_sound;
+          sound = space_known.mesh_sound_lem;
           range = omega (arith, space_fits.rises);
           within = omega (arith, space_fits.within);
           room = space.room;
@@ -187,10 +187,10 @@ module _ {mesh table : List ℕ} {rank : ℕ} {ws₀ behind₀ : List ℕ} (spac
       members-are k = marked.members k ∙ ap (λ (b : Bool). b || out_trees (mesh_core mesh) first end (end - first) k) (space.blank.none k)
 
       members-past : (k : ℕ) → mesh_trees mesh ≤ k → in_set ws k ≡ false
-      members-past k h = members-are k ∙ marked_low mesh space_known.mesh_sound first end space_trees.range space_trees.within k h
+      members-past k h = members-are k ∙ marked_low mesh space_known.mesh_sound_lem first end space_trees.range space_trees.within k h
 
       members-ghosts : (k : ℕ) → k < mesh_trees mesh → in_set ws k ≡ ghost_in (mesh_core mesh) first end k
-      members-ghosts k h = members-are k ∙ marked_is_ghost mesh space_known.mesh_sound first end space_trees.range space_trees.within k h
+      members-ghosts k h = members-are k ∙ marked_is_ghost mesh space_known.mesh_sound_lem first end space_trees.range space_trees.within k h
 
       -- past K there is nothing to count
       members-many : (n : ℕ) → mesh_trees mesh ≤ n → count_below n (in_set ws) ≡ count_below (mesh_trees mesh) (ghost_in (mesh_core mesh) first end)

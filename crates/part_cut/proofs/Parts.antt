@@ -19,7 +19,7 @@ use Rattle.records.specs.Record.{core_size, tree_size, unused, shape_of, neighbo
 use Rattle.records.specs.Shape.{face_count, faces_in}
 use Rattle.records.specs.Links.{row_of, rows_of}
 use Rattle.records.proofs.Forms.{at_piece, form_unused, unused_neighbour}
-use Rattle.mesh.specs.Mesh.{mesh_header, mesh_dimension, mesh_trees, mesh_core, mesh_record, mesh_sound_lem}
+use Rattle.mesh.specs.Mesh.{mesh_header, mesh_dimension, mesh_trees, mesh_core, mesh_record, mesh_sound}
 use Rattle.mesh.proofs.Soundness.{sound_form, neighbour_below}
 use Rattle.part.specs.Layout.{part_header, header_bytes, ghost_place}
 use Rattle.part.specs.Ghosts.{is_ghost, ghost_position}
@@ -102,7 +102,7 @@ record_at_lem : (mesh : List ℕ) (first n : ℕ) → piece mesh (mesh_header + 
 unfolding mesh_record
 record_at_lem mesh first n = let e : mesh_header + tree_size * first + tree_size * n ≡ mesh_header + tree_size * (first + n) = omega arith in rw e
 
-module _ (mesh : List ℕ) (sound : mesh_sound_lem mesh ≡ true) where
+module _ (mesh : List ℕ) (sound : mesh_sound mesh ≡ true) where
   -- a neighbour is below K, or the face is unused
   neighbour-within : (k : ℕ) → k < mesh_trees mesh → (f : ℕ) → f < 6 → eqb (neighbour_of (mesh_core mesh k) f) unused ≡ false → neighbour_of (mesh_core mesh k) f ≤ mesh_trees mesh
   neighbour-within k h f l e =
@@ -177,7 +177,7 @@ more_checks true true true true x = refl
 module _ (mesh table : List ℕ) (rank : ℕ) (out : List ℕ) {r : ℕ} (checked : r ≡ first_failed (cut_checks mesh table rank)) where
   with-room : (b : Bool) → first_failed (cut_checks mesh table rank ++ (check b 22 ∷ [])) ≡ cond (eqb r 0) (cond b 0 22) r
   unfolding first_failed cut_checks rank_checks
-  with-room b = rw checked (more_checks (ranks_ok table) (valid table) (ltb rank (ranks table)) (mesh_sound_lem mesh && eqb (mesh_trees mesh) (trees table)) (cond b 0 22))
+  with-room b = rw checked (more_checks (ranks_ok table) (valid table) (ltb rank (ranks table)) (mesh_sound mesh && eqb (mesh_trees mesh) (trees table)) (cond b 0 22))
 
   pub cut_refused : (r ≡ 0 → ⊥) → (length_refused r, out) ≡ cut_part_of mesh table rank out
   unfolding cut_part_of write_answer length_answer written
@@ -201,7 +201,7 @@ module _ {mesh table : List ℕ} {rank : ℕ} {ws₀ behind₀ ws behind : List 
   -- the length of the part
   pub found_long : {size : ℕ} → size ≡ ghost_place n count → size ≡ length (cut_part mesh table rank)
   found_long e =
-      let g : count ≡ ghost_count mesh table rank = ghosts_many mesh (space_known space bytes).mesh_sound table rank ghost-set in
+      let g : count ≡ ghost_count mesh table rank = ghosts_many mesh (space_known space bytes).mesh_sound_lem table rank ghost-set in
       omega (arith, cut_size mesh table rank (sym space.checked) refl bytes, found.is_count)
 
   pub length_found : {size : ℕ} → size ≡ ghost_place n count → record { refusal = 0; length = size } ≡ part_length_of mesh table rank
@@ -221,5 +221,5 @@ module _ {mesh table : List ℕ} {rank : ℕ} {ws₀ behind₀ ws behind : List 
 
     pub part_cut : {P : ℕ} {last : List ℕ} → P ≡ ranks table → last ≡ splice out 0 (part_with mesh P rank first n ws count) → last ≡ splice out 0 (cut_part mesh table rank)
     part_cut p e =
-        let s = part_is mesh (space_known space bytes).mesh_sound table rank ghost-set (rw (← found.is_first, ← found.is_count) found.is_end) (space_fits space bytes).within in
+        let s = part_is mesh (space_known space bytes).mesh_sound_lem table rank ghost-set (rw (← found.is_first, ← found.is_count) found.is_end) (space_fits space bytes).within in
         (rw (p, found.is_first, found.is_count) at e) ∙ ap (splice out 0) s

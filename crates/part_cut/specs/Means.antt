@@ -7,7 +7,7 @@ use Rattle.bits.specs.Bits.{in_set}
 use Rattle.offsets.specs.Table.{first_tree, end_tree, tree_count}
 use Rattle.records.specs.Shape.{face_count, faces_in}
 use Rattle.records.specs.Record.{core_size, tree_size, unused, shape_of, neighbour_of}
-use Rattle.mesh.specs.Mesh.{mesh_header, mesh_dimension, mesh_trees, mesh_core, mesh_sound_lem}
+use Rattle.mesh.specs.Mesh.{mesh_header, mesh_dimension, mesh_trees, mesh_core, mesh_sound}
 use Rattle.part.specs.Layout.{part_header, header_bytes, part_size}
 use Rattle.part.specs.Cut.{renamed}
 use Rattle.part.specs.Means.{in_range, ghost_in}
@@ -33,7 +33,7 @@ pub record FacesFit (bs : List ℕ) (at faces first end : ℕ) (ws : List ℕ) :
 
 -- a range of a sound mesh, whose trees the set can hold
 pub record TreesFit (mesh : List ℕ) (first end : ℕ) (ws : List ℕ) : Type 0 where
-  pub sound : mesh_sound_lem mesh ≡ true
+  pub sound : mesh_sound mesh ≡ true
   pub range : first ≤ end
   pub within : end ≤ mesh_trees mesh
   pub room : mesh_trees mesh ≤ 64 * length ws

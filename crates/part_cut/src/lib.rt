@@ -1,4 +1,6 @@
 // Cutting the part for a table and a rank out of a whole mesh.
+#![tactic(auto)]
+
 ghost use Rattle.std.specs.Prelude.{◌≡◌};
 ghost use Rattle.encoding.specs.Refusal.{first_failed};
 ghost use Rattle.part_cut.specs.Calls.{cut_checks, part_length_of, cut_part_of};

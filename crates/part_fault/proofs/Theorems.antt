@@ -98,7 +98,7 @@ module _ (part table : List ℕ) (rank : ℕ) where
         here = f.here;
         before = f.before;
         faces = faces-of (view_of part) (first_fault 8 n (wrong_in (view_of part))).at f.here;
-        trees_before_lem = λ i l t. tree-before (view_of part) i t (f.before i l);
+        trees_before = λ i l t. tree-before (view_of part) i t (f.before i l);
         ghosts_before = λ j l. ghost-before (view_of part) j (f.before (part_count part + j) l);
         ghosts_right = λ all j l. rw (looked_all (view_of part) all) at (ghost-before (view_of part) j (f.before (part_count part + j) l));
       }))

@@ -78,7 +78,7 @@ pub record FirstRecord (part : List ℕ) (a : Fault) : Type 0 where
   -- nothing is wrong at a face before it
   pub faces : (f : ℕ) → f < a.face → face_in (view_of part) a.at f ≡ 0
   -- each tree before it is right, and each ghost before it as far as ghosts are looked up
-  pub trees_before_lem : (i : ℕ) → i < a.at → i < part_count part → TreeRight (view_of part) i
+  pub trees_before : (i : ℕ) → i < a.at → i < part_count part → TreeRight (view_of part) i
   pub ghosts_before : (j : ℕ) → part_count part + j < a.at → GhostRight (view_of part) (found_in (view_of part)) j
   -- where every ghost is in order, all of them are looked up
   pub ghosts_right : ((j : ℕ) → j < part_ghost_count part → ghost_order_in (view_of part) j ≡ true)

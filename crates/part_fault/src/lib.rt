@@ -1,4 +1,6 @@
 // Where a part fails: the first record that is wrong, and what is wrong there.
+#![tactic(auto)]
+
 ghost use Rattle.std.specs.Prelude.{◌≡◌};
 ghost use Rattle.part_fault.specs.Calls.{part_fault_of};
 

@@ -1,4 +1,6 @@
 // What stands across a face of a tree of a part.
+#![tactic(auto)]
+
 ghost use Rattle.std.specs.Prelude.{◌≡◌};
 ghost use Rattle.part_neighbour.specs.Calls.{neighbour_answer};
 

@@ -75,7 +75,7 @@ module _ (mesh table : List ℕ) (rank : ℕ) (ok : Cuttable mesh table rank) (m
     k-below = local_below mesh table rank ok mesh_bytes bytes k inside
 
     long : length r ≡ 40
-    long = sound_core mesh ok.mesh_sound k k-below
+    long = sound_core mesh ok.mesh_sound_lem k k-below
 
     -- the shape is the mesh's
     pub cut_shape : shape_of (stored_tree (cut_part mesh table rank) i) ≡ shape_of (mesh_core mesh (first_tree table rank + i))
@@ -102,7 +102,7 @@ module _ (mesh table : List ℕ) (rank : ℕ) (ok : Cuttable mesh table rank) (m
           (either (leb (face_count (shape_of r)) f)
           (λ p. rw p)
           (λ p.
-          let b : m < mesh_trees mesh = neighbour_below mesh ok.mesh_sound k k-below f (omega tests) in
+          let b : m < mesh_trees mesh = neighbour_below mesh ok.mesh_sound_lem k k-below f (omega tests) in
           either (holds table rank m)
           (λ e. rw (p, local-itself m b i tree, local-in m b, e, local_tree mesh table rank ok mesh_bytes bytes m e))
           (λ e. rw (p, local-itself m b i tree, local-in m b, e, local_ghost mesh table rank ok mesh_bytes bytes m b e))))

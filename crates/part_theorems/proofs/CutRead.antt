@@ -21,7 +21,7 @@ use Rattle.records.specs.Links.{rows_of, neighbour_bytes, code_bytes, with_rows}
 use Rattle.records.specs.Shape.{faces_in}
 use Rattle.records.proofs.Forms.{piece_piece}
 use Rattle.records.proofs.Rows.{splice_inside}
-use Rattle.mesh.specs.Mesh.{mesh_header, mesh_dimension, mesh_trees, mesh_core, mesh_record, mesh_sound_lem}
+use Rattle.mesh.specs.Mesh.{mesh_header, mesh_dimension, mesh_trees, mesh_core, mesh_record, mesh_sound}
 use Rattle.mesh.proofs.Soundness.{sound_length, sound_dimension, sound_fits, sound_core, sound_number}
 use Rattle.part.specs.Layout.{part_header, tree_place, header_bytes}
 use Rattle.part.specs.Ghosts.{is_ghost, ghosts_of, ghost_position}
@@ -150,7 +150,7 @@ module _ (rename : ℕ → ℕ) (F : ℕ) (mesh : List ℕ) (k : ℕ) (fits : me
 
 -- ---- the parts of a cut
 
-module _ (mesh table : List ℕ) (rank : ℕ) (sound : mesh_sound_lem mesh ≡ true) where
+module _ (mesh table : List ℕ) (rank : ℕ) (sound : mesh_sound mesh ≡ true) where
   -- tree i of the first n
   trees-at : (n : ℕ) → first_tree table rank + n ≤ mesh_trees mesh → (i : ℕ) → i < n → piece (part_trees mesh table rank n) (tree_size * i) tree_size ≡ part_tree mesh table rank i
   unfolding part_trees
@@ -210,7 +210,7 @@ cuttable_fits mesh table rank h b =
       within = omega arith;
       most = omega arith;
       table_long = omega arith;
-      mesh_long = sound_length mesh h.mesh_sound;
+      mesh_long = sound_length mesh h.mesh_sound_lem;
     }
 
 module _ (mesh table : List ℕ) (rank : ℕ) (ok : Cuttable mesh table rank) (bytes : Bytes table) where
@@ -225,7 +225,7 @@ module _ (mesh table : List ℕ) (rank : ℕ) (ok : Cuttable mesh table rank) (b
       let b = ok.rank_below in
       let f = fits in
       record {
-        dimension_word = ⊎_elim (λ e. omega arith) (λ e. omega arith) (sound_dimension mesh ok.mesh_sound);
+        dimension_word = ⊎_elim (λ e. omega arith) (λ e. omega arith) (sound_dimension mesh ok.mesh_sound_lem);
         trees_word_lem = omega arith;
         ranks_word_lem = omega arith;
         rank_word = omega arith;
@@ -285,18 +285,18 @@ module _ (mesh table : List ℕ) (rank : ℕ) (ok : Cuttable mesh table rank) (b
   behind-header off n = header-behind _ _ _ _ _ _ _ body off n
 
   trees_long : length (part_trees mesh table rank (tree_count table rank)) ≡ tree_size * tree_count table rank
-  trees_long = trees_length mesh table rank ok.mesh_sound (tree_count table rank) cut_within
+  trees_long = trees_length mesh table rank ok.mesh_sound_lem (tree_count table rank) cut_within
 
   module _ (i : ℕ) (tree : i < tree_count table rank) where
     tree_fits_lem : mesh_header + tree_size * (first_tree table rank + i) + tree_size ≤ length mesh
-    tree_fits_lem = sound_fits mesh ok.mesh_sound (first_tree table rank + i) (omega (arith, cut_within))
+    tree_fits_lem = sound_fits mesh ok.mesh_sound_lem (first_tree table rank + i) (omega (arith, cut_within))
 
     -- tree record i is the mesh's record with its neighbours renamed
     pub cut_record : piece (cut_part mesh table rank) (tree_place i) tree_size ≡ part_tree mesh table rank i
     cut_record =
         behind-header (tree_size * i) tree_size
         ∙ piece_before (part_trees mesh table rank (tree_count table rank)) _ (tree_size * i) tree_size (omega (arith, trees_long))
-        ∙ trees-at mesh table rank ok.mesh_sound (tree_count table rank) cut_within i tree
+        ∙ trees-at mesh table rank ok.mesh_sound_lem (tree_count table rank) cut_within i tree
 
     -- its core
     pub cut_stored : stored_tree (cut_part mesh table rank) i ≡ piece (part_tree mesh table rank i) 0 core_size
@@ -327,7 +327,7 @@ module _ (mesh table : List ℕ) (rank : ℕ) (ok : Cuttable mesh table rank) (b
       ap (λ (m : ℕ). piece (cut_part mesh table rank) (part_header + (tree_size * m + core_size * j)) core_size) cut_count
       ∙ behind-header (tree_size * n + core_size * j) core_size
       ∙ piece_behind (part_trees mesh table rank n) (part_ghosts mesh table rank (mesh_trees mesh)) (tree_size * n) (core_size * j) core_size trees_long
-      ∙ cores-at mesh table rank ok.mesh_sound (mesh_trees mesh) (le_refl (mesh_trees mesh)) j h
+      ∙ cores-at mesh table rank ok.mesh_sound_lem (mesh_trees mesh) (le_refl (mesh_trees mesh)) j h
 
   module _ (k : ℕ) (below : k < mesh_trees mesh) (ghostly : is_ghost (mesh_core mesh) table rank k ≡ true) where
     -- its position is below the number of ghosts
@@ -341,4 +341,4 @@ module _ (mesh table : List ℕ) (rank : ℕ) (ok : Cuttable mesh table rank) (b
 
     -- so it has that number
     pub cut_ghost_number : number_of (stored_ghost (cut_part mesh table rank) (ghost_position (mesh_core mesh) table rank k)) ≡ k
-    cut_ghost_number = ap number_of cut_ghost_at ∙ sound_number mesh ok.mesh_sound k below
+    cut_ghost_number = ap number_of cut_ghost_at ∙ sound_number mesh ok.mesh_sound_lem k below

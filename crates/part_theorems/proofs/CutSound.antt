@@ -77,7 +77,7 @@ module _ (mesh table : List ℕ) (rank : ℕ) (ok : Cuttable mesh table rank) (m
   neighbour_cases k e f h none tree beside =
       let m : ℕ = neighbour_of (mesh_core mesh k) f in
       let l : k < K = local_below k e in
-      let s = ok.mesh_sound in
+      let s = ok.mesh_sound_lem in
       either (ltb f (face_count (shape_of (mesh_core mesh k))))
       (λ p.
       let face : f < face_count (shape_of (mesh_core mesh k)) = ltb-true _ _ p in
@@ -118,9 +118,9 @@ module _ (mesh table : List ℕ) (rank : ℕ) (ok : Cuttable mesh table rank) (m
       let w = cuttable_fits mesh table rank ok bytes in
       let b = cut_within mesh table rank ok bytes in
       let l : first + i < K = omega arith in
-      let c = sound_core mesh ok.mesh_sound (first + i) l in
+      let c = sound_core mesh ok.mesh_sound_lem (first + i) l in
       rw (ne_eqb i unused (λ q. omega arith), cut_count mesh table rank ok bytes, lt-ltb i n h)
-      (ap number_of (cut_tree mesh table rank ok bytes i h) ∙ renamed_number (local_index mesh table rank) (faces_in (mesh_dimension mesh)) (mesh_core mesh (first + i)) c ∙ sound_number mesh ok.mesh_sound (first + i) l)
+      (ap number_of (cut_tree mesh table rank ok bytes i h) ∙ renamed_number (local_index mesh table rank) (faces_in (mesh_dimension mesh)) (mesh_core mesh (first + i)) c ∙ sound_number mesh ok.mesh_sound_lem (first + i) l)
 
   global-ghost : (k : ℕ) → k < K → ghost k ≡ true → global_number part (n + position k) ≡ k
   unfolding global_number ghost_position
@@ -190,7 +190,7 @@ module _ (mesh table : List ℕ) (rank : ℕ) (ok : Cuttable mesh table rank) (m
       let k : ℕ = first + i in
       let t : holds table rank k ≡ true = range_local i h in
       rw (cut_dimension mesh table rank ok bytes, cut_tree mesh table rank ok bytes i h)
-      (renamed_back (local_index mesh table rank) (global_number part) (faces_in (mesh_dimension mesh)) (mesh_core mesh k) (neighbour-back k t) (core-bytes k) (sound_core mesh ok.mesh_sound k (local_below k t)) (faces_positive (mesh_dimension mesh)) (neighbour_local k t))
+      (renamed_back (local_index mesh table rank) (global_number part) (faces_in (mesh_dimension mesh)) (mesh_core mesh k) (neighbour-back k t) (core-bytes k) (sound_core mesh ok.mesh_sound_lem k (local_below k t)) (faces_positive (mesh_dimension mesh)) (neighbour_local k t))
 
   abbrev is_tree : ℕ → Bool
   is_tree = is_local (part_first part) (part_count part) (part_ghost_count part) (global_tree part) (stored_ghost part)
@@ -209,7 +209,7 @@ module _ (mesh table : List ℕ) (rank : ℕ) (ok : Cuttable mesh table rank) (m
   at-is : (k j : ℕ) → j < ghost_count mesh table rank → is_at k j ≡ eqb (number j) k
   unfolding ghost_is ghost_count
   at-is k j h =
-      rw (cut_ghost mesh table rank ok bytes j h, sound_number mesh ok.mesh_sound (number j) (ghost_found (mesh_core mesh) table rank K j 0 h).0)
+      rw (cut_ghost mesh table rank ok bytes j h, sound_number mesh ok.mesh_sound_lem (number j) (ghost_found (mesh_core mesh) table rank K j 0 h).0)
 
   ghost-there : (k : ℕ) → any_below (part_ghost_count part) (is_at k) ≡ (ltb k K && ghost k)
   unfolding ghost_count
@@ -286,7 +286,7 @@ module _ (mesh table : List ℕ) (rank : ℕ) (ok : Cuttable mesh table rank) (m
   header-sound =
       rw (
         cut_dimension mesh table rank ok bytes,
-        (header_parts mesh (sound_header mesh ok.mesh_sound)).0,
+        (header_parts mesh (sound_header mesh ok.mesh_sound_lem)).0,
         cut_k mesh table rank ok bytes,
         ok.same_trees_lem,
         cut_ranks mesh table rank ok bytes,
@@ -313,7 +313,7 @@ module _ (mesh table : List ℕ) (rank : ℕ) (ok : Cuttable mesh table rank) (m
   neighbour_held k e f h =
       let m : ℕ = neighbour_of (mesh_core mesh k) f in
       let w = cuttable_fits mesh table rank ok bytes in
-      let b : m < K = neighbour_below mesh ok.mesh_sound k (local_below k e) f h in
+      let b : m < K = neighbour_below mesh ok.mesh_sound_lem k (local_below k e) f h in
       neighbour_cases k e f (omega (arith, count_six (shape_of (mesh_core mesh k))))
       (λ u. absurd (omega arith))
       (λ l t. tree_held m t)
@@ -322,7 +322,7 @@ module _ (mesh table : List ℕ) (rank : ℕ) (ok : Cuttable mesh table rank) (m
   -- a link between two records held obeys the rule
   link-held : (k : ℕ) → part_holds part k ≡ true → (f : ℕ) → f < face_count (shape_of (mesh_core mesh k)) → part_holds part (neighbour_of (mesh_core mesh k) f) ≡ true → link_ok (part_core part) k f ≡ true
   link-held k e f h t =
-      link_same (part_core part) (mesh_core mesh) k f (cut_core k e) (cut_core (neighbour_of (mesh_core mesh k) f) t) ∙ sound_link mesh ok.mesh_sound k (held_below_lem k e) f h
+      link_same (part_core part) (mesh_core mesh) k f (cut_core k e) (cut_core (neighbour_of (mesh_core mesh k) f) t) ∙ sound_link mesh ok.mesh_sound_lem k (held_below_lem k e) f h
 
   tree-link : (k : ℕ) → holds table rank k ≡ true → (f : ℕ) → f < face_count (shape_of (mesh_core mesh k)) → tree_link (part_first part) (part_count part) (part_ghost_count part) (global_tree part) (stored_ghost part) k f ≡ true
   unfolding part_holds part_core held held_core is_local ghost_is
@@ -336,7 +336,7 @@ module _ (mesh table : List ℕ) (rank : ℕ) (ok : Cuttable mesh table rank) (m
       let k : ℕ = first + i in
       let t : holds table rank k ≡ true = range_local i h in
       let l : k < K = local_below k t in
-      let s = ok.mesh_sound in
+      let s = ok.mesh_sound_lem in
       let c : global_tree part i ≡ mesh_core mesh k = cut_global i h in
       let e : part_first part + i ≡ k = ap (λ (m : ℕ). m + i) (cut_first mesh table rank ok bytes) in
       record {
@@ -352,8 +352,8 @@ module _ (mesh table : List ℕ) (rank : ℕ) (ok : Cuttable mesh table rank) (m
       let e : part_holds part k ≡ true = ghost_held k l t in
       let c : part_core part k ≡ mesh_core mesh k = cut_core k e in
       let same : neighbour_of (part_core part k) f ≡ neighbour_of (mesh_core mesh k) f = ap (λ (r : List ℕ). neighbour_of r f) c in
-      let link : link_ok (mesh_core mesh) k f ≡ true = sound_link mesh ok.mesh_sound k l f h in
-      let below : neighbour_of (mesh_core mesh k) f < K = neighbour_below mesh ok.mesh_sound k l f h in
+      let link : link_ok (mesh_core mesh) k f ≡ true = sound_link mesh ok.mesh_sound_lem k l f h in
+      let below : neighbour_of (mesh_core mesh k) f < K = neighbour_below mesh ok.mesh_sound_lem k l f h in
       ghost_link_make _ _ _ _ _ k f (part_k part) (λ p. link-held k e f h (ap (part_holds part) (sym same) ∙ p))
       (omega (arith, same, cut_k mesh table rank ok bytes))
       (ap (λ (r : List ℕ). orientation_ok r f) c ∙ orientation_of_lem (mesh_core mesh) k f link)
@@ -368,7 +368,7 @@ module _ (mesh table : List ℕ) (rank : ℕ) (ok : Cuttable mesh table rank) (m
       let b = cut_ghost mesh table rank ok bytes j h in
       let la = (ghost_found (mesh_core mesh) table rank K (j - 1) 0 (omega arith)).0 in
       let lb = (ghost_found (mesh_core mesh) table rank K j 0 h).0 in
-      rw (e, a, b, sound_number mesh ok.mesh_sound (number (j - 1)) la, sound_number mesh ok.mesh_sound (number j) lb)
+      rw (e, a, b, sound_number mesh ok.mesh_sound_lem (number (j - 1)) la, sound_number mesh ok.mesh_sound_lem (number j) lb)
       (lt-ltb (number (j - 1)) (number j) (ghosts_ascend (mesh_core mesh) table rank K (j - 1) j 0 (omega arith) h)))
 
   beside-is : (j : ℕ) → j < ghost_count mesh table rank → ghost_beside (part_first part) (part_count part) (part_ghost_count part) (global_tree part) (stored_ghost part) j ≡ true
@@ -386,7 +386,7 @@ module _ (mesh table : List ℕ) (rank : ℕ) (ok : Cuttable mesh table rank) (m
   ghost-sound j h =
       let k : ℕ = number j in
       let w = ghost_found (mesh_core mesh) table rank K j 0 h in
-      let s = ok.mesh_sound in
+      let s = ok.mesh_sound_lem in
       let c : stored_ghost part j ≡ mesh_core mesh k = cut_ghost mesh table rank ok bytes j h in
       let e : number_of (mesh_core mesh k) ≡ k = sound_number mesh s k w.0 in
       record {
@@ -404,7 +404,7 @@ module _ (mesh table : List ℕ) (rank : ℕ) (ok : Cuttable mesh table rank) (m
   unfolding part_linked
   cut_sound =
       let w = cuttable_fits mesh table rank ok bytes in
-      let l : length part ≡ part_size (part_count part) (part_ghost_count part) = rw (cut_count mesh table rank ok bytes, cut_ghosts mesh table rank ok bytes) (cut_length mesh table rank ok.mesh_sound w.rises w.within) in
+      let l : length part ≡ part_size (part_count part) (part_ghost_count part) = rw (cut_count mesh table rank ok bytes, cut_ghosts mesh table rank ok bytes) (cut_length mesh table rank ok.mesh_sound_lem w.rises w.within) in
       part_sound_is part table rank bytes (record { counted = ok.table_ranks; checked = ok.table_valid; below = ok.rank_below })
       ∙ rw (header-sound, eq-eqb (length part) _ l)
       (view_make (part_first part) (part_count part) (part_ghost_count part) (global_tree part) (stored_ghost part) (part_dimension part) (part_k part)

@@ -99,12 +99,12 @@ module _ (old new : List ℕ) (r : ℕ) (e : r ≡ first_failed (table_checks ol
   tables_agree b b' z =
       let h = three_hold (ranks_ok old && ranks_ok new) (valid old && valid new) (eqb (ranks old) (ranks new) && eqb (trees old) (trees new)) (sym e ∙ z) in
       record {
-        old_bytes_lem = b;
-        new_bytes_lem = b';
+        old_bytes = b;
+        new_bytes = b';
         old_ranks = and_fst (ranks_ok old) (ranks_ok new) h.0;
         new_ranks = and_snd (ranks_ok old) (ranks_ok new) h.0;
-        old_valid_lem = and_fst (valid old) (valid new) h.1;
-        new_valid_lem = and_snd (valid old) (valid new) h.1;
+        old_valid = and_fst (valid old) (valid new) h.1;
+        new_valid = and_snd (valid old) (valid new) h.1;
         same_ranks = sym (eqb-true (ranks old) (ranks new) (and_fst (eqb (ranks old) (ranks new)) (eqb (trees old) (trees new)) h.2));
         same_trees = sym (eqb-true (trees old) (trees new) (and_snd (eqb (ranks old) (ranks new)) (eqb (trees old) (trees new)) h.2));
       }
@@ -126,10 +126,10 @@ module _ (old new : List ℕ) (r : ℕ) (e : r ≡ first_failed (table_checks ol
     old_ranks_lem = (tables_agree b b' z).old_ranks
 
     pub rank_of : (P p : ℕ) → P ≡ ranks old → p < P → RankOf old new p
-    rank_of P p k h = record { tables = tables_agree b b' z; rank_below_lem = omega arith }
+    rank_of P p k h = record { tables = tables_agree b b' z; rank_below = omega arith }
 
     pub tree_to_lem : (K P k q : ℕ) → K ≡ trees old → k < K → P ≡ ranks old → q < P → TreeTo old new k q
-    tree_to_lem K P k q e' h d l = record { tables = tables_agree b b' z; tree_below = omega arith; receiver_below_lem = omega arith }
+    tree_to_lem K P k q e' h d l = record { tables = tables_agree b b' z; tree_below = omega arith; receiver_below = omega arith }
 
   -- ---- the sender of a tree
 

@@ -23,14 +23,14 @@ abbrev plan_new : List ℕ
 plan_new = table_bytes (0 ∷ minus 3 ∷ minus 4 ∷ 5 ∷ [])
 
 -- the first tree and the number of trees of its five moves; of the other four pairs, none sends a tree
-pub plan_moves_lem : (sent_first plan_old plan_new 0 0 ≡ 0) × (sent_count plan_old plan_new 0 0 ≡ 2)
+pub plan_moves : (sent_first plan_old plan_new 0 0 ≡ 0) × (sent_count plan_old plan_new 0 0 ≡ 2)
     × (sent_first plan_old plan_new 1 0 ≡ 2) × (sent_count plan_old plan_new 1 0 ≡ 1)
     × (sent_first plan_old plan_new 1 1 ≡ 2) × (sent_count plan_old plan_new 1 1 ≡ 1)
     × (sent_first plan_old plan_new 2 1 ≡ 3) × (sent_count plan_old plan_new 2 1 ≡ 1)
     × (sent_first plan_old plan_new 2 2 ≡ 3) × (sent_count plan_old plan_new 2 2 ≡ 2)
     × (sent_count plan_old plan_new 0 1 ≡ 0) × (sent_count plan_old plan_new 0 2 ≡ 0) × (sent_count plan_old plan_new 1 2 ≡ 0) × (sent_count plan_old plan_new 2 0 ≡ 0)
 unfolding sent_first sent_count sends count_below any_below sender nearest distance all_below least_below holds first_tree end_tree first_of magnitude negative trees ranks entry le_at piece le_value table_bytes le_bytes
-plan_moves_lem = (refl, refl, refl, refl, refl, refl, refl, refl, refl, refl, refl, refl, refl, refl)
+plan_moves = (refl, refl, refl, refl, refl, refl, refl, refl, refl, refl, refl, refl, refl, refl)
 
 -- tree 0, on ranks at several distances from the receiver, which hasn't got it: the nearest sends it, the lower of two
 pub nearest_senders : (sender (table_bytes (0 ∷ minus 1 ∷ 1 ∷ 1 ∷ [])) 0 2 ≡ 1) × (sender (table_bytes (0 ∷ 1 ∷ minus 1 ∷ 1 ∷ [])) 0 1 ≡ 0)

@@ -18,7 +18,7 @@ use Rattle.offsets.proofs.Tables.{trees_high}
 use Rattle.pattern.proofs.Senders.{some_holder, sender_is, sent_high_lem, sent_count_lem, sent_first_lem, sent_old, upper_le}
 use Rattle.pattern.proofs.Sets.{sends_to_lem}
 use Rattle.pattern.specs.Sender.{Tables, distance, sender, sent_first, sent_count}
-use Rattle.pattern.specs.Means.{TreeOf, RankOf, PairOf, PairNear, held_below, held_above, has_trees, lower_rank, above_with_trees, upper_rank, sent_low, sent_high, exchanges_tree, rank_set}
+use Rattle.pattern.specs.Means.{TreeOf, RankOf, PairOf, PairNear, held_below, held_above, has_trees, lower_rank, above_with_trees, upper_rank, sent_low, sent_high}
 use Rattle.pattern.specs.Sets.{sends_to}
 
 -- ---- what is read stands in the tables
@@ -34,17 +34,17 @@ receiver_in_new old new T q h = row_fits new q T.new_ranks (rw T.same_ranks h)
 -- of a pair's sender and receiver
 module _ {old new : List ℕ} {p q : ℕ} (f : PairOf old new p q) where
   pub sender_row : table_length (p + 1) ≤ length old
-  sender_row = row_fits old p f.tables.old_ranks f.sender_below_lem
+  sender_row = row_fits old p f.tables.old_ranks f.sender_below
 
   pub receiver_new_row : table_length (q + 1) ≤ length new
-  receiver_new_row = receiver_in_new old new f.tables q f.receiver_below_lem
+  receiver_new_row = receiver_in_new old new f.tables q f.receiver_below
 
   -- their numbers are small
   pub pair_small : (p < max_ranks) × (q < max_ranks)
   pair_small =
       let h = (ranks_known old f.tables.old_ranks).high in
-      let l = f.sender_below_lem in
-      let r = f.receiver_below_lem in
+      let l = f.sender_below in
+      let r = f.receiver_below in
       (omega arith, omega arith)
 
   -- the next rank with trees, or P, has an entry
@@ -56,28 +56,28 @@ module _ {old new : List ℕ} {p q : ℕ} (f : PairOf old new p q) where
 module _ (old new : List ℕ) (p q : ℕ) (f : PairOf old new p q) (low high : ℕ) (a : low ≡ sent_low old new p q) (b : high ≡ sent_high old new p q) where
   -- p sends q a tree where low is below high
   pub sends_tested : ltb low high ≡ sends_to old new p q
-  sends_tested = rw (a, b) (sym (sends_to_lem old new f.tables p q f.sender_below_lem f.receiver_below_lem))
+  sends_tested = rw (a, b) (sym (sends_to_lem old new f.tables p q f.sender_below f.receiver_below))
 
   -- they are below K
   pub sent_fits : high ≤ max_trees
   sent_fits =
       let T = f.tables in
-      omega (arith, sent_high_lem old new T p q f.sender_below_lem f.receiver_below_lem, trees_high old T.old_bytes_lem T.old_ranks T.old_valid_lem)
+      omega (arith, sent_high_lem old new T p q f.sender_below f.receiver_below, trees_high old T.old_bytes T.old_ranks T.old_valid)
 
   counted : sent_count old new p q ≡ high - low
-  counted = rw (a, b) (sent_count_lem old new f.tables p q f.sender_below_lem f.receiver_below_lem)
+  counted = rw (a, b) (sent_count_lem old new f.tables p q f.sender_below f.receiver_below)
 
   -- the first and how many, where there are none
   pub sent_none : high ≤ low → (0 ≡ sent_first old new p q) × (0 ≡ sent_count old new p q)
   sent_none h =
       let n : sent_count old new p q ≡ 0 = omega (arith, counted) in
-      (sym (sent_first_lem old new f.tables p q f.sender_below_lem f.receiver_below_lem ∙ rw (eq-eqb (sent_count old new p q) 0 n)), sym n)
+      (sym (sent_first_lem old new f.tables p q f.sender_below f.receiver_below ∙ rw (eq-eqb (sent_count old new p q) 0 n)), sym n)
 
   -- and where there are some
   pub sent_some : low < high → (low ≡ sent_first old new p q) × (high - low ≡ sent_count old new p q)
   sent_some h =
       let n : sent_count old new p q ≡ 0 → ⊥ = λ z. omega (arith, counted) in
-      (sym (sent_first_lem old new f.tables p q f.sender_below_lem f.receiver_below_lem ∙ rw (ne_eqb (sent_count old new p q) 0 n) (sym a)), sym counted)
+      (sym (sent_first_lem old new f.tables p q f.sender_below f.receiver_below ∙ rw (ne_eqb (sent_count old new p q) 0 n) (sym a)), sym counted)
 
 -- a rank without trees sends none
 module _ (old new : List ℕ) (p q : ℕ) (f : PairOf old new p q) (h : has_trees old p ≡ false) where
@@ -86,7 +86,7 @@ module _ (old new : List ℕ) (p q : ℕ) (f : PairOf old new p q) (h : has_tree
   nothing = omega (arith, ltb-false (first_tree old p) (end_tree old p) h, sent_old old new f.tables p q)
 
   pub empty_sends : false ≡ sends_to old new p q
-  empty_sends = sym (sends_to_lem old new f.tables p q f.sender_below_lem f.receiver_below_lem ∙ le-ltb (sent_low old new p q) (sent_high old new p q) nothing)
+  empty_sends = sym (sends_to_lem old new f.tables p q f.sender_below f.receiver_below ∙ le-ltb (sent_low old new p q) (sent_high old new p q) nothing)
 
   pub empty_sent : (0 ≡ sent_first old new p q) × (0 ≡ sent_count old new p q)
   empty_sent = sent_none old new p q f (sent_low old new p q) (sent_high old new p q) refl refl nothing
@@ -216,7 +216,7 @@ module _ (t : List ℕ) (k q : ℕ) (b : Bytes t) (f : TreeOf t k × (q < ranks 
 
 -- each other rank makes a pair with the rank
 pub pair_of : {old new : List ℕ} {p : ℕ} (P q : ℕ) → RankOf old new p → P ≡ ranks old → q < P → PairOf old new p q
-pair_of P q f e h = record { tables = f.tables; sender_below_lem = f.rank_below_lem; receiver_below_lem = omega arith }
+pair_of P q f e h = record { tables = f.tables; sender_below = f.rank_below; receiver_below = omega arith }
 
 -- with the ranks that have trees on either side of it
 pub pair_near : {old new : List ℕ} {p lower upper : ℕ} (end q : ℕ) → RankOf old new p → end ≤ ranks old → q < end → lower ≡ lower_rank old p → upper ≡ upper_rank old p → PairNear old new p q lower upper

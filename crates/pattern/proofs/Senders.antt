@@ -208,16 +208,16 @@ module _ (old : List ℕ) (k q : ℕ) where
 
 module _ (old new : List ℕ) (T : Tables old new) where
   near : (p : ℕ) → (first_tree old p ≤ magnitude (entry old p)) × (magnitude (entry old p) ≤ first_tree old p + 1)
-  near = first_near old T.old_bytes_lem T.old_ranks T.old_valid_lem
+  near = first_near old T.old_bytes T.old_ranks T.old_valid
 
   before : (p q : ℕ) → p < q → q ≤ ranks old → end_tree old p ≤ magnitude (entry old q)
-  before = end_before old T.old_bytes_lem T.old_ranks T.old_valid_lem
+  before = end_before old T.old_bytes T.old_ranks T.old_valid
 
   between : (p m r k : ℕ) → p < m → m < r → holds old p k ≡ true → holds old r k ≡ true → has_trees old m ≡ true → holds old m k ≡ true
-  between p m r k x y e f s = between_holds old T.old_bytes_lem T.old_ranks T.old_valid_lem p m r k x y e f (trees_some old m s)
+  between p m r k x y e f s = between_holds old T.old_bytes T.old_ranks T.old_valid p m r k x y e f (trees_some old m s)
 
   holder : (k : ℕ) → k < trees old → (p : ℕ) × (p < ranks old) × (magnitude (entry old p) ≤ k) × (holds old p k ≡ true)
-  holder = some_holder old T.old_bytes_lem T.old_ranks T.old_valid_lem
+  holder = some_holder old T.old_bytes T.old_ranks T.old_valid
 
   -- the sender is a rank
   pub sender_lt : (k q : ℕ) → k < trees old → q < ranks old → sender old k q < ranks old
@@ -229,7 +229,7 @@ module _ (old new : List ℕ) (T : Tables old new) where
 
   -- a rank that holds the tree has it from itself
   pub sender_self : (k q : ℕ) → holds old q k ≡ true → sender old k q ≡ q
-  sender_self k q e = sender_is old k q q (holds_rank old T.old_bytes_lem T.old_ranks T.old_valid_lem q k e) e (λ r l h. omega arith) (λ r l u h. omega arith)
+  sender_self k q e = sender_is old k q q (holds_rank old T.old_bytes T.old_ranks T.old_valid q k e) e (λ r l h. omega arith) (λ r l u h. omega arith)
 
   -- there is a sender exactly for the trees of the new range
   pub sender_defined : (k q : ℕ) → holds new q k ≡ true → sender_to old new k q ≡ Rank (sender old k q)
@@ -301,7 +301,7 @@ module _ (old new : List ℕ) (T : Tables old new) where
   -- no tree is from O[P] on
   last-first : first_tree old (ranks old) ≡ trees old
   unfolding trees
-  last-first = plain_first old T.old_bytes_lem T.old_ranks T.old_valid_lem (ranks old) (small_plain (trees old) (trees_high old T.old_bytes_lem T.old_ranks T.old_valid_lem)) ∙ last_end old T.old_bytes_lem T.old_ranks T.old_valid_lem
+  last-first = plain_first old T.old_bytes T.old_ranks T.old_valid (ranks old) (small_plain (trees old) (trees_high old T.old_bytes T.old_ranks T.old_valid)) ∙ last_end old T.old_bytes T.old_ranks T.old_valid
 
   module _ (p q k : ℕ) (l : p < ranks old) (r : q < ranks old) (h : k < trees old) where
     -- a tree before |O[p]| that p holds has a lower holder
@@ -329,7 +329,7 @@ module _ (old new : List ℕ) (T : Tables old new) where
     upper-holds : (r : ℕ) → p < r → holds old r k ≡ true → holds old p k ≡ true → (upper_rank old p ≤ r) × (holds old (upper_rank old p) k ≡ true)
     upper-holds r x e f =
         let n = upper_rank old p in
-        let R = holds_rank old T.old_bytes_lem T.old_ranks T.old_valid_lem r k e in
+        let R = holds_rank old T.old_bytes T.old_ranks T.old_valid r k e in
         let u = upper_near old p r x R (trees_of old r k e) in
         let a = upper_has old p (omega arith) in
         (u, either (eqb r n) (λ y. rw (eqb-true r n y) at e) (λ y. between p n r k a.0 (omega (arith, eqb-false r n y)) f e a.1))
@@ -402,7 +402,7 @@ module _ (old new : List ℕ) (T : Tables old new) where
     sent_high_lem =
         let n = T.same_ranks in
         let k = T.same_trees in
-        omega (arith, (sent_new p q).1, end_trees new T.new_bytes_lem T.new_ranks T.new_valid_lem q (omega arith))
+        omega (arith, (sent_new p q).1, end_trees new T.new_bytes T.new_ranks T.new_valid q (omega arith))
 
     range : (k : ℕ) → k < trees old → sends old new p q k ≡ (leb (sent_low old new p q) k && ltb k (sent_high old new p q))
     range k h = sends_range p q k l r h

@@ -107,7 +107,7 @@ module _ (old new : List ℕ) (T : Tables old new) where
       let n = T.same_ranks in
       let m = T.same_trees in
       let h = holds_true new q k e in
-      omega (arith, end_trees new T.new_bytes_lem T.new_ranks T.new_valid_lem q (omega arith))
+      omega (arith, end_trees new T.new_bytes T.new_ranks T.new_valid q (omega arith))
 
   module _ (p q : ℕ) (l : p < ranks old) (r : q < ranks old) where
     -- p sends q a tree where the range from sent_low to sent_high has one
@@ -122,7 +122,7 @@ module _ (old new : List ℕ) (T : Tables old new) where
         let f : ℕ → Bool = λ k. holds new q k && eqb (sender old k q) p in
         let g : ℕ → Bool = λ i. eqb (sender old (first_tree new q + i) q) p in
         let n = T.same_ranks in
-        let c : first_tree new q + tree_count new q ≡ end_tree new q = count_add new T.new_bytes_lem T.new_ranks T.new_valid_lem q (omega arith) in
+        let c : first_tree new q + tree_count new q ≡ end_tree new q = count_add new T.new_bytes T.new_ranks T.new_valid q (omega arith) in
         iff_eq (any_below (tree_count new q) g) (any_below (trees old) f)
         (λ e. let a = any_at (tree_count new q) g e in
         let k = first_tree new q + a.0 in
@@ -241,8 +241,8 @@ module _ (old new : List ℕ) (T : Tables old new) where
         tests,
         and_snd (ltb (first_tree new i) k) (ltb k (end_tree new i)) x,
         and_fst (ltb (first_tree new j) k) (ltb k (end_tree new j)) y,
-        end_before new T.new_bytes_lem T.new_ranks T.new_valid_lem i j l (omega arith),
-        first_near new T.new_bytes_lem T.new_ranks T.new_valid_lem j,
+        end_before new T.new_bytes T.new_ranks T.new_valid i j l (omega arith),
+        first_near new T.new_bytes T.new_ranks T.new_valid j,
       ))
 
   -- there are at most 3 P messages, those of a rank to itself included

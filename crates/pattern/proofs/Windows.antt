@@ -15,7 +15,6 @@ use Rattle.offsets.specs.Table.{ranks, entry, magnitude, first_tree, end_tree}
 use Rattle.offsets.proofs.OnePass.{ranks_known}
 use Rattle.offsets.proofs.Tables.{end_next, first_le_end, rises}
 use Rattle.pattern.specs.Means.{ValidTable, RankOf, FirstAbove, Meeting, WindowOf, SetWritten, sent_low, sent_high, exchanges_tree, rank_set}
-use Rattle.pattern.specs.Sender.{Tables}
 use Rattle.pattern.proofs.Laws.{count_one, count_skip, Writing, write_index, write_more, write_skip, write_done}
 use Rattle.pattern.proofs.Senders.{first_near, end_before, sent_old, sent_new}
 use Rattle.pattern.proofs.Sets.{sends_to_lem, gets_from_lem}
@@ -72,14 +71,14 @@ module _ (t : List ℕ) (k : ℕ) (table : ValidTable t) where
 pub meeting_is : (from to : List ℕ) (p : ℕ) → RankOf from to p → (a b x y : ℕ) → a ≡ first_tree from p → b ≡ end_tree from p → FirstAbove to a x → FirstAbove to b y → Meeting to (first_tree from p) (end_tree from p) (x - 1) y
 meeting_is from to p f a b x y e g A B =
     let T = f.tables in
-    let u = first_le_end from T.old_bytes_lem T.old_ranks T.old_valid_lem p f.rank_below_lem in
+    let u = first_le_end from T.old_bytes T.old_ranks T.old_valid p f.rank_below in
     record {
       ordered = either (leb (x - 1) y) (leb-true (x - 1) y)
           (λ c. let l : suc y < x = omega tests in
-          absurd (omega (arith, A.before y l, A.high, B.after y (omega arith) (omega (arith, A.high)), end_next to y, rises to T.new_bytes_lem T.new_ranks T.new_valid_lem y (suc y) (omega arith) (omega (arith, A.high)))));
+          absurd (omega (arith, A.before y l, A.high, B.after y (omega arith) (omega (arith, A.high)), end_next to y, rises to T.new_bytes T.new_ranks T.new_valid y (suc y) (omega arith) (omega (arith, A.high)))));
       within = B.high;
       before = λ i l. rw (← e) (A.before i (omega arith));
-      after = λ i l m. omega (arith, B.after i l m, first_near to T.new_bytes_lem T.new_ranks T.new_valid_lem i);
+      after = λ i l m. omega (arith, B.after i l m, first_near to T.new_bytes T.new_ranks T.new_valid i);
     }
 
 -- the receivers of the rank are in the window of its old range
@@ -89,7 +88,7 @@ window_sending old new p first end f w =
     let T = f.tables in
     let same = T.same_ranks in
     let none : (i : ℕ) → i < ranks old → sent_high old new p i ≤ sent_low old new p i → exchanges_tree old new p true i ≡ false =
-    λ i l h. sends_to_lem old new T p i f.rank_below_lem l ∙ le-ltb (sent_low old new p i) (sent_high old new p i) h in
+    λ i l h. sends_to_lem old new T p i f.rank_below l ∙ le-ltb (sent_low old new p i) (sent_high old new p i) h in
     record {
       ordered = w.ordered;
       within = omega (arith, w.within);
@@ -103,7 +102,7 @@ unfolding exchanges_tree
 window_receiving old new q first end f w =
     let T = f.tables in
     let none : (i : ℕ) → i < ranks old → sent_high old new i q ≤ sent_low old new i q → exchanges_tree old new q false i ≡ false =
-    λ i l h. gets_from_lem old new T i q l f.rank_below_lem ∙ le-ltb (sent_low old new i q) (sent_high old new i q) h in
+    λ i l h. gets_from_lem old new T i q l f.rank_below ∙ le-ltb (sent_low old new i q) (sent_high old new i q) h in
     record {
       ordered = w.ordered;
       within = w.within;

@@ -29,19 +29,19 @@ pub record ValidTable (t : List ℕ) : Type 0 where
 -- two tables that agree, and a rank of theirs
 pub record RankOf (old new : List ℕ) (p : ℕ) : Type 0 where
   pub tables : Tables old new
-  pub rank_below_lem : p < ranks old
+  pub rank_below : p < ranks old
 
 -- two tables that agree, and two ranks of theirs
 pub record PairOf (old new : List ℕ) (p q : ℕ) : Type 0 where
   pub tables : Tables old new
-  pub sender_below_lem : p < ranks old
-  pub receiver_below_lem : q < ranks old
+  pub sender_below : p < ranks old
+  pub receiver_below : q < ranks old
 
 -- two tables that agree, and a tree and a rank of theirs
 pub record TreeTo (old new : List ℕ) (k q : ℕ) : Type 0 where
   pub tables : Tables old new
   pub tree_below : k < trees old
-  pub receiver_below_lem : q < ranks old
+  pub receiver_below : q < ranks old
 
 -- ---- the walk away from q for a rank that has tree k: d ranks below q, then d above
 

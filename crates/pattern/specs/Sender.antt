@@ -8,12 +8,12 @@ use Rattle.pattern.specs.declared.Sender.TheVariants.{Rank, Nobody}
 
 -- an old and a new table, both valid, that agree in P and K: what the theorems are about
 pub record Tables (old new : List ℕ) : Type 0 where
-  pub old_bytes_lem : Bytes old
-  pub new_bytes_lem : Bytes new
+  pub old_bytes : Bytes old
+  pub new_bytes : Bytes new
   pub old_ranks : ranks_ok old ≡ true
   pub new_ranks : ranks_ok new ≡ true
-  pub old_valid_lem : valid old ≡ true
-  pub new_valid_lem : valid new ≡ true
+  pub old_valid : valid old ≡ true
+  pub new_valid : valid new ≡ true
   pub same_ranks : ranks new ≡ ranks old
   pub same_trees : trees new ≡ trees old
 

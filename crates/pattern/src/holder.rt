@@ -1,16 +1,16 @@
 // Who sends a tree, of two tables that are valid and agree.
 ghost use Rattle.std.specs.Prelude.{◌≡◌, true, ◌<◌};
 ghost use Rattle.offsets.specs.Limits.{max_ranks};
-ghost use Rattle.offsets.specs.Table.{ranks as ranks_of_lem};
+ghost use Rattle.offsets.specs.Table.{ranks as ranks_of};
 ghost use Rattle.pattern.specs.Means.{TreeOf, TreeTo, held_below, held_above, sender_fits, sender_refused};
-ghost use Rattle.pattern.specs.Sender.{sender as sender_is_lem, sender_to, sender_number};
+ghost use Rattle.pattern.specs.Sender.{sender as sender_is, sender_to, sender_number};
 
 use crate::{Sender, SenderAnswer};
 use offsets::table::{holds, ranks};
 
 // Whether the rank d below q, if there is one, has tree k.
 fn holds_below(old: &[u8], k: u64, q: usize, d: usize) -> bool
-    requires { TreeOf old.now k × (q < ranks_of_lem old.now) }
+    requires { TreeOf old.now k × (q < ranks_of old.now) }
     ensures { result ≡ held_below old.now k q d }
 {
     if q < d {
@@ -21,7 +21,7 @@ fn holds_below(old: &[u8], k: u64, q: usize, d: usize) -> bool
 
 // Whether the rank d above q, if there is one, has tree k.
 fn holds_above(old: &[u8], k: u64, q: usize, d: usize) -> bool
-    requires { TreeOf old.now k × (q < ranks_of_lem old.now) }
+    requires { TreeOf old.now k × (q < ranks_of old.now) }
     ensures { result ≡ held_above old.now k q d }
 {
     let ranks = ranks(old);
@@ -33,8 +33,8 @@ fn holds_above(old: &[u8], k: u64, q: usize, d: usize) -> bool
 
 // The sender of tree k to q, which gets it: the first that has the tree on a walk away from q, at each step to the lower side first.
 pub fn sender(old: &[u8], k: u64, q: usize) -> usize
-    requires { TreeOf old.now k × (q < ranks_of_lem old.now) }
-    ensures { (result ≡ sender_is_lem old.now k q) × (result < max_ranks) }
+    requires { TreeOf old.now k × (q < ranks_of old.now) }
+    ensures { (result ≡ sender_is old.now k q) × (result < max_ranks) }
 {
     let end = ranks(old);
     let mut d = 0;

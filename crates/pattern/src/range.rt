@@ -1,7 +1,7 @@
 // The trees from one rank to another, of two tables that are valid and agree.
 ghost use Rattle.std.specs.Prelude.{◌≡◌, true, ◌+◌, ◌≤◌, ◌<◌, min, max, length};
 ghost use Rattle.offsets.specs.Limits.{max_ranks};
-ghost use Rattle.offsets.specs.Table.{table_length, ranks_ok, ranks as ranks_of_lem};
+ghost use Rattle.offsets.specs.Table.{table_length, ranks_ok, ranks as ranks_of};
 ghost use Rattle.pattern.specs.Means.{PairOf, PairNear, has_trees, lower_rank, upper_rank, sent_low, sent_high};
 ghost use Rattle.pattern.specs.Sender.{sent_first, sent_count};
 ghost use Rattle.pattern.specs.Sets.{sends_to};
@@ -35,7 +35,7 @@ fn has_trees(t: &[u8], p: usize) -> bool
 
 // The nearest rank below p that has trees; 0 where none has.
 pub fn lower_rank(t: &[u8], p: usize) -> usize
-    requires { (ranks_ok t.now ≡ true) × (p < ranks_of_lem t.now) }
+    requires { (ranks_ok t.now ≡ true) × (p < ranks_of t.now) }
     ensures { (result ≡ lower_rank t.now p) × (result < max_ranks) }
 {
     let mut m = p;
@@ -50,7 +50,7 @@ pub fn lower_rank(t: &[u8], p: usize) -> usize
 
 // The nearest rank above p that has trees; P where none has.
 pub fn upper_rank(t: &[u8], p: usize) -> usize
-    requires { (ranks_ok t.now ≡ true) × (p < ranks_of_lem t.now) }
+    requires { (ranks_ok t.now ≡ true) × (p < ranks_of t.now) }
     ensures { (result ≡ upper_rank t.now p) × (result ≤ max_ranks) }
 {
     let end = ranks(t);

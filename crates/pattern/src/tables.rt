@@ -1,7 +1,7 @@
 // The check of two tables.
 ghost use Rattle.std.specs.Prelude.{◌≡◌, true, ◌&&◌, eqb};
 ghost use Rattle.encoding.specs.Refusal.{first_failed};
-ghost use Rattle.offsets.specs.Table.{ranks_ok, ranks as ranks_of_lem, valid as is_valid, trees as trees_of_lem};
+ghost use Rattle.offsets.specs.Table.{ranks_ok, ranks as ranks_of, valid as is_valid, trees as trees_of};
 ghost use Rattle.pattern.specs.Calls.{table_checks};
 
 use offsets::table::{ranks, ranks_ok, trees, valid};
@@ -22,7 +22,7 @@ fn both_valid(old: &[u8], new: &[u8]) -> bool
 // Whether two tables have the same P and the same K.
 fn agree(old: &[u8], new: &[u8]) -> bool
     requires { (ranks_ok old.now && ranks_ok new.now) ≡ true }
-    ensures { result ≡ (eqb (ranks_of_lem old.now) (ranks_of_lem new.now) && eqb (trees_of_lem old.now) (trees_of_lem new.now)) }
+    ensures { result ≡ (eqb (ranks_of old.now) (ranks_of new.now) && eqb (trees_of old.now) (trees_of new.now)) }
 {
     (ranks(old) == ranks(new)) & (trees(old) == trees(new))
 }

@@ -1,8 +1,11 @@
 // Reads two offset tables from standard input and writes who sends which trees to whom. The whole output, refusals included, is that of plan_text::plan_output.
-ghost use Rattle.std.specs.Prelude.{◌≡◌, length};
+#![tactic(auto)]
+
+ghost use Rattle.std.specs.Prelude.{◌≡◌, ◌≤◌, length, IfOk};
 
 use encoding::answer::Length;
-use libc::{STDIN_FILENO, STDOUT_FILENO};
+use std::io;
+use std::io::{Read, Write};
 
 // Room for the longest input that is read, and for a byte more, which shows that an input is too long.
 fn input_buffer() -> [u8; 32769]
@@ -11,26 +14,42 @@ fn input_buffer() -> [u8; 32769]
     [0; 32769]
 }
 
-// Room for every output (`output-fits` of `PlanTexts`, crates/plan_text/specs/Promises.antt).
+// Room for every output (`output_fits` of `PlanTexts`, crates/plan_text/specs/Promises.antt).
 fn output_buffer() -> [u8; 131072]
     ensures { 131072 ≡ length result }
 {
     [0; 131072]
 }
 
-// The whole output for a text, written to standard output.
-fn answer(text: &[u8], out: &mut [u8]) {
+// Reads until the buffer is full or the input ends, and answers how many bytes it put at the buffer's beginning.
+fn read_full(reader: &mut impl Read, text: &mut [u8]) -> io::Result<usize>
+    ensures { IfOk result (λ n. n ≤ length text.new) }
+{
+    let mut done = 0;
+    while done < text.len() {
+        let n = reader.read(&mut text[done..])?;
+        if n == 0 {
+            break;
+        }
+        done += n;
+    }
+    Ok(done)
+}
+
+// The whole output for a text, written to a writer.
+fn answer(text: &[u8], out: &mut [u8], writer: &mut impl Write) -> io::Result<()> {
     let l: Length = plan_text::plan_output(text, out);
     let n = l.length;
     if n <= out.len() as u64 {
         let end = n as usize;
-        io::write_all(STDOUT_FILENO, &out[..end]);
+        writer.write_all(&out[..end])?;
     }
+    Ok(())
 }
 
-fn main() {
+fn main(rt: HostRuntime) -> io::Result<()> {
     let mut text = input_buffer();
     let mut out = output_buffer();
-    let n = io::read_full(STDIN_FILENO, &mut text);
-    answer(&text[..n], &mut out);
+    let n = read_full(&mut rt.reader(), &mut text)?;
+    answer(&text[..n], &mut out, &mut io::writer(&rt))
 }

@@ -1,4 +1,6 @@
 // The text of a plan: who sends which trees to whom.
+#![tactic(auto)]
+
 ghost use Rattle.std.specs.Prelude.{◌≡◌};
 ghost use Rattle.plan_text.specs.Plan.{plan_answer, plan_output_answer};
 

@@ -235,11 +235,11 @@ module _ {old new : List ℕ} {p q first count : ℕ} (P : PairOf old new p q) (
     pub pair_small : Small p q first (first + count - 1)
     pair_small =
         let T = P.tables in
-        let m = ranks_high_lem old T.old_bytes_lem T.old_ranks T.old_valid_lem in
-        let k = trees_high old T.old_bytes_lem T.old_ranks T.old_valid_lem in
-        let u = sent_below old new T p q P.sender_below_lem P.receiver_below_lem in
-        let l = P.sender_below_lem in
-        let r = P.receiver_below_lem in
+        let m = ranks_high_lem old T.old_bytes T.old_ranks T.old_valid in
+        let k = trees_high old T.old_bytes T.old_ranks T.old_valid in
+        let u = sent_below old new T p q P.sender_below P.receiver_below in
+        let l = P.sender_below in
+        let r = P.receiver_below in
         record { sender = omega arith; receiver = omega arith; first_tree = omega arith; last_tree = omega arith }
 
 -- a turn of the loop over the receivers of p
@@ -247,7 +247,7 @@ module _ {old new a b : List ℕ} {at n p : ℕ} (r : FitsFrom old new a at p) (
   pub from_fits : FitsPair old new b n p q
   from_fits =
       record {
-        pair = record { tables = r.rank.tables; sender_below_lem = r.rank.rank_below_lem; receiver_below_lem = h };
+        pair = record { tables = r.rank.tables; sender_below = r.rank.rank_below; receiver_below = h };
         fits = fits_turn (ranks old) (moves_from old new p) (pair_text old new p) (λ i _. from_more old new p i) q h r.fits w;
       }
 
@@ -259,7 +259,7 @@ module _ {old new a b : List ℕ} {at n : ℕ} (r : FitsMoves old new a at) (p :
   pub text_fits : FitsFrom old new b n p
   text_fits =
       record {
-        rank = record { tables = r.tables; rank_below_lem = h };
+        rank = record { tables = r.tables; rank_below = h };
         fits = fits_turn (ranks old) (moves_text old new) (λ i. moves_from old new i (ranks old)) (λ i _. text_more old new i) p h r.fits w;
       }
 
@@ -286,7 +286,7 @@ module _ (old new : List ℕ) where
   output_small T p k l m =
       let A = T.agree in
       let r = T.few in
-      let t = trees_high old A.old_bytes_lem A.old_ranks A.old_valid_lem in
+      let t = trees_high old A.old_bytes A.old_ranks A.old_valid in
       let c = moves_most old new (ranks old) r r in
       record { ranks_small = omega arith; trees_small = omega arith; bytes_small = omega (arith, text_most old new (ranks old)); moves_small = omega arith }
 

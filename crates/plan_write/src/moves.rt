@@ -1,7 +1,7 @@
 // The moves.
 ghost use Rattle.std.specs.Prelude.{◌≡◌, cond, length};
 ghost use Rattle.encoding.specs.Below.{count_below};
-ghost use Rattle.offsets.specs.Table.{ranks as ranks_of_lem};
+ghost use Rattle.offsets.specs.Table.{ranks as ranks_of};
 ghost use Rattle.pattern.specs.Sets.{sends_to};
 ghost use Rattle.pattern.specs.Means.{RankOf, PairOf};
 ghost use Rattle.plan_write.specs.Moves.{moves_from, moves_text, move_count};
@@ -69,7 +69,7 @@ fn put_pair(out: &mut [u8], at: usize, old: &[u8], new: &[u8], p: usize, q: usiz
 
 fn from_size(old: &[u8], new: &[u8], p: usize) -> Size
     requires { RankOf old.now new.now p }
-    ensures { (result.bytes ≡ length (moves_from old.now new.now p (ranks_of_lem old.now))) × (result.moves ≡ count_below (ranks_of_lem old.now) (sends_to old.now new.now p)) }
+    ensures { (result.bytes ≡ length (moves_from old.now new.now p (ranks_of old.now))) × (result.moves ≡ count_below (ranks_of old.now) (sends_to old.now new.now p)) }
 {
     let n = ranks(old);
     let mut bytes: usize = 0;
@@ -87,7 +87,7 @@ fn from_size(old: &[u8], new: &[u8], p: usize) -> Size
 // The moves from p.
 fn put_from(out: &mut [u8], at: usize, old: &[u8], new: &[u8], p: usize) -> usize
     requires { FitsFrom old.now new.now out.old at p }
-    ensures { Put out.old out.new at result (moves_from old.now new.now p (ranks_of_lem old.now)) }
+    ensures { Put out.old out.new at result (moves_from old.now new.now p (ranks_of old.now)) }
 {
     let n = ranks(old);
     let mut next = at;
@@ -101,7 +101,7 @@ fn put_from(out: &mut [u8], at: usize, old: &[u8], new: &[u8], p: usize) -> usiz
 
 pub fn moves_size(old: &[u8], new: &[u8]) -> Size
     requires { PlanTables old.now new.now }
-    ensures { (result.bytes ≡ length (moves_text old.now new.now (ranks_of_lem old.now))) × (result.moves ≡ move_count old.now new.now) }
+    ensures { (result.bytes ≡ length (moves_text old.now new.now (ranks_of old.now))) × (result.moves ≡ move_count old.now new.now) }
 {
     let n = ranks(old);
     let mut bytes: usize = 0;
@@ -119,7 +119,7 @@ pub fn moves_size(old: &[u8], new: &[u8]) -> Size
 // All moves, by sender and then receiver.
 pub fn put_moves(out: &mut [u8], at: usize, old: &[u8], new: &[u8]) -> usize
     requires { FitsMoves old.now new.now out.old at }
-    ensures { Put out.old out.new at result (moves_text old.now new.now (ranks_of_lem old.now)) }
+    ensures { Put out.old out.new at result (moves_text old.now new.now (ranks_of old.now)) }
 {
     let n = ranks(old);
     let mut next = at;

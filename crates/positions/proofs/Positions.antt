@@ -3,13 +3,13 @@ use Prim.Native.Nat.{ℕ, zero, suc, ◌+◌, ◌-◌, ◌*◌, ◌/◌, ◌%◌
 use native.Mathlib.Numerals.{add-one}
 use native.Mathlib.Omega.{arith}
 use mathlib.Core.Path.{◌≡◌, refl, sym, ap, ◌∙◌}
-use mathlib.Core.Bool.{Bool, true, false, cond, ◌||◌, or_comm, or-false, or_assoc}
+use mathlib.Core.Bool.{Bool, true, false, ◌||◌, or_comm, or-false, or_assoc}
 use mathlib.Core.List.{List}
 use lib.Dec.{eqb, ltb}
 use lib.ListN.{length, get_or, set, replicate, length-set, length-replicate, get_or-replicate, get_or-eq_default}
 use lib.Seq.{get_or-set_same, get_or-set_other}
 use borrow.Author.Tests.{ltb-true, lt-ltb, le-ltb, eqb-true, eqb-false, eq-eqb, ne_eqb}
-use Rattle.encoding.specs.Below.{any_below, count_below, least_below}
+use Rattle.encoding.specs.Below.{any_below, count_below}
 use Rattle.encoding.specs.Numbers.{u32_at}
 use Rattle.encoding.proofs.Below.{either, tests, clash, below_suc, any_at, any_intro, count_more, count_same, count_none, count_le, count_mono, count_initial, least_is, least_none, count_add}
 use Rattle.bits.specs.Bits.{bit_of, in_set, with_member}

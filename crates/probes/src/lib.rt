@@ -1,4 +1,6 @@
 // The trees of a part near a probe.
+#![tactic(auto)]
+
 ghost use Rattle.std.specs.Prelude.{◌≡◌};
 ghost use Rattle.probes.specs.Calls.{trees_near};
 

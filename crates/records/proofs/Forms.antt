@@ -248,7 +248,7 @@ module _ (r s : List ℕ) (h : SameLinks r s) where
       ∙ (ap₂ ◌&&◌ (ap₂ ◌&&◌ (ap₂ ◌&&◌ (ap shape_ok same_shape) z) t) (all_same 6 (face_form own r) (face_form own s) (same-face-form own))
       ∙ sym (form-is own s))
 
--- the form reads bytes 38 and 39 through `regionOk` alone: linked records may differ in their regions
+-- the form reads bytes 38 and 39 through `region_ok` alone: linked records may differ in their regions
 pub region_alone : (r s : List ℕ) → ((i : ℕ) → i < 38 → get_or r i 0 ≡ get_or s i 0) → region_ok r ≡ region_ok s → (own : ℕ) → in_form own r ≡ in_form own s
 unfolding zeros_ok
 region_alone r s h t =

@@ -1,5 +1,5 @@
 -- A core record is 40 bytes, a tree record a core record and 24 bytes of tree data. What is said here reads a record's first 40 bytes alone.
-use Rattle.std.specs.Prelude.{ℕ, ◌+◌, ◌*◌, ◌/◌, ◌%◌, Bool, true, cond, ◌&&◌, List, leb, ltb, eqb, get_or}
+use Rattle.std.specs.Prelude.{ℕ, ◌+◌, ◌*◌, ◌/◌, ◌%◌, Bool, true, cond, ◌&&◌, List, ltb, eqb, get_or}
 use Rattle.encoding.specs.Below.{all_below}
 use Rattle.encoding.specs.Numbers.{le_at, u32_at}
 use Rattle.records.specs.Shape.{shape_ok, dimension_of, face_count, faces_in}

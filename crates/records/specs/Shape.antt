@@ -1,5 +1,5 @@
 -- Shapes: 0 quadrilateral, 1 triangle (dimension 2); 2 hexahedron, 3 tetrahedron, 4 prism, 5 pyramid (dimension 3).
-use Rattle.std.specs.Prelude.{ℕ, Bool, cond, ◌&&◌, ◌||◌, leb, ltb, eqb}
+use Rattle.std.specs.Prelude.{ℕ, Bool, cond, leb, ltb, eqb}
 
 unfoldable pub shape_ok : ℕ → Bool
 shape_ok s = leb s 5

@@ -1,4 +1,6 @@
 // The leaf count of a tree, from its refinement string.
+#![tactic(auto)]
+
 ghost use Rattle.std.specs.Prelude.{◌≡◌};
 ghost use Rattle.refinement.specs.Calls.{count_leaves, leaves_refused};
 

@@ -211,7 +211,7 @@ module _ (shapes lengths bits : List ℕ) (to : trees_ok shapes lengths ≡ true
     seen-counts h = rw (e, sym seen-strings ∙ h)
 
     pub seen_ready : v.ok ≡ true → v.small ≡ true → Walkable shapes lengths bits
-    seen_ready h k = record { same_length_lem = trees_same; strings = sym seen-strings ∙ h; counts = sym (seen-counts h) ∙ k }
+    seen_ready h k = record { same_length = trees_same; strings = sym seen-strings ∙ h; counts = sym (seen-counts h) ∙ k }
 
 module _ (shapes lengths bits out : List ℕ) where
   pub refused_trees : (r : Count) → r ≡ count_refused 6 → trees_ok shapes lengths ≡ false → (r, out) ≡ leaf_counts shapes lengths bits out

@@ -10,6 +10,6 @@ seen_of shapes lengths bits =
 
 -- as many lengths as shapes, and strings and counts in order
 pub record Walkable (shapes lengths bits : List ℕ) : Type 0 where
-  pub same_length_lem : length lengths ≡ length shapes
+  pub same_length : length lengths ≡ length shapes
   pub strings : strings_ok shapes lengths bits ≡ true
   pub counts : counts_fit shapes lengths bits ≡ true

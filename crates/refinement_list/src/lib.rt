@@ -1,4 +1,6 @@
 // The leaf counts of a list of trees, from their refinement strings.
+#![tactic(auto)]
+
 ghost use Rattle.std.specs.Prelude.{◌≡◌};
 ghost use Rattle.refinement_list.specs.Calls.{leaf_counts};
 

@@ -103,7 +103,7 @@ module _ (mesh table : List ℕ) (rank : ℕ) (ok : Cuttable mesh table rank) (m
         of_trees =
             λ i h. ap region_of (cut_tree mesh table rank ok bytes i h)
             ∙ (renamed_alike (local_index mesh table rank) (faces_in (mesh_dimension mesh)) (mesh_core mesh (first_tree table rank + i))
-            (sound_core mesh ok.mesh_sound (first_tree table rank + i) (omega (arith, cut_within mesh table rank ok bytes)))).region;
+            (sound_core mesh ok.mesh_sound_lem (first_tree table rank + i) (omega (arith, cut_within mesh table rank ok bytes)))).region;
         of_ghosts = λ j h. ap region_of (cut_ghost mesh table rank ok bytes j h);
         of_held = λ k h. ap region_of (cut_core mesh table rank ok mesh_bytes bytes k h);
       }

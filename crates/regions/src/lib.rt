@@ -1,4 +1,6 @@
 // How many trees of a part each region has.
+#![tactic(auto)]
+
 ghost use Rattle.std.specs.Prelude.{◌≡◌};
 ghost use Rattle.regions.specs.Calls.{region_counts_of};
 

@@ -92,7 +92,7 @@ module _ (mesh old : List ℕ) (p : ℕ) (ok : Cuttable mesh old p) (mesh_bytes 
     below = local_below mesh old p ok mesh_bytes bytes k here
 
     fits : mesh_header + tree_size * k + tree_size ≤ length mesh
-    fits = sound_fits mesh ok.mesh_sound k below
+    fits = sound_fits mesh ok.mesh_sound_lem k below
 
     record_long : length (mesh_record mesh k) ≡ tree_size
     unfolding mesh_record
@@ -162,7 +162,7 @@ module _ (run : Run) (S : Setting run) where
   -- an old rank has a part
   pub old_cuttable : (p : ℕ) → p < ranks run.old → Cuttable run.mesh run.old p
   old_cuttable p l =
-      record { table_ranks = S.tables.old_ranks; table_valid = S.tables.old_valid_lem; rank_below = l; mesh_sound = S.mesh_sound; same_trees_lem = S.same_trees_lem }
+      record { table_ranks = S.tables.old_ranks; table_valid = S.tables.old_valid; rank_below = l; mesh_sound_lem = S.mesh_sound_lem; same_trees_lem = S.same_trees_lem }
 
   module _ (p q : ℕ) (l : p < ranks run.old) (r : q < ranks run.old) where
     abbrev here : List ℕ
@@ -172,8 +172,8 @@ module _ (run : Run) (S : Setting run) where
     pub build_is_rule : part_message (cut_part run.mesh run.old p) run.old run.new p q run.epoch ≡ mesh_message run.mesh run.old run.new p q run.epoch
     unfolding part_message
     build_is_rule =
-        rw (cut_dimension run.mesh run.old p (old_cuttable p l) S.tables.old_bytes_lem)
-        (rule_from_part (part_core here) (part_holds here) (part_record here) run.mesh run.old p run.new q S.tables l r S.same_trees_lem (has_part run.mesh run.old p (old_cuttable p l) S.mesh_bytes S.tables.old_bytes_lem S.same_trees_lem) run.epoch)
+        rw (cut_dimension run.mesh run.old p (old_cuttable p l) S.tables.old_bytes)
+        (rule_from_part (part_core here) (part_holds here) (part_record here) run.mesh run.old p run.new q S.tables l r S.same_trees_lem (has_part run.mesh run.old p (old_cuttable p l) S.mesh_bytes S.tables.old_bytes S.same_trees_lem) run.epoch)
 
     pub message_of_lem : message_of run p q ≡ mesh_message run.mesh run.old run.new p q run.epoch
     unfolding message_of
@@ -187,13 +187,13 @@ module _ (run : Run) (S : Setting run) where
         rw (
           T.old_ranks,
           T.new_ranks,
-          T.old_valid_lem,
-          T.new_valid_lem,
+          T.old_valid,
+          T.new_valid,
           eq-eqb (ranks run.old) (ranks run.new) (sym T.same_ranks),
           eq-eqb (trees run.old) (trees run.new) (sym T.same_trees),
           lt-ltb p (ranks run.old) l,
           lt-ltb q (ranks run.old) r,
-          cut_sound run.mesh run.old p (old_cuttable p l) S.mesh_bytes T.old_bytes_lem,
+          cut_sound run.mesh run.old p (old_cuttable p l) S.mesh_bytes T.old_bytes,
         )
 
     -- its whole answer: 9 where p sends q no tree, 22 where the buffer is shorter than the message, else the message
@@ -205,13 +205,13 @@ module _ (run : Run) (S : Setting run) where
         rw (
           T.old_ranks,
           T.new_ranks,
-          T.old_valid_lem,
-          T.new_valid_lem,
+          T.old_valid,
+          T.new_valid,
           eq-eqb (ranks run.old) (ranks run.new) (sym T.same_ranks),
           eq-eqb (trees run.old) (trees run.new) (sym T.same_trees),
           lt-ltb p (ranks run.old) l,
           lt-ltb q (ranks run.old) r,
-          cut_sound run.mesh run.old p (old_cuttable p l) S.mesh_bytes T.old_bytes_lem,
+          cut_sound run.mesh run.old p (old_cuttable p l) S.mesh_bytes T.old_bytes,
         )
 
     -- where p sends q a tree, it writes that message into any buffer that is long enough

@@ -69,7 +69,7 @@ module _ (run : Run) (S : Setting run) where
   pub new_cuttable : Cuttable run.mesh run.new run.rank
   new_cuttable =
       let e = S.tables.same_ranks in
-      record { table_ranks = S.tables.new_ranks; table_valid = S.tables.new_valid_lem; rank_below = omega (arith, S.rank_below); mesh_sound = S.mesh_sound; same_trees_lem = S.same_trees_lem ∙ sym S.tables.same_trees }
+      record { table_ranks = S.tables.new_ranks; table_valid = S.tables.new_valid; rank_below = omega (arith, S.rank_below); mesh_sound_lem = S.mesh_sound_lem; same_trees_lem = S.same_trees_lem ∙ sym S.tables.same_trees }
 
   abbrev K : ℕ
   K = mesh_trees run.mesh
@@ -116,7 +116,7 @@ module _ (run : Run) (S : Setting run) where
       tree-heard : (i : ℕ) → i < n → H (sender run.old (first + i) run.rank) ≡ true
       tree-heard i h =
           let k : ℕ = first + i in
-          let e : sends run.old run.new (sender run.old k run.rank) run.rank k ≡ true = sends_in run.old run.new S.tables run.rank k (range_local run.mesh run.new run.rank new_cuttable S.mesh_bytes S.tables.new_bytes_lem i h) in
+          let e : sends run.old run.new (sender run.old k run.rank) run.rank k ≡ true = sends_in run.old run.new S.tables run.rank k (range_local run.mesh run.new run.rank new_cuttable S.mesh_bytes S.tables.new_bytes i h) in
           due-heard (sender run.old k run.rank) (sender_below run.old run.new S.tables (sender run.old k run.rank) run.rank k S.rank_below e) (sends_some run.old run.new S.tables (sender run.old k run.rank) run.rank k S.rank_below e)
 
       ghost-there : (k : ℕ) → ghost_heard run H k ≡ ghostly k
@@ -181,7 +181,7 @@ module _ (run : Run) (S : Setting run) where
         same_index : (f : ℕ) → f < 6 → join_index a (neighbour f) ≡ local_index run.mesh run.new run.rank (neighbour f)
         unfolding join_index local_index
         same_index f h =
-            neighbour_cases run.mesh run.new run.rank new_cuttable S.mesh_bytes S.tables.new_bytes_lem (first + i) (range_local run.mesh run.new run.rank new_cuttable S.mesh_bytes S.tables.new_bytes_lem i tree) f h
+            neighbour_cases run.mesh run.new run.rank new_cuttable S.mesh_bytes S.tables.new_bytes (first + i) (range_local run.mesh run.new run.rank new_cuttable S.mesh_bytes S.tables.new_bytes i tree) f h
             (λ e. rw (eq-eqb (neighbour f) unused e))
             (λ l e. rw (reads.at_new, reads.at_rank, reads.at_first, e))
             (λ l e b. rw (reads.at_new, reads.at_rank, reads.at_first, reads.at_count, place (neighbour f) l b))
@@ -201,7 +201,7 @@ module _ (run : Run) (S : Setting run) where
       joined-ghosts : slots_of (ghost_slot a) g ≡ part_ghosts run.mesh run.new run.rank K
       unfolding ghost_position
       joined-ghosts =
-          let l : length (part_ghosts run.mesh run.new run.rank K) ≡ core_size * count_below K ghostly = cores_length run.mesh run.new run.rank S.mesh_sound K (le_refl K) in
+          let l : length (part_ghosts run.mesh run.new run.rank K) ≡ core_size * count_below K ghostly = cores_length run.mesh run.new run.rank S.mesh_sound_lem K (le_refl K) in
           slots_are (ghost_slot a) (part_ghosts run.mesh run.new run.rank K) g (λ j h. reads.at_ghost j h ∙ ap (λ (b : List ℕ). piece b (core_size * j) core_size) (ghosts-there K))
           ∙ take_all (core_size * g) (part_ghosts run.mesh run.new run.rank K) (omega (arith, l, count-there))
 
@@ -214,7 +214,7 @@ module _ (run : Run) (S : Setting run) where
 
       -- and so is sound
       pub join_sound_lem : part_sound (joined_part a) (area_new a) (area_rank a) ≡ true
-      join_sound_lem = rw (join_is_cut, reads.at_new, reads.at_rank) (cut_sound run.mesh run.new run.rank new_cuttable S.mesh_bytes S.tables.new_bytes_lem)
+      join_sound_lem = rw (join_is_cut, reads.at_new, reads.at_rank) (cut_sound run.mesh run.new run.rank new_cuttable S.mesh_bytes S.tables.new_bytes)
 
     -- a close: 20 until the receive set is heard, then 22 if the buffer is shorter than the part, else the part
     pub close_step : InReceive run H → (out : List ℕ)

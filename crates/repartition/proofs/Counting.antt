@@ -17,7 +17,7 @@ use Rattle.records.proofs.Shapes.{count_faces}
 use Rattle.pattern.specs.Sender.{Tables, sender, sends}
 use Rattle.pattern.proofs.Counting.{count_imp}
 use Rattle.pattern.proofs.Senders.{holds_true, sends_true}
-use Rattle.mesh.specs.Mesh.{mesh_dimension, mesh_trees, mesh_core, mesh_sound_lem, face_neighbour}
+use Rattle.mesh.specs.Mesh.{mesh_dimension, mesh_trees, mesh_core, mesh_sound, face_neighbour}
 use Rattle.mesh.proofs.Soundness.{sound_shape, neighbour_below, neighbours_both}
 use Rattle.part.specs.Ghosts.{is_ghost}
 use Rattle.message.specs.Rule.{sends_beside, considers, sends_ghost}
@@ -33,7 +33,7 @@ use Rattle.repartition.proofs.Canonical.{ghost_heard}
 -- ---- the ghosts of a rank
 
 -- a tree across a face has the first across one of its own
-pub neighbour_beside : (mesh : List ℕ) → mesh_sound_lem mesh ≡ true → (k f : ℕ) → k < mesh_trees mesh → f < face_count (shape_of (mesh_core mesh k))
+pub neighbour_beside : (mesh : List ℕ) → mesh_sound mesh ≡ true → (k f : ℕ) → k < mesh_trees mesh → f < face_count (shape_of (mesh_core mesh k))
     → any_below (face_count (shape_of (mesh_core mesh (neighbour_of (mesh_core mesh k) f)))) (λ e. eqb (neighbour_of (mesh_core mesh (neighbour_of (mesh_core mesh k) f)) e) k) ≡ true
 unfolding face_neighbour
 neighbour_beside mesh sound k f h a =
@@ -77,12 +77,12 @@ module _ (run : Run) (S : Setting run) where
       let r = holds_true run.new run.rank n t.0 in
       let s = T.same_ranks in
       let l = S.rank_below in
-      let c = count_add run.new T.new_bytes_lem T.new_ranks T.new_valid_lem run.rank (omega arith) in
+      let c = count_add run.new T.new_bytes T.new_ranks T.new_valid run.rank (omega arith) in
       let i : ℕ = n - first_tree run.new run.rank in
       let same : first_tree run.new run.rank + i ≡ n = omega arith in
       let u : H (sender run.old n run.rank) ≡ true = rw t.1 (and_snd (is_ghost core run.new run.rank k) (H p) e) in
       any_intro (tree_count run.new run.rank) (λ i. due H i && across k i) i (omega arith)
-      (rw (same, u) (neighbour_beside run.mesh S.mesh_sound k a.0 h a.1))
+      (rw (same, u) (neighbour_beside run.mesh S.mesh_sound_lem k a.0 h a.1))
 
   -- the ghosts heard are at most F for each tree whose sender is heard
   pub heard_few : (H : ℕ → Bool) → count_below (mesh_trees run.mesh) (ghost_heard run H) ≤ ghost_bound (faces_in (mesh_dimension run.mesh)) (filled_by run.old run.new run.rank H)
@@ -93,4 +93,4 @@ module _ (run : Run) (S : Setting run) where
       let c = range_end run.old run.new run.rank T S.rank_below in
       le_trans (count_imp K (ghost_heard run H) (λ k. any_below (tree_count run.new run.rank) (λ i. due H i && across k i)) (heard-beside H))
       (count_beside_some K (tree_count run.new run.rank) (faces_in (mesh_dimension run.mesh)) (due H) (λ i. face_count (shape_of (core (first_tree run.new run.rank + i)))) (λ i f. neighbour_of (core (first_tree run.new run.rank + i)) f)
-      (λ i h. rw (← sound_shape run.mesh S.mesh_sound (first_tree run.new run.rank + i) (omega arith)) (count_faces (shape_of (core (first_tree run.new run.rank + i))))))
+      (λ i h. rw (← sound_shape run.mesh S.mesh_sound_lem (first_tree run.new run.rank + i) (omega arith)) (count_faces (shape_of (core (first_tree run.new run.rank + i))))))

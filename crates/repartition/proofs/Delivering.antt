@@ -76,7 +76,7 @@ module _ (run : Run) (S : Setting run) where
     goes = ghost_goes (mesh_core run.mesh) run.old run.new (λ k. ltb k (mesh_trees run.mesh)) (mesh_record run.mesh) p q
 
     long : RecordsLong (mesh_core run.mesh) run.old run.new (λ k. ltb k (mesh_trees run.mesh)) (mesh_record run.mesh) p q
-    long = mesh_records_long run.mesh run.old run.new S.mesh_sound S.same_trees_lem T p q b.receiver_below
+    long = mesh_records_long run.mesh run.old run.new S.mesh_sound_lem S.same_trees_lem T p q b.receiver_below
 
     pub built_epoch : message_epoch (mesh_message run.mesh run.old run.new p q run.epoch) ≡ run.epoch
     unfolding mesh_message
@@ -86,7 +86,7 @@ module _ (run : Run) (S : Setting run) where
     unfolding mesh_message
     built_dimension =
         message_dimension_lem core run.old run.new hand (mesh_record run.mesh) p q T b.sender_below b.receiver_below run.epoch (mesh_dimension run.mesh)
-        (dimension_small (mesh_dimension run.mesh) (header_parts run.mesh (sound_header run.mesh S.mesh_sound)).0)
+        (dimension_small (mesh_dimension run.mesh) (header_parts run.mesh (sound_header run.mesh S.mesh_sound_lem)).0)
 
     pub built_k : message_k (mesh_message run.mesh run.old run.new p q run.epoch) ≡ trees run.old
     unfolding mesh_message
@@ -114,7 +114,7 @@ module _ (run : Run) (S : Setting run) where
 
     -- it is in layout
     pub built_laid : in_layout (mesh_message run.mesh run.old run.new p q run.epoch) ≡ true
-    built_laid = mesh_in_layout run.mesh run.old run.new S.mesh_sound S.same_trees_lem T p q b.receiver_below run.epoch b.sender_below
+    built_laid = mesh_in_layout run.mesh run.old run.new S.mesh_sound_lem S.same_trees_lem T p q b.receiver_below run.epoch b.sender_below
 
     -- tree i is the mesh's, with its data, and its core
     pub built_record : (i : ℕ) → i < sent_count run.old run.new p q → piece (mesh_message run.mesh run.old run.new p q run.epoch) (message_tree_place i) tree_size ≡ mesh_record run.mesh (sent_first run.old run.new p q + i)
@@ -131,7 +131,7 @@ module _ (run : Run) (S : Setting run) where
     pub built_number : (i : ℕ) → i < sent_count run.old run.new p q → number_of (message_tree (mesh_message run.mesh run.old run.new p q run.epoch) i) ≡ sent_first run.old run.new p q + i
     built_number i h =
         ap number_of (built_tree i h)
-        ∙ sound_number run.mesh S.mesh_sound (sent_first run.old run.new p q + i) (omega (arith, S.same_trees_lem, sent_below run.old run.new T p q b.sender_below b.receiver_below))
+        ∙ sound_number run.mesh S.mesh_sound_lem (sent_first run.old run.new p q + i) (omega (arith, S.same_trees_lem, sent_below run.old run.new T p q b.sender_below b.receiver_below))
 
     -- its ghosts are those that go
     pub built_kept : Kept (trees run.old) (ghost_goes (mesh_core run.mesh) run.old run.new (λ k. ltb k (mesh_trees run.mesh)) (mesh_record run.mesh) p q) (mesh_core run.mesh)
@@ -141,7 +141,7 @@ module _ (run : Run) (S : Setting run) where
         record {
           many = built_ghosts;
           at_place = message_ghost_lem core run.old run.new hand (mesh_record run.mesh) p q T b.sender_below b.receiver_below run.epoch (mesh_dimension run.mesh) long;
-          number = λ k h. sound_number run.mesh S.mesh_sound k (omega (arith, S.same_trees_lem));
+          number = λ k h. sound_number run.mesh S.mesh_sound_lem k (omega (arith, S.same_trees_lem));
         }
 
     pub built_ghost_number : (j : ℕ) → j < count_below (trees run.old) (ghost_goes (mesh_core run.mesh) run.old run.new (λ k. ltb k (mesh_trees run.mesh)) (mesh_record run.mesh) p q)
@@ -172,7 +172,7 @@ module _ (run : Run) (S : Setting run) where
         let t : message_tree m i ≡ core k = built_tree i (omega arith) ∙ ap core same in
         any_intro (message_trees m) (λ i. any_below (face_count (shape_of (message_tree m i))) (λ f. eqb (neighbour_of (message_tree m i) f) g)) i
         (omega (arith, built_trees_lem))
-        (rw t (neighbour_beside run.mesh S.mesh_sound g a.0 (omega (arith, S.same_trees_lem)) a.1))
+        (rw t (neighbour_beside run.mesh S.mesh_sound_lem g a.0 (omega (arith, S.same_trees_lem)) a.1))
 
   -- ---- the area that gets it
 
@@ -341,7 +341,7 @@ module _ (run : Run) (S : Setting run) where
       own-holds i h =
           let s = T.same_ranks in
           let l = S.rank_below in
-          let c = count_add run.new T.new_bytes_lem T.new_ranks T.new_valid_lem run.rank (omega arith) in
+          let c = count_add run.new T.new_bytes T.new_ranks T.new_valid run.rank (omega arith) in
           holds_in run.new run.rank (first_tree run.new run.rank + i) (omega arith) (omega arith)
 
       step-record : (k : ℕ) → sends run.old run.new p run.rank k ≡ true → piece m (message_tree_place (k - sent_first run.old run.new p run.rank)) tree_size ≡ mesh_record run.mesh k

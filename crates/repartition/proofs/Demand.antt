@@ -82,8 +82,8 @@ module _ (run : Run) (S : Setting run) where
   unfolding opened open_area_of open_checks table_checks first_failed write_answer length_answer
   open-accepts b long =
       let T = S.tables in
-      let d = (header_parts run.mesh (sound_header run.mesh S.mesh_sound)).0 in
-      rw (T.old_ranks, T.new_ranks, T.old_valid_lem, T.new_valid_lem, eq-eqb (ranks run.old) (ranks run.new) (sym T.same_ranks), eq-eqb (trees run.old) (trees run.new) (sym T.same_trees), lt-ltb run.rank (ranks run.old) S.rank_below, d, le-leb (size run) (length b) long)
+      let d = (header_parts run.mesh (sound_header run.mesh S.mesh_sound_lem)).0 in
+      rw (T.old_ranks, T.new_ranks, T.old_valid, T.new_valid, eq-eqb (ranks run.old) (ranks run.new) (sym T.same_ranks), eq-eqb (trees run.old) (trees run.new) (sym T.same_trees), lt-ltb run.rank (ranks run.old) S.rank_below, d, le-leb (size run) (length b) long)
 
   -- the open call wrote the area in which nobody is heard, and left the bytes behind it
   open-start : (b : List ℕ) → size run ≤ length b → (opened run b).1 ≡ canonical run nobody ++ drop (size run) b
@@ -192,9 +192,9 @@ module _ (run : Run) (S : Setting run) where
         let ok = new_cuttable run S in
         let c = accepted-close out e in
         let rest : List ℕ = drop (length (new_part run)) out in
-        let l : i < tree_count run.new run.rank = rw (c.1, front_count run.mesh run.new run.rank ok S.mesh_bytes T.new_bytes_lem rest) at h in
-        rw (c.1, front_tree run.mesh run.new run.rank ok S.mesh_bytes T.new_bytes_lem rest i l)
-        (trees-once c.0 (first_tree run.new run.rank + i) (range_local run.mesh run.new run.rank ok S.mesh_bytes T.new_bytes_lem i l))
+        let l : i < tree_count run.new run.rank = rw (c.1, front_count run.mesh run.new run.rank ok S.mesh_bytes T.new_bytes rest) at h in
+        rw (c.1, front_tree run.mesh run.new run.rank ok S.mesh_bytes T.new_bytes rest i l)
+        (trees-once c.0 (first_tree run.new run.rank + i) (range_local run.mesh run.new run.rank ok S.mesh_bytes T.new_bytes i l))
 
     ghost_records_lem : (out : List ℕ) → (close_after run b cs out).0.refusal ≡ 0 → (j : ℕ) → j < part_ghost_count (close_after run b cs out).1
         → count_in (ghost_with (number_of (stored_ghost (close_after run b cs out).1 j))) (came_in run b cs) ≡ 1
@@ -202,8 +202,8 @@ module _ (run : Run) (S : Setting run) where
         let ok = new_cuttable run S in
         let c = accepted-close out e in
         let rest : List ℕ = drop (length (new_part run)) out in
-        let l : j < ghost_count run.mesh run.new run.rank = rw (c.1, front_ghosts run.mesh run.new run.rank ok S.mesh_bytes T.new_bytes_lem rest) at h in
-        let g = front_ghost run.mesh run.new run.rank ok S.mesh_bytes T.new_bytes_lem rest j l in
+        let l : j < ghost_count run.mesh run.new run.rank = rw (c.1, front_ghosts run.mesh run.new run.rank ok S.mesh_bytes T.new_bytes rest) at h in
+        let g = front_ghost run.mesh run.new run.rank ok S.mesh_bytes T.new_bytes rest j l in
         rw c.1 (ghosts-once c.0 (number_of (stored_ghost (new_part run ++ rest) j)) g.0 g.1)
 
     -- the records of messages that are built are the mesh's, and so are the part's
@@ -214,10 +214,10 @@ module _ (run : Run) (S : Setting run) where
         let ok = new_cuttable run S in
         let c = accepted-close out e in
         let rest : List ℕ = drop (length (new_part run)) out in
-        let l : i < tree_count run.new run.rank = rw (c.1, front_count run.mesh run.new run.rank ok S.mesh_bytes T.new_bytes_lem rest) at h in
+        let l : i < tree_count run.new run.rank = rw (c.1, front_count run.mesh run.new run.rank ok S.mesh_bytes T.new_bytes rest) at h in
         let k : ℕ = first_tree run.new run.rank + i in
-        let r : part_record (new_part run ++ rest) k ≡ mesh_record run.mesh k = front_record run.mesh run.new run.rank ok S.mesh_bytes T.new_bytes_lem rest i l in
-        rw (c.1, front_tree run.mesh run.new run.rank ok S.mesh_bytes T.new_bytes_lem rest i l)
+        let r : part_record (new_part run ++ rest) k ≡ mesh_record run.mesh k = front_record run.mesh run.new run.rank ok S.mesh_bytes T.new_bytes rest i l in
+        rw (c.1, front_tree run.mesh run.new run.rank ok S.mesh_bytes T.new_bytes rest i l)
         (accepted_all run S (TreeIs k (part_record (new_part run ++ rest) k)) (λ p q f m j u. (follows_rule run S p q f).tree_records_lem m j ∙ ap (mesh_record run.mesh) u ∙ sym r) cs built (opened run b).1)
 
     ghosts-whole : (out : List ℕ) → (close_after run b cs out).0.refusal ≡ 0 → (j : ℕ) → j < part_ghost_count (close_after run b cs out).1
@@ -227,9 +227,9 @@ module _ (run : Run) (S : Setting run) where
         let ok = new_cuttable run S in
         let c = accepted-close out e in
         let rest : List ℕ = drop (length (new_part run)) out in
-        let l : j < ghost_count run.mesh run.new run.rank = rw (c.1, front_ghosts run.mesh run.new run.rank ok S.mesh_bytes T.new_bytes_lem rest) at h in
+        let l : j < ghost_count run.mesh run.new run.rank = rw (c.1, front_ghosts run.mesh run.new run.rank ok S.mesh_bytes T.new_bytes rest) at h in
         let g : List ℕ = stored_ghost (new_part run ++ rest) j in
-        let r : g ≡ mesh_core run.mesh (number_of g) = front_ghost_core run.mesh run.new run.rank ok S.mesh_bytes T.new_bytes_lem rest j l in
+        let r : g ≡ mesh_core run.mesh (number_of g) = front_ghost_core run.mesh run.new run.rank ok S.mesh_bytes T.new_bytes rest j l in
         rw c.1
         (accepted_all run S (GhostIs (number_of g) g) (λ p q f m i u. (follows_rule run S p q f).ghost_records_lem m i ∙ ap (mesh_core run.mesh) u ∙ sym r) cs built (opened run b).1)
 

@@ -27,7 +27,7 @@ use Rattle.records.specs.Shape.{shape_ok, dimension_of, face_count, faces_in, co
 use Rattle.records.specs.Record.{number_of, shape_of, neighbour_of, code_of, faces_of, face_of, orientation_of, region_of, region_ok, zeros_ok, unused_ok, to_itself, boundary_ok, in_form}
 use Rattle.records.specs.Links.{row_of, rows_of, neighbour_bytes, code_bytes, with_rows}
 use Rattle.mesh.specs.Link.{orientation_ok, same_corners, answered, link_ok}
-use Rattle.mesh.specs.Mesh.{mesh_dimension, mesh_trees, dimension_ok, mesh_core, mesh_record, face_sound, tree_sound, header_sound, mesh_sound_lem, mesh_refusal}
+use Rattle.mesh.specs.Mesh.{mesh_dimension, mesh_trees, dimension_ok, mesh_core, mesh_record, face_sound, tree_sound, header_sound, mesh_sound, mesh_refusal}
 use Rattle.part.specs.Layout.{header_bytes}
 use Rattle.part.specs.Ghosts.{is_ghost, ghosts_of, ghost_position}
 use Rattle.part.specs.Cut.{rename_row, renamed, local_index, part_tree, part_trees, cores_of, part_ghosts, ghost_count, cut_part}
@@ -64,8 +64,8 @@ the_leaves = (refl, refl)
 
 -- ---- meshes and a part, by computation
 
-the_meshes : (mesh_sound_lem triangles ≡ true) × (mesh_sound_lem (solids 2) ≡ true) × (mesh_sound_lem (solids 1) ≡ false)
-unfolding mesh_sound_lem header_sound mesh_dimension mesh_trees dimension_ok tree_count_ok mesh_core tree_sound face_sound link_ok orientation_ok same_corners answered shape_ok dimension_of face_count faces_in corners_of corners number_of shape_of neighbour_of code_of faces_of face_of orientation_of region_of region_ok zeros_ok unused_ok to_itself boundary_ok in_form all_below le_at le_value le_bytes piece words core_bytes tree_bytes triangle three triangles solids
+the_meshes : (mesh_sound triangles ≡ true) × (mesh_sound (solids 2) ≡ true) × (mesh_sound (solids 1) ≡ false)
+unfolding mesh_sound header_sound mesh_dimension mesh_trees dimension_ok tree_count_ok mesh_core tree_sound face_sound link_ok orientation_ok same_corners answered shape_ok dimension_of face_count faces_in corners_of corners number_of shape_of neighbour_of code_of faces_of face_of orientation_of region_of region_ok zeros_ok unused_ok to_itself boundary_ok in_form all_below le_at le_value le_bytes piece words core_bytes tree_bytes triangle three triangles solids
 the_meshes = (refl, refl, refl)
 
 the_refusals : (mesh_refusal triangles ≡ 0) × (mesh_refusal (solids 2) ≡ 0) × (mesh_refusal (solids 1) ≡ 7)
@@ -110,12 +110,12 @@ three_tables : Tables old_three new_three
 unfolding old_three new_three ranks_ok rank_count_ok ranks valid entry le_at piece le_value tree_count_ok trees entries_within counts_ok all_below magnitude negative first_of first_tree end_tree table_bytes le_bytes
 three_tables =
     record {
-      old_bytes_lem = checked_bytes old_three old_bytes;
-      new_bytes_lem = checked_bytes new_three new_bytes;
+      old_bytes = checked_bytes old_three old_bytes;
+      new_bytes = checked_bytes new_three new_bytes;
       old_ranks = refl;
       new_ranks = refl;
-      old_valid_lem = refl;
-      new_valid_lem = refl;
+      old_valid = refl;
+      new_valid = refl;
       same_ranks = refl;
       same_trees = refl;
     }
@@ -135,7 +135,7 @@ setting =
       tables = three_tables;
       rank_below = omega (arith, three_ranks);
       mesh_bytes = checked_bytes triangles mesh_bytes;
-      mesh_sound = the_meshes.0;
+      mesh_sound_lem = the_meshes.0;
       same_trees_lem = three_mesh;
       epoch_word = leb-true 8 4294967296 refl;
     }

@@ -30,7 +30,7 @@ use Rattle.area.specs.Deliver.{among, one_of}
 use Rattle.area_theorems.proofs.Joined.{piece_first, piece_last}
 use Rattle.area_theorems.proofs.Zones.{Zones, Reads, few_ranks, range_end, area_reads, area_same}
 use Rattle.area.proofs.Headers.{words_enough_lem}
-use Rattle.area_theorems.proofs.Kept.{ghost_at_lem}
+use Rattle.area_theorems.proofs.Kept.{ghost_at}
 use Rattle.area_theorems.proofs.Sound.{Held, zeros_zero, area_sound_lem}
 use Rattle.repartition.specs.Words.{slot_heard}
 use Rattle.repartition.proofs.Canonical.{ghost_heard, ghosts_heard, canonical}
@@ -105,7 +105,7 @@ module _ (run : Run) where
     -- a tree's record has 64 bytes
     pub record_long : (k : ℕ) → k < mesh_trees run.mesh → length (mesh_record run.mesh k) ≡ tree_size
     unfolding mesh_record
-    record_long k h = piece_length run.mesh (mesh_header + tree_size * k) tree_size (sound_fits run.mesh S.mesh_sound k h)
+    record_long k h = piece_length run.mesh (mesh_header + tree_size * k) tree_size (sound_fits run.mesh S.mesh_sound_lem k h)
 
     slot_long : (i : ℕ) → i < tree_count run.new run.rank → length (slot i) ≡ tree_size
     unfolding slot_heard
@@ -115,7 +115,7 @@ module _ (run : Run) where
         (λ t. rw t (length-replicate {A = ℕ} tree_size 0))
 
     core-long : (k : ℕ) → k < K → length (mesh_core run.mesh k) ≡ core_size
-    core-long k h = sound_core run.mesh S.mesh_sound k h
+    core-long k h = sound_core run.mesh S.mesh_sound_lem k h
 
     -- the ghosts heard below k, of 40 bytes each
     ghosts-length : (k : ℕ) → k ≤ K → length (ghosts k) ≡ core_size * count_below k test
@@ -165,7 +165,7 @@ module _ (run : Run) where
         record {
           tables = T;
           is_rank = S.rank_below;
-          is_dimension = (header_parts run.mesh (sound_header run.mesh S.mesh_sound)).0;
+          is_dimension = (header_parts run.mesh (sound_header run.mesh S.mesh_sound_lem)).0;
           small_epoch = S.epoch_word;
           slots_long = slot_long;
           ghosts_long = ghosts-length K (le_refl K);
@@ -189,7 +189,7 @@ module _ (run : Run) where
         record {
           many = (canonical_reads tail).at_ghosts;
           at_place = λ j h. (canonical_reads tail).at_ghost j h ∙ ghosts-at K (le_refl K) j h;
-          number = sound_number run.mesh S.mesh_sound;
+          number = sound_number run.mesh S.mesh_sound_lem;
         }
 
     -- k is among them where it is a ghost heard
@@ -219,11 +219,11 @@ module _ (run : Run) where
     abbrev at : ℕ → ℕ
     at j = get_or (kept_below K test) j 0
 
-    ghost-number : (j : ℕ) → j < count_below K test → number_of (ghost_at_lem (ghosts K) j) ≡ at j
-    ghost-number j h = ap number_of (ghosts-at K (le_refl K) j h) ∙ sound_number run.mesh S.mesh_sound (at j) (kept_found K test j 0 h).0
+    ghost-number : (j : ℕ) → j < count_below K test → number_of (ghost_at (ghosts K) j) ≡ at j
+    ghost-number j h = ap number_of (ghosts-at K (le_refl K) j h) ∙ sound_number run.mesh S.mesh_sound_lem (at j) (kept_found K test j 0 h).0
 
-    ghost-in-form : (j : ℕ) → j < count_below K test → in_form (number_of (ghost_at_lem (ghosts K) j)) (ghost_at_lem (ghosts K) j) ≡ true
-    ghost-in-form j h = rw (ghost-number j h, ghosts-at K (le_refl K) j h) (sound_form run.mesh S.mesh_sound (at j) (kept_found K test j 0 h).0)
+    ghost-in-form : (j : ℕ) → j < count_below K test → in_form (number_of (ghost_at (ghosts K) j)) (ghost_at (ghosts K) j) ≡ true
+    ghost-in-form j h = rw (ghost-number j h, ghosts-at K (le_refl K) j h) (sound_form run.mesh S.mesh_sound_lem (at j) (kept_found K test j 0 h).0)
 
     ghost-out : (k : ℕ) → test k ≡ true → holds run.new run.rank k ≡ false
     unfolding is_ghost
@@ -234,8 +234,8 @@ module _ (run : Run) where
         record {
           bit_rank = λ s h t. r.below s t;
           bit_due = λ s h t. r.due s t;
-          tree_form = λ i h t. rw (slot_core i t) (sound_form run.mesh S.mesh_sound (first_tree run.new run.rank + i) (own_tree i h));
-          tree_number = λ i h t. rw (slot_core i t) (sound_number run.mesh S.mesh_sound (first_tree run.new run.rank + i) (own_tree i h));
+          tree_form = λ i h t. rw (slot_core i t) (sound_form run.mesh S.mesh_sound_lem (first_tree run.new run.rank + i) (own_tree i h));
+          tree_number = λ i h t. rw (slot_core i t) (sound_number run.mesh S.mesh_sound_lem (first_tree run.new run.rank + i) (own_tree i h));
           tree_zero = λ i h t. slot-zero i t;
           ghosts_held =
               record {

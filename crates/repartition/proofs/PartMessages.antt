@@ -82,7 +82,7 @@ module _ (part old new : List ℕ) (p q : ℕ) (T : Tables old new) (is_sender :
         form = part_form part old p sound k e;
         number = part_number part old p sound k e;
         shape = part_shape part old p sound k e;
-        below = λ f h. omega (arith, part_neighbour_below part old p sound T.old_bytes_lem T.old_ranks T.old_valid_lem is_sender k e f h);
+        below = λ f h. omega (arith, part_neighbour_below part old p sound T.old_bytes T.old_ranks T.old_valid is_sender k e f h);
       }
 
   pub part_records_long : RecordsLong (part_core part) old new (part_holds part) (part_record part) p q

@@ -32,7 +32,7 @@ use Rattle.pattern.specs.Calls.{table_checks, sender_refusal, sender_of, sent_re
 use Rattle.pattern.proofs.Senders.{sender_defined, sender_nobody, sends_true, sends_in}
 use Rattle.pattern.proofs.Counting.{range_true, range_in}
 use Rattle.pattern.proofs.Sets.{send_ascends, receive_ascends, symmetric, one_sender, one_range, received_disjoint, received_covers, received_only, send_ends, receive_ends}
-use Rattle.mesh.specs.Mesh.{mesh_trees, mesh_sound_lem, mesh_refusal}
+use Rattle.mesh.specs.Mesh.{mesh_trees, mesh_sound, mesh_refusal}
 use Rattle.part.specs.Cut.{cut_part}
 use Rattle.part.specs.Part.{part_sound}
 use Rattle.part.specs.Checks.{rank_checks}
@@ -125,7 +125,7 @@ table_written_again t b passes first count lf lc agree out room =
       bytes = b;
       size = size t b k.0 k.1;
       is_valid = k.1;
-      trees_are_lem = refl;
+      trees_are = refl;
       counts = λ p h. sym ((agree p h).1 ∙ (range_is t k.0 k.1 p h).1);
       firsts = λ p h c. sym ((agree p h).0 ∙ (range_is t k.0 k.1 p h).0);
     } in
@@ -193,17 +193,17 @@ module _ (old new : List ℕ) (T : Tables old new) where
   list-answered : (rank : ℕ) → rank < ranks old → (set out : List ℕ) → length set ≤ length out → set_answer (set_refusal old new rank set out) set out ≡ listed set out
   unfolding set_answer set_refusal table_checks ranks_answer written splice first_failed
   list-answered rank h set out room =
-      rw (T.old_ranks, T.new_ranks, T.old_valid_lem, T.new_valid_lem, T.same_ranks, T.same_trees, eq-eqb (ranks old) (ranks old) refl, eq-eqb (trees old) (trees old) refl, lt-ltb rank (ranks old) h, le-leb (length set) (length out) room, zero-add)
+      rw (T.old_ranks, T.new_ranks, T.old_valid, T.new_valid, T.same_ranks, T.same_trees, eq-eqb (ranks old) (ranks old) refl, eq-eqb (trees old) (trees old) refl, lt-ltb rank (ranks old) h, le-leb (length set) (length out) room, zero-add)
 
   range-answered : (p q : ℕ) → p < ranks old → q < ranks old → trees_sent old new p q ≡ record { refusal = 0; first = sent_first old new p q; count = sent_count old new p q }
   unfolding trees_sent sent_refusal table_checks range_answer first_failed
   range-answered p q l r =
-      rw (T.old_ranks, T.new_ranks, T.old_valid_lem, T.new_valid_lem, T.same_ranks, T.same_trees, eq-eqb (ranks old) (ranks old) refl, eq-eqb (trees old) (trees old) refl, lt-ltb p (ranks old) l, lt-ltb q (ranks old) r)
+      rw (T.old_ranks, T.new_ranks, T.old_valid, T.new_valid, T.same_ranks, T.same_trees, eq-eqb (ranks old) (ranks old) refl, eq-eqb (trees old) (trees old) refl, lt-ltb p (ranks old) l, lt-ltb q (ranks old) r)
 
   sender-answered : (k q : ℕ) → k < trees old → q < ranks old → sender_of old new k q ≡ record { refusal = 0; sender = sender_number (sender_to old new k q) }
   unfolding sender_of sender_refusal table_checks first_failed
   sender-answered k q h l =
-      rw (T.old_ranks, T.new_ranks, T.old_valid_lem, T.new_valid_lem, T.same_ranks, T.same_trees, eq-eqb (ranks old) (ranks old) refl, eq-eqb (trees old) (trees old) refl, lt-ltb k (trees old) h, lt-ltb q (ranks old) l)
+      rw (T.old_ranks, T.new_ranks, T.old_valid, T.new_valid, T.same_ranks, T.same_trees, eq-eqb (ranks old) (ranks old) refl, eq-eqb (trees old) (trees old) refl, lt-ltb k (trees old) h, lt-ltb q (ranks old) l)
 
 pub sets_answered : SetsAnswered
 unfolding send_set_of receive_set_of
@@ -255,9 +255,9 @@ senders_answered = sender-told
 
 -- ---- parts
 
-mesh_passes : (mesh : List ℕ) → mesh_refusal mesh ≡ 0 → mesh_sound_lem mesh ≡ true
+mesh_passes : (mesh : List ℕ) → mesh_refusal mesh ≡ 0 → mesh_sound mesh ≡ true
 unfolding mesh_refusal first_failed
-mesh_passes mesh e = either (mesh_sound_lem mesh) (λ t. t) (λ t. absurd (seven (rw t at e)))
+mesh_passes mesh e = either (mesh_sound mesh) (λ t. t) (λ t. absurd (seven (rw t at e)))
   where
     seven : ◌≡◌ {A = ℕ} 7 0 → ⊥
     seven z = omega arith
@@ -266,7 +266,7 @@ module _ (mesh table : List ℕ) (rank : ℕ) (ok : Cuttable mesh table rank) (m
   writes-part : (out : List ℕ) → length (cut_part mesh table rank) ≤ length out → cut_part_of mesh table rank out ≡ write_answer 0 (cut_part mesh table rank) out
   unfolding cut_part_of cut_checks rank_checks first_failed
   writes-part out room =
-      rw (ok.table_ranks, ok.table_valid, lt-ltb rank (ranks table) ok.rank_below, ok.mesh_sound, eq-eqb (mesh_trees mesh) (trees table) ok.same_trees_lem, le-leb (length (cut_part mesh table rank)) (length out) room)
+      rw (ok.table_ranks, ok.table_valid, lt-ltb rank (ranks table) ok.rank_below, ok.mesh_sound_lem, eq-eqb (mesh_trees mesh) (trees table) ok.same_trees_lem, le-leb (length (cut_part mesh table rank)) (length out) room)
 
   accepts-part : part_refusal (cut_part mesh table rank) table rank ≡ 0
   unfolding part_refusal rank_checks first_failed
@@ -275,7 +275,7 @@ module _ (mesh table : List ℕ) (rank : ℕ) (ok : Cuttable mesh table rank) (m
 pub cut_parts : CutParts
 cut_parts mesh table rank mb tb passes below sound same =
     let k = table_passes table passes in
-    let ok : Cuttable mesh table rank = record { table_ranks = k.0; table_valid = k.1; rank_below = below; mesh_sound = mesh_passes mesh sound; same_trees_lem = same } in
+    let ok : Cuttable mesh table rank = record { table_ranks = k.0; table_valid = k.1; rank_below = below; mesh_sound_lem = mesh_passes mesh sound; same_trees_lem = same } in
     record {
       writes = writes-part mesh table rank ok mb tb;
       sound = accepts-part mesh table rank ok mb tb;
@@ -302,7 +302,7 @@ part_passes part table rank ok v below e =
     eight z = omega arith
 
 pub built_in_layout : BuiltInLayout
-built_in_layout part old new p q epoch T l r e = part_in_layout part old new p q T l r (part_passes part old p T.old_ranks T.old_valid_lem l e) epoch
+built_in_layout part old new p q epoch T l r e = part_in_layout part old new p q T l r (part_passes part old p T.old_ranks T.old_valid l e) epoch
 
 -- how many records a message in layout has
 answer_read : (m : List ℕ) (b : Begun) → begun_seen b ≡ begin_of m → in_layout m ≡ true → b.answer ≡ record { refusal = 0; length = message_trees m + message_ghosts m }
@@ -358,7 +358,7 @@ demand_2 =
       ranges_answered = ranges_answered;
       senders_answered = senders_answered;
       plan_texts = plan_texts;
-      plan_moves_lem = moves_printed;
+      plan_moves = moves_printed;
       cut_parts = cut_parts;
       messages = messages;
       built_in_layout = built_in_layout;

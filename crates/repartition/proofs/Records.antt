@@ -56,8 +56,8 @@ module _ (mesh table : List ℕ) (rank : ℕ) (ok : Cuttable mesh table rank) (m
       let k : ℕ = first_tree table rank + i in
       let b : k < mesh_trees mesh = omega (arith, cut_within mesh table rank ok bytes) in
       ap number_of (piece_first part rest (tree_place i) core_size (omega (arith, part_long)) ∙ cut_tree mesh table rank ok bytes i h)
-      ∙ renamed_number (local_index mesh table rank) (faces_in (mesh_dimension mesh)) (mesh_core mesh k) (sound_core mesh ok.mesh_sound k b)
-      ∙ sound_number mesh ok.mesh_sound k b
+      ∙ renamed_number (local_index mesh table rank) (faces_in (mesh_dimension mesh)) (mesh_core mesh k) (sound_core mesh ok.mesh_sound_lem k b)
+      ∙ sound_number mesh ok.mesh_sound_lem k b
 
   -- ghost j is the part's
   ghost-first : (j : ℕ) → j < ghost_count mesh table rank → stored_ghost (part ++ rest) j ≡ stored_ghost part j
@@ -78,7 +78,7 @@ module _ (mesh table : List ℕ) (rank : ℕ) (ok : Cuttable mesh table rank) (m
   front_ghost j h =
       let f = kept_found (mesh_trees mesh) (is_ghost (mesh_core mesh) table rank) j 0 h in
       let k : ℕ = get_or (kept_below (mesh_trees mesh) (is_ghost (mesh_core mesh) table rank)) j 0 in
-      let e : number_of (stored_ghost (part ++ rest) j) ≡ k = ap number_of (ghost_core_lem j h) ∙ sound_number mesh ok.mesh_sound k f.0 in
+      let e : number_of (stored_ghost (part ++ rest) j) ≡ k = ap number_of (ghost_core_lem j h) ∙ sound_number mesh ok.mesh_sound_lem k f.0 in
       rw e (f.0, f.1)
 
   -- it is the mesh's core
@@ -88,7 +88,7 @@ module _ (mesh table : List ℕ) (rank : ℕ) (ok : Cuttable mesh table rank) (m
   front_ghost_core j h =
       let f = kept_found (mesh_trees mesh) (is_ghost (mesh_core mesh) table rank) j 0 h in
       let k : ℕ = get_or (kept_below (mesh_trees mesh) (is_ghost (mesh_core mesh) table rank)) j 0 in
-      let e : number_of (stored_ghost (part ++ rest) j) ≡ k = ap number_of (ghost_core_lem j h) ∙ sound_number mesh ok.mesh_sound k f.0 in
+      let e : number_of (stored_ghost (part ++ rest) j) ≡ k = ap number_of (ghost_core_lem j h) ∙ sound_number mesh ok.mesh_sound_lem k f.0 in
       ghost_core_lem j h ∙ ap (mesh_core mesh) (sym e)
 
   -- ---- the tree records whole

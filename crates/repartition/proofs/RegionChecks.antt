@@ -20,7 +20,7 @@ use Rattle.encoding.proofs.Words.{zero_at_lem}
 use Rattle.offsets.specs.Table.{ranks, ranks_ok, valid, tree_count}
 use Rattle.records.specs.Record.{core_size, tree_size, region_limit, number_of, region_of, region_ok, in_form}
 use Rattle.records.proofs.Forms.{at_agree, form_region, region_below}
-use Rattle.mesh.specs.Mesh.{mesh_trees, mesh_core, mesh_sound_lem, mesh_refusal}
+use Rattle.mesh.specs.Mesh.{mesh_trees, mesh_core, mesh_sound, mesh_refusal}
 use Rattle.mesh.proofs.Soundness.{sound_form}
 use Rattle.part.specs.Checks.{rank_checks}
 use Rattle.part.specs.Layout.{part_size}
@@ -68,7 +68,7 @@ unfolding region_ok
 region_zero_ok r e = rw e
 
 -- whole meshes
-mesh_none : (m : List ℕ) → mesh_sound_lem m ≡ true → some_above (mesh_trees m) (mesh_core m) ≡ false
+mesh_none : (m : List ℕ) → mesh_sound m ≡ true → some_above (mesh_trees m) (mesh_core m) ≡ false
 mesh_none m s = none_above (mesh_trees m) (mesh_core m) (λ k h. form_region k (mesh_core m k) (sound_form m s k h))
 
 -- parts
@@ -163,7 +163,7 @@ denied s deny e = either s (λ p. clash e (deny p)) (λ p. p)
 
 mesh_refused : (m : List ℕ) → some_above (mesh_trees m) (mesh_core m) ≡ true → mesh_refusal m ≡ 7
 unfolding mesh_refusal first_failed
-mesh_refused m e = rw (denied (mesh_sound_lem m) (mesh_none m) e)
+mesh_refused m e = rw (denied (mesh_sound m) (mesh_none m) e)
 
 part_refused : (part table : List ℕ) (rank : ℕ) → first_failed (rank_checks table rank) ≡ 0
     → (some_above (part_count part) (stored_tree part) || some_above (part_ghost_count part) (stored_ghost part)) ≡ true → part_refusal part table rank ≡ 8

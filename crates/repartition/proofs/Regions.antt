@@ -53,7 +53,7 @@ module _ (mesh table : List ℕ) (rank : ℕ) (ok : Cuttable mesh table rank) (m
       let k : ℕ = first_tree table rank + i in
       ap region_of (piece_first part rest (tree_place i) core_size (omega (arith, part_long)) ∙ cut_tree mesh table rank ok bytes i h)
       ∙ (renamed_alike (local_index mesh table rank) (faces_in (mesh_dimension mesh)) (mesh_core mesh k)
-      (sound_core mesh ok.mesh_sound k (omega (arith, cut_within mesh table rank ok bytes)))).region
+      (sound_core mesh ok.mesh_sound_lem k (omega (arith, cut_within mesh table rank ok bytes)))).region
 
   abbrev ghost_number : ℕ → ℕ
   ghost_number j = get_or (kept_below (mesh_trees mesh) (is_ghost (mesh_core mesh) table rank)) j 0
@@ -67,7 +67,7 @@ module _ (mesh table : List ℕ) (rank : ℕ) (ok : Cuttable mesh table rank) (m
 
   ghost-number : (j : ℕ) → j < ghost_count mesh table rank → number_of (mesh_core mesh (ghost_number j)) ≡ ghost_number j
   unfolding ghost_count ghost_position
-  ghost-number j h = sound_number mesh ok.mesh_sound (ghost_number j) (kept_found (mesh_trees mesh) (is_ghost (mesh_core mesh) table rank) j 0 h).0
+  ghost-number j h = sound_number mesh ok.mesh_sound_lem (ghost_number j) (kept_found (mesh_trees mesh) (is_ghost (mesh_core mesh) table rank) j 0 h).0
 
   front-regions : RegionsKept mesh (part ++ rest)
   front-regions =
@@ -143,4 +143,4 @@ module _ (run : Run) (out : List ℕ) where
 pub closed_regions : ClosedRegions
 closed_regions run S b long cs built out e =
     rw (close-writes run out S b long cs built e)
-    (front-regions run.mesh run.new run.rank (new_cuttable run S) S.mesh_bytes S.tables.new_bytes_lem (drop (length (new_part run)) out))
+    (front-regions run.mesh run.new run.rank (new_cuttable run S) S.mesh_bytes S.tables.new_bytes (drop (length (new_part run)) out))

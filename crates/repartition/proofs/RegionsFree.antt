@@ -20,7 +20,7 @@ use Rattle.records.proofs.Forms.{at_agree, face_six, SameLinks, same_number, sam
 use Rattle.records.proofs.Rows.{splice_get}
 use Rattle.records.proofs.Shapes.{count_six}
 use Rattle.mesh.specs.Link.{orientation_ok, same_corners, answered, link_ok}
-use Rattle.mesh.specs.Mesh.{mesh_header, mesh_dimension, mesh_trees, mesh_core, face_sound, tree_sound, header_sound, mesh_sound_lem, mesh_refusal, face_neighbour}
+use Rattle.mesh.specs.Mesh.{mesh_header, mesh_dimension, mesh_trees, mesh_core, face_sound, tree_sound, header_sound, mesh_sound, mesh_refusal, face_neighbour}
 use Rattle.part.specs.Layout.{part_header, tree_place, ghost_place, part_size}
 use Rattle.part.specs.Cut.{rename_row, renamed}
 use Rattle.part.specs.View.{View, local_in, ghostly_in, held_in, core_in, tree_in_form, ghost_ascends, ghost_in_form, beside_tree, ghost_near, neighbours_ghostly, ghosts_exact, link_rule, links_obey, links_far, links_hold, records_hold}
@@ -134,8 +134,8 @@ module _ (a b : List ℕ) (differ : MeshRegionsDiffer a b) (wa : some_above (mes
         all_same (face_count (shape_of (cb k))) (face_sound ca K k) (face_sound cb K k) (λ f l. face-same K k f (omega (arith, count_six (shape_of (cb k))))),
       )
 
-  mesh-sound-same : mesh_sound_lem a ≡ mesh_sound_lem b
-  unfolding mesh_sound_lem header_sound
+  mesh-sound-same : mesh_sound a ≡ mesh_sound b
+  unfolding mesh_sound header_sound
   mesh-sound-same =
       rw (
         all_same (mesh_trees a) (tree_sound ca (mesh_dimension a) (mesh_trees a)) (tree_sound cb (mesh_dimension a) (mesh_trees a)) (tree-same (mesh_dimension a) (mesh_trees a)),

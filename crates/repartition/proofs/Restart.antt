@@ -90,25 +90,25 @@ module _ (mesh old new : List ℕ) (M rank epoch : ℕ) (R : Restartable mesh ol
       record {
         tables =
             record {
-              old_bytes_lem = padded_bytes old M;
-              new_bytes_lem = padded_bytes new M;
+              old_bytes = padded_bytes old M;
+              new_bytes = padded_bytes new M;
               old_ranks = old-padded.counted;
               new_ranks = new-padded.counted;
-              old_valid_lem = old-padded.checked;
-              new_valid_lem = new-padded.checked;
+              old_valid = old-padded.checked;
+              new_valid = new-padded.checked;
               same_ranks = new-padded.many ∙ sym old-padded.many;
               same_trees = new-padded.same_k ∙ sym R.new_trees ∙ R.old_trees ∙ sym old-padded.same_k;
             };
         rank_below = omega (arith, R.padded_below, old-padded.many);
         mesh_bytes = R.mesh_bytes;
-        mesh_sound = R.mesh_sound;
+        mesh_sound_lem = R.mesh_sound_lem;
         same_trees_lem = R.old_trees ∙ sym old-padded.same_k;
         epoch_word = R.epoch_word;
       }
 
   -- the ranks of a table and of the padded one
   old-cut : (p : ℕ) → p < ranks old → Cuttable mesh old p
-  old-cut p h = record { table_ranks = old-known.is_table_lem.counted; table_valid = old-known.is_table_lem.checked; rank_below = h; mesh_sound = R.mesh_sound; same_trees_lem = R.old_trees }
+  old-cut p h = record { table_ranks = old-known.is_table.counted; table_valid = old-known.is_table.checked; rank_below = h; mesh_sound_lem = R.mesh_sound_lem; same_trees_lem = R.old_trees }
 
   new-cut : Cuttable mesh (padded_table new M) rank
   new-cut =
@@ -116,12 +116,12 @@ module _ (mesh old new : List ℕ) (M rank epoch : ℕ) (R : Restartable mesh ol
         table_ranks = new-padded.counted;
         table_valid = new-padded.checked;
         rank_below = omega (arith, R.padded_below, new-padded.many);
-        mesh_sound = R.mesh_sound;
+        mesh_sound_lem = R.mesh_sound_lem;
         same_trees_lem = R.new_trees ∙ sym new-padded.same_k;
       }
 
   new-rank : RankKnown new rank
-  new-rank = record { counted = new-known.is_table_lem.counted; checked = new-known.is_table_lem.checked; below = R.rank_below }
+  new-rank = record { counted = new-known.is_table.counted; checked = new-known.is_table.checked; below = R.rank_below }
 
   begins : (p : ℕ) → p < ranks old → p < M → (out : List ℕ)
       → relabel_part (cut_part mesh old p) old p (padded_table old M) p out
@@ -130,7 +130,7 @@ module _ (mesh old new : List ℕ) (M rank epoch : ℕ) (R : Restartable mesh ol
       moved mesh old p (padded_table old M) p R.mesh_bytes R.old_bytes (padded_bytes old M) (old-cut p h) (padded_rank old-padded l) (same_padded old-padded h l) out
 
   dimension_ok_lem : dimension_ok (mesh_dimension mesh) ≡ true
-  dimension_ok_lem = dimension_of_lem (mesh_dimension mesh) (sound_dimension mesh R.mesh_sound)
+  dimension_ok_lem = dimension_of_lem (mesh_dimension mesh) (sound_dimension mesh R.mesh_sound_lem)
 
   fills : (p : ℕ) → ranks old ≤ p → p < M → (out : List ℕ)
       → empty_part_of (padded_table old M) p (mesh_dimension mesh) out ≡ write_answer (cond (leb 32 (length out)) 0 22) (cut_part mesh (padded_table old M) p) out

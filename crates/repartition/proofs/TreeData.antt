@@ -609,11 +609,11 @@ module _ (run : Run) (mesh : List ℕ) (same : MeshesDiffer (outside_new run) ru
   heard_all [] H = refl
   heard_all (c ∷ cs) H = heard_all cs (hears run H c)
 
-  due_all : (cs : List Call) (H : ℕ → Bool) → due_all run H cs ≡ due_all other H cs
+  due_all_lem : (cs : List Call) (H : ℕ → Bool) → due_all run H cs ≡ due_all other H cs
   unfolding due_all due hears all_due
-  due_all [] H = refl
-  due_all (deliver p q ∷ cs) H = rw (due_all cs (hears run H (deliver p q)))
-  due_all (close out ∷ cs) H = rw (part_is, due_all cs (hears run H (close out)))
+  due_all_lem [] H = refl
+  due_all_lem (deliver p q ∷ cs) H = rw (due_all_lem cs (hears run H (deliver p q)))
+  due_all_lem (close out ∷ cs) H = rw (part_is, due_all_lem cs (hears run H (close out)))
 
   built-all : (cs : List Call) → AllBuilt run cs → AllBuilt other cs
   unfolding AllBuilt
@@ -637,7 +637,7 @@ module _ (run : Run) (mesh : List ℕ) (same : MeshesDiffer (outside_new run) ru
         ∙ sym (state_after other S' b long-too cs (built-all cs built))
 
     answers-is : (c : List ℕ) → size run ≤ length c → answers_of run (opened run b).1 cs ≡ answers_of other (opened other c).1 cs
-    answers-is c l = answers_are run S b long cs built ∙ due_all cs nobody ∙ sym (answers_are other S' c (omega (arith, size_is)) cs (built-all cs built))
+    answers-is c l = answers_are run S b long cs built ∙ due_all_lem cs nobody ∙ sym (answers_are other S' c (omega (arith, size_is)) cs (built-all cs built))
 
     close-same : (c : List ℕ) → size run ≤ length c → (out : List ℕ) → close_after run b cs out ≡ close_after other c cs out
     unfolding all_due

@@ -266,7 +266,7 @@ pub record Demand2 : Type 0 where
   pub senders_answered : SendersAnswered
   -- the program: what it answers to every text, and which moves it prints
   pub plan_texts : PlanTexts
-  pub plan_moves_lem : PlanMoves
+  pub plan_moves : PlanMoves
   pub cut_parts : CutParts
   pub messages : Messages
   pub built_in_layout : BuiltInLayout

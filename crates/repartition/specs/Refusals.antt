@@ -55,9 +55,9 @@ pub record RefusedUnchanged : Type 0 where
   pub table_from_weights_lem : (ws ls out : List ℕ) → Unchanged (table_from_weights ws ls out) out
   pub table_from_blocks_lem : (P : ℕ) (ls sums out : List ℕ) → Unchanged (table_from_blocks P ls sums out) out
   pub plan : (text out : List ℕ) → Unchanged (plan_answer text out) out
-  pub plan_output_lem : (text out : List ℕ) → Unchanged (plan_output_answer text out) out
+  pub plan_output : (text out : List ℕ) → Unchanged (plan_output_answer text out) out
   pub write_brick : (a b c p q r : ℕ) (out : List ℕ) → Unchanged (write_brick_of a b c p q r out) out
-  pub cut_part_lem : (mesh table : List ℕ) (rank : ℕ) (out : List ℕ) → Unchanged (cut_part_of mesh table rank out) out
+  pub cut_part : (mesh table : List ℕ) (rank : ℕ) (out : List ℕ) → Unchanged (cut_part_of mesh table rank out) out
   pub build_message : (part old new : List ℕ) (p q epoch : ℕ) (out : List ℕ) → Unchanged (build_message_of part old new p q epoch out) out
   pub open_area : (old new : List ℕ) (rank dimension epoch : ℕ) (out : List ℕ) → Unchanged (open_area_of old new rank dimension epoch out) out
   pub close_area : (area out : List ℕ) → Unchanged (close_of area out) out
@@ -66,8 +66,8 @@ pub record RefusedUnchanged : Type 0 where
       → ((build_all_of part old new p epoch out).0.count ≡ 0) × ((build_all_of part old new p epoch out).0.length ≡ 0) × ((build_all_of part old new p epoch out).1 ≡ out)
   pub deliver_all : (area bs answers : List ℕ) → ((deliver_all_of area bs answers).0.refusal ≡ 0 → ⊥)
       → ((deliver_all_of area bs answers).0.count ≡ 0) × ((deliver_all_of area bs answers).1.0 ≡ area) × ((deliver_all_of area bs answers).1.1 ≡ answers)
-  pub send_set_lem : (old new : List ℕ) (p : ℕ) (out : List ℕ) → SetUnchanged (send_set_of old new p out) out
-  pub receive_set_lem : (old new : List ℕ) (q : ℕ) (out : List ℕ) → SetUnchanged (receive_set_of old new q out) out
+  pub send_set : (old new : List ℕ) (p : ℕ) (out : List ℕ) → SetUnchanged (send_set_of old new p out) out
+  pub receive_set : (old new : List ℕ) (q : ℕ) (out : List ℕ) → SetUnchanged (receive_set_of old new q out) out
   pub leaf_counts_lem : (shapes lengths bits out : List ℕ) → ((leaf_counts shapes lengths bits out).0.refusal ≡ 0 → ⊥) → ((leaf_counts shapes lengths bits out).0.count ≡ 0) × ((leaf_counts shapes lengths bits out).1 ≡ out)
   pub import_triangle_lem : (text out : List ℕ) → Unchanged (import_triangle text out) out
   pub region_counts_lem : (part table : List ℕ) (rank : ℕ) (out : List ℕ) → ((region_counts_of part table rank out).0 ≡ 0 → ⊥) → (region_counts_of part table rank out).1 ≡ out
@@ -75,7 +75,7 @@ pub record RefusedUnchanged : Type 0 where
   pub part_to_columns_lem : (part table : List ℕ) (rank : ℕ) (out : List ℕ) → Unchanged (part_to_columns part table rank out) out
   pub columns_to_part_lem : (file table : List ℕ) (rank : ℕ) (out : List ℕ) → Unchanged (columns_to_part file table rank out) out
   pub pad_table_lem : (table : List ℕ) (n : ℕ) (out : List ℕ) → Unchanged (pad_table table n out) out
-  pub empty_part_lem : (table : List ℕ) (rank dimension : ℕ) (out : List ℕ) → Unchanged (empty_part_of table rank dimension out) out
+  pub empty_part : (table : List ℕ) (rank dimension : ℕ) (out : List ℕ) → Unchanged (empty_part_of table rank dimension out) out
   pub relabel_part_lem : (part table : List ℕ) (rank : ℕ) (other : List ℕ) (q : ℕ) (out : List ℕ) → Unchanged (relabel_part part table rank other q out) out
 
 -- what is refused has zeros in its other fields: a length, a range, a fault, a wrong field of a header, what stands across a face
@@ -108,7 +108,7 @@ pub record RefusedZero : Type 0 where
   pub part_fault : (part table : List ℕ) (rank : ℕ) → FaultZero (part_fault_of part table rank)
   pub part_header_lem : (part table : List ℕ) (rank : ℕ) → WrongFieldZero (part_header_of part table rank)
   -- nor does this one
-  pub mesh_header_lem : (mesh : List ℕ) → (mesh_header_of mesh).refusal ≡ 0
+  pub mesh_header : (mesh : List ℕ) → (mesh_header_of mesh).refusal ≡ 0
   pub neighbour_of_lem : (part table : List ℕ) (rank i f : ℕ) → NeighbourZero (flat_answer (neighbour_answer part table rank i f))
   pub begin_reading : (m : List ℕ) → LengthZero (reading_of m)
   -- the reader then stands over no byte, at place 0

@@ -4,7 +4,7 @@ use Rattle.encoding.specs.Answer.{write_answer}
 use Rattle.encoding.specs.Pieces.{Bytes}
 use Rattle.encoding.specs.Refusal.{first_failed}
 use Rattle.offsets.specs.Table.{ranks, trees}
-use Rattle.mesh.specs.Mesh.{mesh_dimension, mesh_trees, mesh_sound_lem}
+use Rattle.mesh.specs.Mesh.{mesh_dimension, mesh_trees, mesh_sound}
 use Rattle.part.specs.Layout.{part_header}
 use Rattle.part.specs.Cut.{cut_part}
 use Rattle.restart.specs.Restart.{padded_table}
@@ -22,7 +22,7 @@ module _ (mesh old new : List ℕ) (M rank epoch : ℕ) where
   -- the mesh is sound, pad_table accepts both tables, they have the mesh's K, the rank is one of the new ranks, the epoch a u32
   pub record Restartable : Type 0 where
     pub mesh_bytes : Bytes mesh
-    pub mesh_sound : mesh_sound_lem mesh ≡ true
+    pub mesh_sound_lem : mesh_sound mesh ≡ true
     pub old_bytes : Bytes old
     pub new_bytes : Bytes new
     pub old_pads : first_failed (pad_checks old M) ≡ 0

@@ -36,7 +36,7 @@ area_over W epoch dimension old new rank heard slot g ghosts =
     ++ (old ++ (new ++ (words_of heard W ++ (slots_of slot (tree_count new rank)
     ++ (ghosts ++ replicate (core_size * (ghost_bound (faces_in dimension) (tree_count new rank) - g)) 0)))))
 
--- the areas of the calls are those with `heardWords P` words
+-- the areas of the calls are those with `heard_words P` words
 abbrev pub WordsOfArea : Type 0
 WordsOfArea =
     (epoch dimension : ℕ) (old new : List ℕ) (rank : ℕ) (heard : ℕ → Bool) (slot : ℕ → List ℕ) (g : ℕ) (ghosts : List ℕ)
@@ -66,7 +66,7 @@ module _ (run : Run) (H : ℕ → Bool) where
       area_over W run.epoch (mesh_dimension run.mesh) run.old run.new run.rank H slot_heard
       (count_below (mesh_trees run.mesh) ghost_came) (ghosts_came (mesh_trees run.mesh))
 
--- with `heardWords P` words it is the area of demand 3: that after every list of calls, by who is heard
+-- with `heard_words P` words it is the area of demand 3: that after every list of calls, by who is heard
 abbrev pub AreaAfter : Type 0
 AreaAfter = EveryList (λ run b cs. take (size run) (bytes_after run b cs) ≡ area_heard run (heard_by run cs) (heard_words (ranks run.old)))
 

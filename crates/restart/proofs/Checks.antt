@@ -53,7 +53,7 @@ module _ (t : List ℕ) (n : ℕ) where
 
   -- what is known where none fails
   pub record PadKnown : Type 0 where
-    pub is_table_lem : ValidTable t
+    pub is_table : ValidTable t
     pub ranks_fit : rank_count_ok n ≡ true
     pub left_empty : left_out_empty t n ≡ true
 
@@ -64,7 +64,7 @@ module _ (t : List ℕ) (n : ℕ) where
       let b = and_fst (ranks_ok t && rank_count_ok n) _ a in
       let d = and_snd (ranks_ok t && rank_count_ok n) (valid t && (left_out_empty t n && true)) a in
       record {
-        is_table_lem = record { counted = and_fst (ranks_ok t) (rank_count_ok n) b; checked = and_fst (valid t) _ d };
+        is_table = record { counted = and_fst (ranks_ok t) (rank_count_ok n) b; checked = and_fst (valid t) _ d };
         ranks_fit = and_snd (ranks_ok t) (rank_count_ok n) b;
         left_empty = and_fst (left_out_empty t n) true (and_snd (valid t) (left_out_empty t n && true) d);
       }
@@ -98,7 +98,7 @@ module _ (t : List ℕ) (p dimension : ℕ) where
   pub record EmptyKnown : Type 0 where
     pub rank_is : RankKnown t p
     pub dimension_fits : dimension_ok dimension ≡ true
-    pub no_trees_lem : eqb (tree_count t p) 0 ≡ true
+    pub no_trees : eqb (tree_count t p) 0 ≡ true
 
   pub empty_known : first_failed (empty_checks t p dimension) ≡ 0 → EmptyKnown
   unfolding empty_checks all_pass
@@ -112,7 +112,7 @@ module _ (t : List ℕ) (p dimension : ℕ) where
       record {
         rank_is = record { counted = and_fst (ranks_ok t) _ a; checked = and_fst (valid t) _ b; below = ltb-true p (ranks t) (and_fst (ltb p (ranks t)) (dimension_ok dimension) f) };
         dimension_fits = and_snd (ltb p (ranks t)) (dimension_ok dimension) f;
-        no_trees_lem = and_fst last true (and_snd five (last && true) d);
+        no_trees = and_fst last true (and_snd five (last && true) d);
       }
 
 -- ---- a part under another table and rank

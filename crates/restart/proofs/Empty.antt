@@ -54,7 +54,7 @@ module _ (t : List ℕ) (p d : ℕ) (bytes : Bytes t) (known : EmptyKnown t p d)
   fits = range_fits_lem t p bytes known.rank_is
 
   none : tree_count t p ≡ 0
-  none = eqb-true (tree_count t p) 0 known.no_trees_lem
+  none = eqb-true (tree_count t p) 0 known.no_trees
 
   begins : first_tree t p ≡ end_tree t p
   begins = omega (arith, count_add t bytes known.rank_is.counted known.rank_is.checked p known.rank_is.below, none)

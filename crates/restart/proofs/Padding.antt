@@ -109,10 +109,10 @@ plain_k K h =
 
 module _ (t : List ℕ) (n : ℕ) (bytes : Bytes t) (known : PadKnown t n) where
   ok : ranks_ok t ≡ true
-  ok = known.is_table_lem.counted
+  ok = known.is_table.counted
 
   v : valid t ≡ true
-  v = known.is_table_lem.checked
+  v = known.is_table.checked
 
   abbrev s : List ℕ
   s = padded_table t n

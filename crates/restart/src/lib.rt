@@ -1,4 +1,6 @@
 // Parts of P ranks on another number of ranks: tables of more or fewer ranks, parts without trees, and parts under another table and rank.
+#![tactic(auto)]
+
 ghost use Rattle.std.specs.Prelude.{◌≡◌};
 ghost use Rattle.restart.specs.Calls.{pad_table, empty_part_of, relabel_part};
 

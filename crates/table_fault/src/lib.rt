@@ -1,4 +1,6 @@
 // Where a table fails: the first entry that is wrong, and what is wrong there.
+#![tactic(auto)]
+
 ghost use Rattle.std.specs.Prelude.{◌≡◌};
 ghost use Rattle.table_fault.specs.Calls.{table_fault_of};
 

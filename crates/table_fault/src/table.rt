@@ -1,6 +1,6 @@
 // What is wrong with an entry of a table, and the first one.
 ghost use Rattle.std.specs.Prelude.{◌≡◌, true, ◌+◌, ◌≤◌};
-ghost use Rattle.offsets.specs.Table.{ranks_ok, ranks as ranks_of_lem, trees as trees_of_lem};
+ghost use Rattle.offsets.specs.Table.{ranks_ok, ranks as ranks_of, trees as trees_of};
 ghost use Rattle.faults.specs.Answer.{first_fault};
 ghost use Rattle.table_fault.specs.Table.{entry_kind, entry_wrong};
 ghost use Rattle.table_fault.specs.Means.{count_kind};
@@ -23,7 +23,7 @@ fn count_kind(v: u64, end: u64) -> u32
 }
 
 fn entry_kind(t: &[u8], ranks: u32, trees: u64, p: u32) -> u32
-    requires { (ranks_ok t.now ≡ true) × (ranks ≡ ranks_of_lem t.now) × (trees ≡ trees_of_lem t.now) × (p ≤ ranks) }
+    requires { (ranks_ok t.now ≡ true) × (ranks ≡ ranks_of t.now) × (trees ≡ trees_of t.now) × (p ≤ ranks) }
     ensures { result ≡ entry_kind t.now p }
 {
     let v = entry(t, p as usize);
@@ -45,7 +45,7 @@ fn entry_kind(t: &[u8], ranks: u32, trees: u64, p: u32) -> u32
 // The first entry that is wrong.
 pub fn first_wrong(t: &[u8]) -> Fault
     requires { ranks_ok t.now ≡ true }
-    ensures { result ≡ first_fault 3 (ranks_of_lem t.now + 1) (entry_wrong t.now) }
+    ensures { result ≡ first_fault 3 (ranks_of t.now + 1) (entry_wrong t.now) }
 {
     let ranks = offsets::table::ranks(t) as u32;
     let trees = entry(t, ranks as usize);

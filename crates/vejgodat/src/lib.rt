@@ -1,4 +1,6 @@
 // The C interface: include/vejgodat.h says what each function takes, checks and answers. A slice is a pointer and a count.
+#![tactic(auto)]
+
 ghost use Rattle.std.specs.Prelude.{◌≡◌};
 ghost use Rattle.offsets.specs.Calls.{table_refusal, table_range};
 ghost use Rattle.offsets_write.specs.Calls.{table_length_answer, write_table};

@@ -1,8 +1,6 @@
 use Rattle.offsets.specs.Calls.{table_refusal}
 use Rattle.encoding.specs.Refusal.{first_failed}
-use borrow.Author.Tests.{not-true, not-false}
 use mathlib.Core.Path.{◌∙◌, sym}
-use borrow.Author.Rules.{rules}
 use Rattle.offsets.proofs.check_table.Goals as goal
 
 pub returns-then-not-ranks_ok : goal.returns-then-not-ranks_ok

@@ -5,9 +5,8 @@ use Rattle.offsets.specs.Table.{tree_count, first_tree, end_tree}
 use Rattle.offsets.specs.Calls.{table_range, range_answer, range_refusal}
 use Rattle.encoding.specs.Refusal.{first_failed}
 use native.Mathlib.Omega.{arith}
-use borrow.Author.Tests.{not-true, not-false, le-ltb, lt-ltb}
+use borrow.Author.Tests.{le-ltb, lt-ltb}
 use mathlib.Core.Path.{◌∙◌, sym}
-use borrow.Author.Rules.{rules}
 use Rattle.offsets.proofs.table_range.Goals as goal
 
 -- the rank's range fits 32 bits

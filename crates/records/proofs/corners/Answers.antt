@@ -1,7 +1,6 @@
 use Rattle.records.specs.Means.{base_corners, corners_formula}
 use Rattle.records.proofs.Shapes.{by_formula}
 use borrow.Author.Tests.{lt-ltb, le-ltb, le-leb, lt-leb}
-use borrow.Author.Rules.{rules}
 use Rattle.records.proofs.corners.Goals as goal
 
 pub returns-then-shape-gt5 : goal.returns-then-shape-gt5

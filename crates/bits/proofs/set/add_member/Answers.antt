@@ -1,5 +1,4 @@
 use Rattle.bits.specs.Bits.{with_member}
-use borrow.Author.Rules.{rules}
 use Rattle.bits.proofs.set.add_member.Goals as goal
 
 pub returns : goal.returns

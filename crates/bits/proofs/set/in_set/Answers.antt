@@ -1,5 +1,4 @@
 use Rattle.bits.specs.Bits.{in_set}
-use borrow.Author.Rules.{rules}
 use Rattle.bits.proofs.set.in_set.Goals as goal
 
 pub returns : goal.returns

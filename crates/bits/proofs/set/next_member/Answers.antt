@@ -1,9 +1,8 @@
-use Prim.Native.Nat.{◌-◌, ◌*◌, ◌≤◌}
+use Prim.Native.Nat.{◌*◌}
 use mathlib.Core.Path.{◌≡◌, refl}
 use native.Mathlib.Omega.{arith}
 use lib.ListN.{length}
-use Rattle.bits.proofs.Scanning.{None, word_clear, member_near, member_found, member_none, whole_clear, whole_near, whole_found}
-use borrow.Author.Rules.{rules}
+use Rattle.bits.proofs.Scanning.{word_clear, member_near, member_found, member_none, whole_clear, whole_near, whole_found}
 use Rattle.bits.proofs.set.next_member.Goals as goal
 
 pub returns-then-n-k : goal.returns-then-n-k

@@ -1,6 +1,5 @@
 use Rattle.bits.specs.Bits.{bit_of}
 use mathlib.Core.Path.{refl}
-use borrow.Author.Rules.{rules}
 use Rattle.bits.proofs.word.bit.Goals as goal
 
 pub returns : goal.returns

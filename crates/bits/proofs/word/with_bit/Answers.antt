@@ -1,5 +1,4 @@
 use Rattle.bits.proofs.Bits.{with_made}
-use borrow.Author.Rules.{rules}
 use Rattle.bits.proofs.word.with_bit.Goals as goal
 
 pub returns : goal.returns

@@ -1,6 +1,5 @@
 use Rattle.encoding.proofs.Numbers.{four_bytes}
 use native.Mathlib.Omega.{arith}
-use borrow.Author.Rules.{rules}
 use Rattle.encoding.proofs.bytes.read_u32.Goals as goal
 
 pub returns : goal.returns

@@ -1,6 +1,5 @@
 use Rattle.encoding.proofs.Numbers.{at_add}
 use native.Mathlib.Omega.{arith}
-use borrow.Author.Rules.{rules}
 use Rattle.encoding.proofs.bytes.read_u64.Goals as goal
 
 pub returns : goal.returns

@@ -1,7 +1,6 @@
 use Rattle.encoding.proofs.Numbers.{four_stores}
 use lib.ListN.{length-set}
 use native.Mathlib.Omega.{arith}
-use borrow.Author.Rules.{rules}
 use Rattle.encoding.proofs.bytes.write_u32.Goals as goal
 
 pub bounds-bs-at-2 : goal.bounds-bs-at-2

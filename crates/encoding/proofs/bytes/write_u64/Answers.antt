@@ -4,7 +4,6 @@ use Prim.Native.Nat.{◌+◌, ◌/◌, ℕ}
 use Rattle.encoding.proofs.Numbers.{put_add}
 use mathlib.Core.Path.{◌∙◌, ap}
 use native.Mathlib.Omega.{arith}
-use borrow.Author.Rules.{rules}
 use Rattle.encoding.proofs.bytes.write_u64.Goals as goal
 
 pub returns : goal.returns

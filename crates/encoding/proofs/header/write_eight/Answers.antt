@@ -1,5 +1,4 @@
 use Rattle.encoding.proofs.Headers.{eight_written}
-use borrow.Author.Rules.{rules}
 use Rattle.encoding.proofs.header.write_eight.Goals as goal
 
 pub returns : goal.returns

@@ -1,5 +1,4 @@
 use Rattle.encoding.proofs.Pieces.{splice_of}
-use borrow.Author.Rules.{rules}
 use Rattle.encoding.proofs.record.copy64.Goals as goal
 
 pub returns : goal.returns

@@ -2,7 +2,6 @@ use Rattle.encoding.proofs.Words.Read.{none, next}
 use Rattle.encoding.proofs.Words.{words_read}
 use Rattle.encoding.specs.Words.{bytes40}
 use native.Mathlib.Nat.{add-zero}
-use borrow.Author.Rules.{rules}
 use Rattle.encoding.proofs.record.load40.Goals as goal
 
 pub returns : goal.returns

@@ -5,7 +5,6 @@ use Rattle.encoding.proofs.Pieces.{piece_add}
 use Rattle.encoding.specs.Words.{bytes64}
 use mathlib.Core.List.{◌++◌}
 use mathlib.Core.Path.{sym, ap₂, ◌∙◌}
-use borrow.Author.Rules.{rules}
 use Rattle.encoding.proofs.record.load64.Goals as goal
 
 pub returns : goal.returns

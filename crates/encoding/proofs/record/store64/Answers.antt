@@ -3,7 +3,6 @@ use Rattle.encoding.proofs.Words.Written.{none, next}
 use Rattle.encoding.proofs.Words.{words_written, bytes40_length}
 use Rattle.encoding.proofs.Pieces.{splice_then}
 use Rattle.encoding.specs.Words.{bytes64}
-use borrow.Author.Rules.{rules}
 use Rattle.encoding.proofs.record.store64.Goals as goal
 
 pub returns : goal.returns

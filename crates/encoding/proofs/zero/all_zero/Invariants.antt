@@ -1,14 +1,9 @@
-use Rattle.encoding.proofs.Words.{block_more, block_fails}
-use Rattle.encoding.proofs.Below.{all_more, all_fails, all_to}
-use borrow.Author.Tests.{not-true, not-false, eq-eqb, ne_eqb}
-use native.Mathlib.Omega.{arith}
-use Rattle.encoding.specs.Words.{zero_at, all_zero}
+use Rattle.encoding.specs.Words.{zero_at}
 use Rattle.encoding.specs.Below.{all_below}
 use lib.ListN.{length}
-use mathlib.Core.Path.{◌≡◌, sym, ◌∙◌}
+use mathlib.Core.Path.{◌≡◌}
 use mathlib.Core.Bool.{true}
 use Prim.Native.Nat.{◌≤◌, ◌-◌}
-use borrow.Author.Rules.{rules}
 use Rattle.encoding.proofs.zero.all_zero.Given as goal
 
 abbrev pub invariant-loop-i : goal.invariant-loop-i

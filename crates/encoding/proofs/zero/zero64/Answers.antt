@@ -5,7 +5,6 @@ use lib.Dec.{eqb}
 use native.Mathlib.Nat.{add-zero}
 use mathlib.Core.Path.{◌≡◌, ◌∙◌}
 use Prim.Native.Nat.{◌+◌, ◌*◌}
-use borrow.Author.Rules.{rules}
 use Rattle.encoding.proofs.zero.zero64.Goals as goal
 
 pub returns : goal.returns

@@ -1,6 +1,5 @@
 use Rattle.offsets.specs.Table.{end_tree, magnitude}
 use mathlib.Core.Path.{◌∙◌, ap}
-use borrow.Author.Rules.{rules}
 use Rattle.offsets.proofs.table.end_tree.Goals as goal
 
 pub returns : goal.returns

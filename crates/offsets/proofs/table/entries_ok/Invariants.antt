@@ -1,13 +1,8 @@
-use Rattle.offsets.proofs.OnePass.{entry_turn}
 use Rattle.offsets.specs.Means.{entry_ok_at}
-use Rattle.encoding.proofs.Below.{all_more, all_fails, all_to}
 use Rattle.encoding.specs.Below.{all_below}
-use borrow.Author.Tests.{not-true, not-false}
-use native.Mathlib.Omega.{arith}
 use mathlib.Core.Bool.{true}
-use mathlib.Core.Path.{◌≡◌, sym, ◌∙◌}
+use mathlib.Core.Path.{◌≡◌}
 use Prim.Native.Nat.{◌≤◌, ◌-◌}
-use borrow.Author.Rules.{rules}
 use Rattle.offsets.proofs.table.entries_ok.Given as goal
 
 abbrev pub invariant-loop-p : goal.invariant-loop-p

@@ -1,5 +1,4 @@
 use Rattle.offsets.specs.Table.{entry}
-use borrow.Author.Rules.{rules}
 use Rattle.offsets.proofs.table.entry.Goals as goal
 
 pub returns : goal.returns

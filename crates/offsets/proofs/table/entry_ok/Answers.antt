@@ -1,6 +1,5 @@
 use Rattle.offsets.specs.Means.{entry_ok}
 use borrow.Author.Tests.{le-leb, lt-leb}
-use borrow.Author.Rules.{rules}
 use Rattle.offsets.proofs.table.entry_ok.Goals as goal
 
 pub returns-then-trees-magnitude : goal.returns-then-trees-magnitude

@@ -1,7 +1,6 @@
 use Rattle.offsets.specs.Table.{first_of}
 use native.Mathlib.Omega.{arith}
 use mathlib.Core.Path.{◌∙◌, sym}
-use borrow.Author.Rules.{rules}
 use Rattle.offsets.proofs.table.first_of.Goals as goal
 
 pub returns-then-negative : goal.returns-then-negative

@@ -1,6 +1,5 @@
 use Rattle.offsets.specs.Table.{first_tree, first_of}
 use mathlib.Core.Path.{◌∙◌, ap}
-use borrow.Author.Rules.{rules}
 use Rattle.offsets.proofs.table.first_tree.Goals as goal
 
 pub returns : goal.returns

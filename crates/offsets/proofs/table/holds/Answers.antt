@@ -1,5 +1,4 @@
 use Rattle.offsets.specs.Table.{holds}
-use borrow.Author.Rules.{rules}
 use Rattle.offsets.proofs.table.holds.Goals as goal
 
 pub returns : goal.returns

@@ -1,8 +1,7 @@
 use Rattle.offsets.proofs.OnePass.{negative_high}
-use Rattle.offsets.specs.Table.{magnitude, negative}
+use Rattle.offsets.specs.Table.{magnitude}
 use native.Mathlib.Omega.{arith}
 use mathlib.Core.Path.{◌∙◌, sym}
-use borrow.Author.Rules.{rules}
 use Rattle.offsets.proofs.table.magnitude.Goals as goal
 
 pub overflow_add-result : goal.overflow_add-result

@@ -1,7 +1,6 @@
 use Rattle.offsets.proofs.OnePass.{ranks_short}
 use Rattle.offsets.specs.Table.{ranks, ranks_ok}
 use mathlib.Core.Path.{sym}
-use borrow.Author.Rules.{rules}
 use Rattle.offsets.proofs.table.ranks_ok.Goals as goal
 
 pub returns-then-n-lt16 : goal.returns-then-n-lt16

@@ -1,5 +1,4 @@
 use Rattle.offsets.proofs.OnePass.{trees_read}
-use borrow.Author.Rules.{rules}
 use Rattle.offsets.proofs.table.trees.Goals as goal
 
 pub returns : goal.returns

@@ -1,9 +1,6 @@
 use Rattle.offsets.proofs.OnePass.{not_from_zero, not_in_limits, entries_decide, trees_read}
 use Rattle.offsets.specs.Limits.{tree_count_ok}
-use Rattle.offsets.specs.Table.{entry}
-use borrow.Author.Tests.{not-true, not-false}
 use mathlib.Core.Path.{sym, ◌∙◌, ap}
-use borrow.Author.Rules.{rules}
 use Rattle.offsets.proofs.table.valid.Goals as goal
 
 pub returns-then-entry-ne0 : goal.returns-then-entry-ne0

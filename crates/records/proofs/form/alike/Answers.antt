@@ -1,5 +1,4 @@
 use Rattle.records.proofs.Forms.{alike_read}
-use borrow.Author.Rules.{rules}
 use Rattle.records.proofs.form.alike.Goals as goal
 
 pub returns : goal.returns

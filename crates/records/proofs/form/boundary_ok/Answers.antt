@@ -4,7 +4,6 @@ use lib.Dec.{eqb}
 use mathlib.Core.Path.{sym, ap, ◌∙◌}
 use Rattle.records.specs.Record.{boundary_ok, to_itself}
 use borrow.Author.Tests.{eq-eqb, ne_eqb}
-use borrow.Author.Rules.{rules}
 use Rattle.records.proofs.form.boundary_ok.Goals as goal
 
 pub returns-then-neighbour_of-own : goal.returns-then-neighbour_of-own

@@ -1,6 +1,5 @@
 use Rattle.records.specs.Means.{face_form}
 use borrow.Author.Tests.{lt-ltb, le-ltb}
-use borrow.Author.Rules.{rules}
 use Rattle.records.proofs.form.face_ok.Goals as goal
 
 pub returns-then-face-face_count : goal.returns-then-face-face_count

@@ -1,14 +1,7 @@
-use Prim.Native.Nat.{◌≤◌, ◌-◌}
-use mathlib.Core.Path.{◌≡◌, refl, sym, ◌∙◌}
-use mathlib.Core.Bool.{true}
+use mathlib.Core.Path.{refl, sym, ◌∙◌}
 use native.Mathlib.Omega.{arith}
-use borrow.Author.Tests.{not-true, not-false}
 use Rattle.encoding.specs.Below.{all_below}
-use Rattle.encoding.specs.Pieces.{piece}
-use Rattle.encoding.proofs.Below.{all_more, all_fails, all_to, all_intro}
-use Rattle.records.specs.Record.{core_size}
-use Rattle.records.specs.Means.{face_form}
-use borrow.Author.Rules.{rules}
+use Rattle.encoding.proofs.Below.{all_more, all_fails, all_to}
 use Rattle.records.proofs.form.faces_ok.Goals as goal
 
 pub loop-face-init : goal.loop-face-init

@@ -1,8 +1,6 @@
 use Rattle.records.specs.Shape.{face_count}
-use borrow.Author.Tests.{not-true, not-false}
 use mathlib.Core.Path.{sym, ap, ◌∙◌}
 use Rattle.records.proofs.Forms.{form_fails, form_passes, faces_elsewhere}
-use borrow.Author.Rules.{rules}
 use Rattle.records.proofs.form.in_form.Goals as goal
 
 pub returns-then-not-shape_ok-zeros_ok : goal.returns-then-not-shape_ok-zeros_ok

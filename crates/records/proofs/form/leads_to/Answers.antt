@@ -1,5 +1,4 @@
 use Rattle.records.proofs.Forms.{leads_read}
-use borrow.Author.Rules.{rules}
 use Rattle.records.proofs.form.leads_to.Goals as goal
 
 pub returns : goal.returns

@@ -1,5 +1,4 @@
 use Rattle.records.proofs.Forms.{plain_read}
-use borrow.Author.Rules.{rules}
 use Rattle.records.proofs.form.plain.Goals as goal
 
 pub returns : goal.returns

@@ -2,7 +2,6 @@ use Prim.Native.Nat.{ℕ}
 use mathlib.Core.Path.{ap}
 use lib.Dec.{ltb}
 use Rattle.records.specs.Record.{region_limit, region_ok}
-use borrow.Author.Rules.{rules}
 use Rattle.records.proofs.form.region_ok.Goals as goal
 
 pub returns : goal.returns

@@ -1,13 +1,6 @@
-use Prim.Native.Nat.{◌≤◌, ◌-◌}
-use mathlib.Core.Path.{◌≡◌, sym, ◌∙◌}
-use mathlib.Core.Bool.{true}
+use mathlib.Core.Path.{sym, ◌∙◌}
 use native.Mathlib.Omega.{arith}
-use borrow.Author.Tests.{not-true, not-false}
-use Rattle.encoding.specs.Below.{all_below}
-use Rattle.encoding.specs.Pieces.{piece}
 use Rattle.encoding.proofs.Below.{all_more, all_fails, all_to}
-use Rattle.records.specs.Record.{core_size}
-use Rattle.records.specs.Means.{unused_from}
 use Rattle.records.proofs.Forms.{unused_first, unused_is}
 use borrow.Author.Rules.{rules}
 use Rattle.records.proofs.form.unused_from.Goals as goal

@@ -1,5 +1,4 @@
 use Rattle.records.specs.Record.{unused_ok}
-use borrow.Author.Rules.{rules}
 use Rattle.records.proofs.form.unused_ok.Goals as goal
 
 pub returns : goal.returns

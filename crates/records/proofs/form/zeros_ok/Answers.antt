@@ -1,6 +1,5 @@
 use Rattle.records.proofs.Forms.{zeros_at}
 use mathlib.Core.Path.{sym}
-use borrow.Author.Rules.{rules}
 use Rattle.records.proofs.form.zeros_ok.Goals as goal
 
 pub returns : goal.returns

@@ -1,4 +1,3 @@
-use borrow.Author.Rules.{rules}
 use Rattle.records.proofs.links.put_row.Goals as goal
 
 pub returns : goal.returns

@@ -1,5 +1,4 @@
 use Rattle.records.specs.Links.{row_of}
-use borrow.Author.Rules.{rules}
 use Rattle.records.proofs.links.row.Goals as goal
 
 pub returns : goal.returns

@@ -1,5 +1,4 @@
 use Rattle.records.specs.Links.{rows_of}
-use borrow.Author.Rules.{rules}
 use Rattle.records.proofs.links.rows_of.Goals as goal
 
 pub returns : goal.returns

@@ -1,4 +1,3 @@
-use borrow.Author.Rules.{rules}
 use Rattle.records.proofs.Forms.{faces_other}
 use Rattle.records.specs.Record.{face_of}
 use native.Mathlib.Omega.{arith}

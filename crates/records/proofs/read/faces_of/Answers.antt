@@ -1,5 +1,4 @@
 use Rattle.records.specs.Record.{faces_of}
-use borrow.Author.Rules.{rules}
 use Rattle.records.proofs.read.faces_of.Goals as goal
 
 pub returns : goal.returns

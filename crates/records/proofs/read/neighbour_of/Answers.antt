@@ -1,6 +1,5 @@
 use Rattle.records.proofs.Forms.{neighbour_at}
 use mathlib.Core.Path.{◌∙◌, sym}
-use borrow.Author.Rules.{rules}
 use Rattle.records.proofs.read.neighbour_of.Goals as goal
 
 pub returns : goal.returns

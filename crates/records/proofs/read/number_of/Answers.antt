@@ -1,6 +1,5 @@
 use Rattle.records.proofs.Forms.{number_at_lem}
 use mathlib.Core.Path.{◌∙◌, sym}
-use borrow.Author.Rules.{rules}
 use Rattle.records.proofs.read.number_of.Goals as goal
 
 pub returns : goal.returns

@@ -1,6 +1,5 @@
 use Rattle.records.proofs.Forms.{region_at}
 use native.Mathlib.Omega.{arith}
-use borrow.Author.Rules.{rules}
 use Rattle.records.proofs.read.region_of.Goals as goal
 
 pub returns : goal.returns

@@ -1,0 +1,7 @@
+use Rattle.area.specs.Area.{area_epoch}
+use borrow.Author.Rules.{rules}
+use Rattle.area.proofs.read.epoch.Goals as goal
+
+pub returns : goal.returns
+unfolding area_epoch
+returns c = c.read_u32.ensures

@@ -1,0 +1,7 @@
+use Rattle.area.specs.Area.{area_rank}
+use borrow.Author.Rules.{rules}
+use Rattle.area.proofs.read.rank.Goals as goal
+
+pub returns : goal.returns
+unfolding area_rank
+returns c = c.read_u32.ensures

@@ -1,0 +1,7 @@
+use Rattle.brick.specs.Calls.{extent_ok}
+use mathlib.Core.Path.{refl}
+use Rattle.brick.proofs.extents.extent_ok.Goals as goal
+
+pub returns : goal.returns
+unfolding extent_ok
+returns c = refl

@@ -1,0 +1,30 @@
+use Rattle.columns.proofs.Writing.{columns_trees, columns_ghosts, columns_written}
+use borrow.Author.Rules.{rules}
+use Rattle.columns.proofs.turn.write_columns.Goals as goal
+
+pub turn-requires : goal.turn-requires
+turn-requires c =
+    let tree_count_call = c.tree_count-n in
+    let ghost-count = c.ghost_count-g in
+    let pre = c.requires in
+    let line = c.line in
+    columns_trees _ _ _ _ tree_count_call.ensures ghost-count.ensures pre line.ensures
+
+pub turn-requires-2 : goal.turn-requires-2
+turn-requires-2 c =
+    let tree_count_call = c.tree_count-n in
+    let ghost-count = c.ghost_count-g in
+    let pre = c.requires in
+    let line = c.line in
+    let turn = c.turn in
+    columns_ghosts _ _ _ _ tree_count_call.ensures ghost-count.ensures pre line.ensures turn.ensures
+
+pub returns : goal.returns
+returns c =
+    let tree_count_call = c.tree_count-n in
+    let ghost-count = c.ghost_count-g in
+    let pre = c.requires in
+    let line = c.line in
+    let turn = c.turn in
+    let turn2 = c.turn-2 in
+    columns_written _ _ _ _ tree_count_call.ensures ghost-count.ensures pre line.ensures turn.ensures turn2.ensures

@@ -1,0 +1,30 @@
+use Rattle.columns.proofs.Writing.{part_trees_lem, part_ghosts_lem, part_written}
+use borrow.Author.Rules.{rules}
+use Rattle.columns.proofs.turn.write_part.Goals as goal
+
+pub turn-requires : goal.turn-requires
+turn-requires c =
+    let tree_count_call = c.tree_count-n in
+    let ghost-count = c.ghost_count-g in
+    let pre = c.requires in
+    let line = c.line in
+    part_trees_lem _ _ _ _ tree_count_call.ensures ghost-count.ensures pre line.ensures
+
+pub turn-requires-2 : goal.turn-requires-2
+turn-requires-2 c =
+    let tree_count_call = c.tree_count-n in
+    let ghost-count = c.ghost_count-g in
+    let pre = c.requires in
+    let line = c.line in
+    let turn = c.turn in
+    part_ghosts_lem _ _ _ _ tree_count_call.ensures ghost-count.ensures pre line.ensures turn.ensures
+
+pub returns : goal.returns
+returns c =
+    let tree_count_call = c.tree_count-n in
+    let ghost-count = c.ghost_count-g in
+    let pre = c.requires in
+    let line = c.line in
+    let turn = c.turn in
+    let turn2 = c.turn-2 in
+    part_written _ _ _ _ tree_count_call.ensures ghost-count.ensures pre line.ensures turn.ensures turn2.ensures

@@ -1,0 +1,38 @@
+use Prim.Native.Nat.{◌≤◌, ◌-◌}
+use mathlib.Core.Path.{◌≡◌, sym, ◌∙◌}
+use mathlib.Core.Bool.{true}
+use native.Mathlib.Omega.{arith}
+use borrow.Author.Tests.{not-true, not-false}
+use Rattle.encoding.specs.Below.{all_below}
+use Rattle.encoding.proofs.Below.{all_more, all_fails, all_to}
+use Rattle.columns_check.proofs.Finding.{heads_both}
+use Rattle.columns_read.specs.Means.{tree_column, ghost_column}
+use Rattle.columns_check.specs.Means.{ghost_head}
+use Rattle.mesh.specs.Means.{link_by_dimension}
+use borrow.Author.Rules.{rules}
+use Rattle.columns_check.proofs.sound.ghost_heads.Goals as goal
+
+pub loop-j-init : goal.loop-j-init
+unfolding all_below
+loop-j-init c = search rules
+
+pub returns-then-not-head_ok-beside : goal.returns-then-not-head_ok-beside
+returns-then-not-head_ok-beside c =
+    let loop-test = c.loop-j-test in
+    let head_ok = c.head_ok in
+    let byte = c.byte in
+    let face-count = c.face_count-faces in
+    let beside = c.beside in
+    sym (all_fails _ _ _ loop-test.true (heads_both _ _ _ _ _ _ _ head_ok.ensures byte.ensures.0 face-count.ensures.0 beside.ensures ∙ c.if-not-head_ok-beside.true))
+
+pub loop-j-preserved : goal.loop-j-preserved
+loop-j-preserved c =
+    let loop = c.loop-j in
+    let head_ok = c.head_ok in
+    let byte = c.byte in
+    let face-count = c.face_count-faces in
+    let beside = c.beside in
+    (omega arith, all_more _ _ loop.invariant.1 (heads_both _ _ _ _ _ _ _ head_ok.ensures byte.ensures.0 face-count.ensures.0 beside.ensures ∙ c.if-not-head_ok-beside.false))
+
+pub returns : goal.returns
+returns c = sym (all_to _ _ _ c.loop-j.invariant.0 (omega arith) c.loop-j.invariant.1)

@@ -1,0 +1,7 @@
+use Rattle.message.specs.Layout.{message_dimension}
+use borrow.Author.Rules.{rules}
+use Rattle.message.proofs.header.dimension.Goals as goal
+
+pub returns : goal.returns
+unfolding message_dimension
+returns c = c.read_u32.ensures

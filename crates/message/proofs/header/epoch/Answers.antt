@@ -1,0 +1,7 @@
+use Rattle.message.specs.Layout.{message_epoch}
+use borrow.Author.Rules.{rules}
+use Rattle.message.proofs.header.epoch.Goals as goal
+
+pub returns : goal.returns
+unfolding message_epoch
+returns c = c.read_u32.ensures

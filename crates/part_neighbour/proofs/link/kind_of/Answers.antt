@@ -1,0 +1,20 @@
+use Rattle.part_neighbour.specs.Neighbour.{link_kind}
+use mathlib.Core.Path.{sym, ap}
+use borrow.Author.Rules.{rules}
+use Rattle.part_neighbour.proofs.link.kind_of.Goals as goal
+
+pub returns-in-Boundary : goal.returns-in-Boundary
+unfolding link_kind
+returns-in-Boundary c = sym (ap link_kind c.in-Boundary.is)
+
+pub returns-in-Unused : goal.returns-in-Unused
+unfolding link_kind
+returns-in-Unused c = sym (ap link_kind c.in-Unused.is)
+
+pub returns-in-Local : goal.returns-in-Local
+unfolding link_kind
+returns-in-Local c = sym (ap link_kind c.in-Local.is)
+
+pub returns-in-Ghost : goal.returns-in-Ghost
+unfolding link_kind
+returns-in-Ghost c = sym (ap link_kind c.in-Ghost.is)

@@ -1,0 +1,17 @@
+use mathlib.Core.Path.{sym, ap, ◌∙◌}
+use mir.Syntax.{w32}
+use mir.Facts.{to_z_pos}
+use Rattle.pattern.specs.Sender.{sender_number}
+use Rattle.pattern.proofs.Answers.{rank_fits}
+use Rattle.pattern.proofs.holder.sender_number.Goals as goal
+
+pub overflow_cast-result : goal.overflow_cast-result
+overflow_cast-result c = record { sfits = rank_fits _ _ c.requires c.in-Rank.is }
+
+pub returns-in-Rank : goal.returns-in-Rank
+unfolding sender_number
+returns-in-Rank c = to_z_pos w32 (rank_fits _ _ c.requires c.in-Rank.is) ∙ sym (ap sender_number c.in-Rank.is)
+
+pub returns-in-Nobody : goal.returns-in-Nobody
+unfolding sender_number
+returns-in-Nobody c = sym (ap sender_number c.in-Nobody.is)

@@ -1,0 +1,6 @@
+use mathlib.Core.Path.{◌∙◌}
+use Rattle.pattern.proofs.Answers.{send_is}
+use Rattle.pattern.proofs.send_set.Goals as goal
+
+pub returns : goal.returns
+returns c = c.rank_set.ensures ∙ send_is _ _ _ _

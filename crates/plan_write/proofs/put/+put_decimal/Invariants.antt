@@ -1,0 +1,5 @@
+-- the number falls
+use Rattle.plan_write.proofs.put.+put_decimal.Given as goal
+
+abbrev pub decreases-put_decimal : goal.decreases-put_decimal
+decreases-put_decimal l = l.n

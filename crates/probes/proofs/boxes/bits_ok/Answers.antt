@@ -1,0 +1,5 @@
+use Rattle.probes.proofs.Floats.{bits_number}
+use Rattle.probes.proofs.boxes.bits_ok.Goals as goal
+
+pub returns : goal.returns
+returns c = bits_number _

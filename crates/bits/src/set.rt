@@ -34,13 +34,11 @@ pub fn next_member(ws: &[u64], k: u32) -> u32
     if rest != 0 {
         return k + u64::trailing_zeros(rest);
     }
-    let mut i = (k / 64) as usize + 1;
-    while i < ws.len() {
+    for i in (k / 64) as usize + 1..ws.len() {
         let word = ws[i];
         if word != 0 {
             return 64 * (i as u32) + u64::trailing_zeros(word);
         }
-        i += 1;
     }
     n
 }

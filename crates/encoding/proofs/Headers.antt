@@ -1,42 +1,44 @@
 -- A header of eight numbers, written number by number.
-use Prim.Native.Nat.{ℕ, ◌+◌, ◌≤◌}
+use Prim.Native.Nat.{ℕ, zero, suc, ◌+◌, ◌*◌, ◌≤◌, ◌<◌}
+use native.Mathlib.Numerals.{add-one}
 use native.Mathlib.Omega.{arith}
 use mathlib.Core.Path.{◌≡◌, refl, sym, ap, ◌∙◌}
 use mathlib.Core.List.{List, [], ◌++◌, append_assoc}
-use lib.ListN.{length, length-append}
+use lib.ListN.{length, get_or, length-append}
 use Rattle.encoding.specs.Pieces.{splice}
 use Rattle.encoding.specs.Numbers.{le_bytes, put_u32}
-use Rattle.encoding.specs.Header.{eight_bytes}
+use Rattle.encoding.specs.Header.{eight_of}
 use Rattle.encoding.proofs.Pieces.{splice_none}
-use Rattle.encoding.proofs.Numbers.{bytes_length, put_next}
+use Rattle.encoding.proofs.Numbers.{bytes_length, put_next, length_put}
 
--- the numbers a, of off bytes, stand at the beginning of bs
-record Begun (bs a : List ℕ) (off : ℕ) (mid : List ℕ) : Type 0 where
-  many : length a ≡ off
-  begins : mid ≡ splice bs 0 a
+-- the bytes of the first i numbers of a list
+unfoldable pub first_bytes : List ℕ → ℕ → List ℕ
+first_bytes ns zero = []
+first_bytes ns (suc i) = first_bytes ns i ++ le_bytes 4 (get_or ns i 0)
 
-module _ (bs : List ℕ) where
-  begun-none : Begun bs [] 0 bs
-  begun-none = record { many = refl; begins = sym (splice_none bs 0) }
+-- the first i numbers stand at the beginning of bs
+pub record Begun (bs ns : List ℕ) (i : ℕ) (mid : List ℕ) : Type 0 where
+  pub many : length (first_bytes ns i) ≡ 4 * i
+  pub begins : mid ≡ splice bs 0 (first_bytes ns i)
+  pub same_length : length mid ≡ length bs
+
+module _ (bs ns : List ℕ) (room : 32 ≤ length bs) where
+  pub begun_none : Begun bs ns 0 bs
+  unfolding first_bytes
+  begun_none = record { many = refl; begins = sym (splice_none bs 0); same_length = refl }
 
   -- one more number
-  begun-next : (v : ℕ) {a mid next : List ℕ} {off : ℕ} → off + 4 ≤ length bs → Begun bs a off mid → next ≡ put_u32 mid off v → Begun bs (a ++ le_bytes 4 v) (off + 4) next
-  begun-next v {a} {mid} {next} {off} h w p =
+  pub begun_next : (i : ℕ) {mid next : List ℕ} → i < 8 → Begun bs ns i mid → next ≡ put_u32 mid (4 * i) (get_or ns i 0) → Begun bs ns (i + 1) next
+  unfolding first_bytes
+  begun_next i {mid} {next} h w p =
+      let v : ℕ = get_or ns i 0 in
       record {
-        many = rw (length-append, bytes_length 4 v, w.many);
-        begins = p ∙ ap (λ (m : List ℕ). put_u32 m off v) w.begins ∙ put_next 4 v off bs a w.many (omega arith);
+        many = rw add-one (rw (length-append, bytes_length 4 v, w.many) (omega arith));
+        begins = rw add-one (p ∙ ap (λ (m : List ℕ). put_u32 m (4 * i) v) w.begins ∙ put_next 4 v (4 * i) bs (first_bytes ns i) w.many (omega arith));
+        same_length = rw p (length_put 4 mid (4 * i) v (omega (arith, w.same_length))) ∙ w.same_length;
       }
 
   -- all eight
-  pub eight_written : (a b c d e f g h : ℕ) {o1 o2 o3 o4 o5 o6 o7 o8 : List ℕ} → 32 ≤ length bs
-      → o1 ≡ put_u32 bs 0 a → o2 ≡ put_u32 o1 4 b → o3 ≡ put_u32 o2 8 c → o4 ≡ put_u32 o3 12 d → o5 ≡ put_u32 o4 16 e → o6 ≡ put_u32 o5 20 f → o7 ≡ put_u32 o6 24 g → o8 ≡ put_u32 o7 28 h
-      → o8 ≡ splice bs 0 (eight_bytes a b c d e f g h)
-  eight_written a b c d e f g h room e1 e2 e3 e4 e5 e6 e7 e8 =
-      let w1 = begun-next a {off = 0} (omega arith) begun-none e1 in
-      let w2 = begun-next b {off = 4} (omega arith) w1 e2 in
-      let w3 = begun-next c {off = 8} (omega arith) w2 e3 in
-      let w4 = begun-next d {off = 12} (omega arith) w3 e4 in
-      let w5 = begun-next e {off = 16} (omega arith) w4 e5 in
-      let w6 = begun-next f {off = 20} (omega arith) w5 e6 in
-      let w7 = begun-next g {off = 24} (omega arith) w6 e7 in
-      (begun-next h {off = 28} (omega arith) w7 e8).begins ∙ ap (splice bs 0) (simp append_assoc)
+  pub begun_all : {mid : List ℕ} → Begun bs ns 8 mid → mid ≡ splice bs 0 (eight_of ns)
+  unfolding first_bytes
+  begun_all w = w.begins ∙ ap (splice bs 0) (simp append_assoc)

@@ -4,3 +4,4 @@ pub mod Pieces
 pub mod Numbers
 pub mod Words
 pub mod Headers
+pub mod Refusals

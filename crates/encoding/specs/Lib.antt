@@ -6,3 +6,4 @@ pub mod Words
 pub mod Header
 pub mod Refusal
 pub mod Answer
+pub mod Refusals

@@ -1,6 +1,8 @@
 // Answers of public calls. When a call is refused, `refusal` is the number of the first check that failed and every other field is 0.
 ghost use Rattle.std.specs.Prelude.{◌≡◌};
-ghost use Rattle.encoding.specs.Answer.{length_refused, count_refused};
+ghost use Rattle.encoding.specs.Refusals.{length_of, count_of};
+
+use crate::refusal::Refusal;
 
 // How long the object is that a call wrote or was asked about, in bytes.
 #[repr(C)]
@@ -8,12 +10,6 @@ ghost use Rattle.encoding.specs.Answer.{length_refused, count_refused};
 pub struct Length {
     pub refusal: u32,
     pub length: u64,
-}
-
-pub fn refused(refusal: u32) -> Length
-    ensures { result ≡ length_refused refusal }
-{
-    Length { refusal, length: 0 }
 }
 
 // How many entries a call wrote, or messages it took.
@@ -24,8 +20,32 @@ pub struct Count {
     pub count: u32,
 }
 
-pub fn count_refused(refusal: u32) -> Count
-    ensures { result ≡ count_refused refusal }
-{
-    Count { refusal, count: 0 }
+// What C gets of a length, or of a refusal.
+impl From<Result<u64, Refusal>> for Length {
+    ghost from_gives = { λ answer length. length ≡ length_of answer };
+
+    fn from(answer: Result<u64, Refusal>) -> Length {
+        match answer {
+            Ok(length) => Length { refusal: 0, length },
+            Err(refusal) => Length {
+                refusal: refusal.number(),
+                length: 0,
+            },
+        }
+    }
+}
+
+// What C gets of a count, or of a refusal.
+impl From<Result<u32, Refusal>> for Count {
+    ghost from_gives = { λ answer count. count ≡ count_of answer };
+
+    fn from(answer: Result<u32, Refusal>) -> Count {
+        match answer {
+            Ok(count) => Count { refusal: 0, count },
+            Err(refusal) => Count {
+                refusal: refusal.number(),
+                count: 0,
+            },
+        }
+    }
 }

@@ -1,19 +1,12 @@
 // Little-endian numbers in lent bytes.
-ghost use Rattle.std.specs.Prelude.{◌≡◌, ◌+◌, ◌≤◌, ◌<◌, ◌^◌, length};
+ghost use Rattle.std.specs.Prelude.{◌≡◌, ◌+◌, ◌≤◌, length};
 ghost use Rattle.encoding.specs.Numbers.{u32_at, u64_at, put_u32, put_u64};
-
-// A byte as a wider number.
-fn wide(x: u8) -> u32
-    ensures { (result ≡ x) × (result < 256) }
-{
-    x as u32
-}
 
 pub fn read_u32(bs: &[u8], at: usize) -> u32
     requires { at + 4 ≤ length bs.now }
     ensures { result ≡ u32_at bs.now at }
 {
-    wide(bs[at]) + 256 * wide(bs[at + 1]) + 65536 * wide(bs[at + 2]) + 16777216 * wide(bs[at + 3])
+    u32::from_le_bytes([bs[at], bs[at + 1], bs[at + 2], bs[at + 3]])
 }
 
 pub fn read_u64(bs: &[u8], at: usize) -> u64
@@ -29,13 +22,11 @@ pub fn write_u32(bs: &mut [u8], at: usize, v: u32)
     requires { at + 4 ≤ length bs.old }
     ensures { bs.new ≡ put_u32 bs.old at v }
 {
-    let v1 = v / 256;
-    let v2 = v1 / 256;
-    let v3 = v2 / 256;
-    bs[at] = (v % 256) as u8;
-    bs[at + 1] = (v1 % 256) as u8;
-    bs[at + 2] = (v2 % 256) as u8;
-    bs[at + 3] = (v3 % 256) as u8;
+    let [a, b, c, d] = v.to_le_bytes();
+    bs[at] = a;
+    bs[at + 1] = b;
+    bs[at + 2] = c;
+    bs[at + 3] = d;
 }
 
 pub fn write_u64(bs: &mut [u8], at: usize, v: u64)

@@ -5,4 +5,5 @@ pub mod answer;
 pub mod bytes;
 pub mod header;
 pub mod record;
+pub mod refusal;
 pub mod zero;

@@ -1,4 +1,4 @@
-// Records of 40 and 64 bytes, moved as words: all loads first, then all stores.
+// Records of 40 and 64 bytes, moved as words: all loads first, then all stores. Each length has its own functions, and no loop: `copy_from_slice` took 1.3 to 1.9 times as long, `copy_within` 1.5 times, and loops over arrays of words 1.2 to 2 times.
 ghost use Rattle.std.specs.Prelude.{◌≡◌, ◌+◌, ◌≤◌, length};
 ghost use Rattle.encoding.specs.Pieces.{piece, splice};
 ghost use Rattle.encoding.specs.Words.{bytes40, bytes64};

@@ -23,18 +23,16 @@ fn zero64(bs: &[u8], at: usize) -> bool
 pub fn all_zero(bs: &[u8]) -> bool
     ensures { result ≡ all_zero bs.now }
 {
-    let mut i = 0;
-    while 64 <= bs.len() - i {
-        if !zero64(bs, i) {
+    let blocks = bs.len() / 64;
+    for block in 0..blocks {
+        if !zero64(bs, 64 * block) {
             return false;
         }
-        i += 64;
     }
-    while i < bs.len() {
+    for i in 64 * blocks..bs.len() {
         if bs[i] != 0 {
             return false;
         }
-        i += 1;
     }
     true
 }

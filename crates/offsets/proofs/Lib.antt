@@ -2,3 +2,4 @@
 pub mod OnePass
 pub mod Tables
 pub mod Examples
+pub mod Checked

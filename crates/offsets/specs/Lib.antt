@@ -3,3 +3,4 @@ pub mod Limits
 pub mod Table
 pub mod Calls
 pub mod Means
+pub mod Answers

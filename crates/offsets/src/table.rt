@@ -3,10 +3,7 @@ ghost use Rattle.std.specs.Prelude.{◌≡◌, true, ◌+◌, ◌*◌, ◌≤◌
 ghost use Rattle.encoding.specs.Below.{all_below};
 ghost use Rattle.offsets.specs.Limits.{max_ranks, rank_count_ok, tree_count_ok};
 ghost use Rattle.offsets.specs.Table.{table_length, ranks_ok, ranks as ranks_of, entry as entry_of, negative as is_negative, magnitude as magnitude_of, first_of, valid as is_valid, first_tree, end_tree, trees as trees_of, holds as is_held};
-ghost use Rattle.offsets.specs.Calls.{range_refused};
 ghost use Rattle.offsets.specs.Means.{entry_ok, entry_ok_at};
-
-use crate::Range;
 
 pub const MAX_RANKS: usize = 16384;
 
@@ -92,14 +89,10 @@ fn entries_ok(t: &[u8], ranks: usize, trees: u64) -> bool
     requires { table_length ranks ≤ length t.now }
     ensures { result ≡ all_below ranks (entry_ok_at t.now trees) }
 {
-    let mut p = 0;
-    while p < ranks {
-        let v = entry(t, p);
-        let next = entry(t, p + 1);
-        if !entry_ok(trees, v, next) {
+    for p in 0..ranks {
+        if !entry_ok(trees, entry(t, p), entry(t, p + 1)) {
             return false;
         }
-        p += 1;
     }
     true
 }
@@ -148,14 +141,4 @@ pub fn holds(t: &[u8], p: usize, k: u64) -> bool
     ensures { result ≡ is_held t.now p k }
 {
     (first_tree(t, p) <= k) & (k < end_tree(t, p))
-}
-
-pub fn range_refused(refusal: u32) -> Range
-    ensures { result ≡ range_refused refusal }
-{
-    Range {
-        refusal,
-        first: 0,
-        count: 0,
-    }
 }

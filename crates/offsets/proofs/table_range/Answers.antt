@@ -1,3 +1,5 @@
+use Rattle.std.proofs.lemmas.Result.{err_from_is_err_and}
+use Rattle.offsets.proofs.Checked.{table_known, range_fails}
 use Rattle.offsets.proofs.Tables.{range_fits_lem}
 use Prim.Native.Nat.{◌≤◌}
 use Rattle.offsets.specs.Limits.{max_trees}
@@ -6,52 +8,28 @@ use Rattle.offsets.specs.Calls.{table_range, range_answer, range_refusal}
 use Rattle.encoding.specs.Refusal.{first_failed}
 use native.Mathlib.Omega.{arith}
 use borrow.Author.Tests.{le-ltb, lt-ltb}
-use mathlib.Core.Path.{◌∙◌, sym}
 use Rattle.offsets.proofs.table_range.Goals as goal
 
 -- the rank's range fits 32 bits
 range : (c : goal.After-end_tree-end)
     → (first_tree c.args.table.now c.args.rank ≤ end_tree c.args.table.now c.args.rank) × (end_tree c.args.table.now c.args.rank ≤ max_trees)
 range c =
-    let known = c.shared_slice_known-1 in
-    let ranks_ok_lem = c.ranks_ok in
-    let if1 = c.if-not-ranks_ok in
-    let valid = c.valid in
-    let if2 = c.if-not-valid in
-    let ranks = c.ranks in
-    let if3 = c.if-ranks-p in
-    range_fits_lem c.args.table.now _ _ (λ i. (known.given i).fits) (sym ranks_ok_lem.ensures ∙ if1.false) (sym valid.ensures ∙ if2.false) ranks.ensures.0 if3.false
+    let k = table_known c.args.table.now c.in_ok-check_table.ensures in
+    range_fits_lem c.args.table.now _ _ (λ i. (c.shared_slice_known-1.given i).fits) k.0 k.1 c.ranks.ensures.0 c.if-ranks-p.false
 
-pub returns-then-not-ranks_ok : goal.returns-then-not-ranks_ok
-unfolding table_range range_refusal range_answer first_failed
-returns-then-not-ranks_ok c = simp (c.range_refused.ensures, ← c.ranks_ok.ensures, c.if-not-ranks_ok.true)
-
-pub valid-requires : goal.valid-requires
-valid-requires c = sym c.ranks_ok.ensures ∙ c.if-not-ranks_ok.false
-
-pub returns-then-not-valid : goal.returns-then-not-valid
-unfolding table_range range_refusal range_answer first_failed
-returns-then-not-valid c =
-    let ranks_ok_lem = c.ranks_ok in
-    let if1 = c.if-not-ranks_ok in
-    let valid = c.valid in
-    let if2 = c.if-not-valid in
-    simp (c.range_refused-then-not-valid.ensures, ← ranks_ok_lem.ensures, if1.false, ← valid.ensures, if2.true)
+pub returns-in_err-check_table : goal.returns-in_err-check_table
+returns-in_err-check_table c =
+    let p = err_from_is_err_and c.from_residual.result c.from_residual.ensures.1 in
+    rw (p.1, p.2) (range_fails c.args.table.now c.args.rank _ c.in_err-check_table.ensures)
 
 pub ranks-requires : goal.ranks-requires
-ranks-requires c = sym c.ranks_ok.ensures ∙ c.if-not-ranks_ok.false
+ranks-requires c = (table_known c.args.table.now c.in_ok-check_table.ensures).0
 
 pub returns-then-ranks-p : goal.returns-then-ranks-p
 unfolding table_range range_refusal range_answer first_failed
 returns-then-ranks-p c =
-    let ranks_ok_lem = c.ranks_ok in
-    let if1 = c.if-not-ranks_ok in
-    let valid = c.valid in
-    let if2 = c.if-not-valid in
-    let ranks = c.ranks in
-    let args = c.args in
-    let if3 = c.if-ranks-p in
-    simp (c.range_refused-then-ranks-p.ensures, ← ranks_ok_lem.ensures, if1.false, ← valid.ensures, if2.false, ← ranks.ensures.0, le-ltb args.rank ranks.result if3.true)
+    let k = table_known c.args.table.now c.in_ok-check_table.ensures in
+    simp (k.0, k.1, ← c.ranks.ensures.0, le-ltb c.args.rank c.ranks.result c.if-ranks-p.true)
 
 pub overflow_cast-result : goal.overflow_cast-result
 overflow_cast-result c = omega (arith, range c, c.first_tree-first.ensures, c.end_tree-end.ensures)
@@ -65,11 +43,5 @@ overflow_cast-result-2 c = omega (arith, range c, c.first_tree-first.ensures, c.
 pub returns : goal.returns
 unfolding table_range range_refusal range_answer first_failed tree_count
 returns c =
-    let ranks_ok_lem = c.ranks_ok in
-    let if1 = c.if-not-ranks_ok in
-    let valid = c.valid in
-    let if2 = c.if-not-valid in
-    let ranks = c.ranks in
-    let if3 = c.if-ranks-p in
-    let first_tree_lem = c.first_tree-first in
-    simp (← ranks_ok_lem.ensures, if1.false, ← valid.ensures, if2.false, ← ranks.ensures.0, lt-ltb c.args.rank ranks.result if3.false, first_tree_lem.ensures, c.end_tree-end.ensures)
+    let k = table_known c.args.table.now c.in_ok-check_table.ensures in
+    simp (k.0, k.1, ← c.ranks.ensures.0, lt-ltb c.args.rank c.ranks.result c.if-ranks-p.false, c.first_tree-first.ensures, c.end_tree-end.ensures)

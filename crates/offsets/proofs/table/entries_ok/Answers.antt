@@ -13,18 +13,18 @@ loop-p-init c = search rules
 pub returns-then-not-entry_ok : goal.returns-then-not-entry_ok
 returns-then-not-entry_ok c =
     let loop-test = c.loop-p-test in
-    let entry = c.entry-v in
-    let entry2 = c.entry-next in
+    let entry = c.entry in
+    let entry2 = c.entry-in-loop-p in
     let entry-ok = c.entry_ok in
     sym (all_fails _ _ _ loop-test.true (sym (entry_turn _ _ _ _ _ _ entry.ensures entry2.ensures entry-ok.ensures) ∙ c.if-not-entry_ok.true))
 
 pub loop-p-preserved : goal.loop-p-preserved
 loop-p-preserved c =
     let loop = c.loop-p in
-    let entry = c.entry-v in
-    let entry2 = c.entry-next in
+    let entry = c.entry in
+    let entry2 = c.entry-in-loop-p in
     let entry-ok = c.entry_ok in
-    (omega arith, all_more _ _ loop.invariant.1 (sym (entry_turn _ _ _ _ _ _ entry.ensures entry2.ensures entry-ok.ensures) ∙ c.if-not-entry_ok.false))
+    all_more _ _ loop.invariant (sym (entry_turn _ _ _ _ _ _ entry.ensures entry2.ensures entry-ok.ensures) ∙ c.if-not-entry_ok.false)
 
 pub returns : goal.returns
-returns c = sym (all_to _ _ _ c.loop-p.invariant.0 (omega arith) c.loop-p.invariant.1)
+returns c = sym (all_to _ _ _ c.loop-p.auto.p-end (omega arith) c.loop-p.invariant)

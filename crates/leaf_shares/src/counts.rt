@@ -5,12 +5,6 @@ ghost use Rattle.leaf_shares.specs.Means.{count_ok};
 
 use offsets::table::tree_count_ok;
 
-pub fn wide(x: u32) -> u64
-    ensures { (result ≡ x) × (result < 2 ^ 32) }
-{
-    x as u64
-}
-
 fn count_ok(x: u32) -> bool
     ensures { result ≡ count_ok x }
 {
@@ -21,15 +15,12 @@ fn count_ok(x: u32) -> bool
 pub fn leaves_ok(leaves: &[u32]) -> bool
     ensures { result ≡ leaves_ok leaves.now }
 {
-    let k = leaves.len();
-    if !tree_count_ok(k as u64) {
+    if !tree_count_ok(leaves.len() as u64) {
         return false;
     }
     let mut ok = true;
-    let mut i = 0;
-    while i < k {
-        ok = ok & count_ok(leaves[i]);
-        i += 1;
+    for &x in leaves {
+        ok &= count_ok(x);
     }
     ok
 }
@@ -40,10 +31,8 @@ pub fn sum(leaves: &[u32], from: usize, to: usize) -> u64
     ensures { leaf_start leaves.now from + result ≡ leaf_start leaves.now to }
 {
     let mut n: u64 = 0;
-    let mut i = from;
-    while i < to {
-        n += wide(leaves[i]);
-        i += 1;
+    for &x in &leaves[from..to] {
+        n += x as u64;
     }
     n
 }

@@ -5,7 +5,7 @@ ghost use Rattle.encoding.specs.Numbers.{put_u64};
 ghost use Rattle.leaf_shares.specs.Leaves.{leaf_start, leaf_table};
 ghost use Rattle.leaf_shares.specs.Means.{trees_before, shared_entry, leaf_entry, Walking, Writable};
 
-use crate::counts::{sum, wide};
+use crate::counts::sum;
 use crate::shares::cut;
 use encoding::bytes::write_u64;
 
@@ -17,36 +17,35 @@ pub struct Walk {
 }
 
 // On by 16 trees at a time, while the next one begins before leaf lo: their sum goes by wide loads.
-fn stride(leaves: &[u32], tree: usize, start: u64, lo: u64) -> Walk
-    requires { Walking leaves.now lo tree start }
+fn stride(leaves: &[u32], from: Walk, lo: u64) -> Walk
+    requires { Walking leaves.now lo from.tree from.start }
     ensures { Walking leaves.now lo result.tree result.start }
 {
-    let mut k = tree;
-    let mut s = start;
-    while 16 <= leaves.len() - k {
-        let n = sum(leaves, k, k + 16);
-        if lo <= s + n {
-            return Walk { tree: k, start: s };
+    let mut at = from;
+    // 16 trees at a time, as far as leaf lo
+    while 16 <= leaves.len() - at.tree {
+        let n = sum(leaves, at.tree, at.tree + 16);
+        if lo <= at.start + n {
+            return at;
         }
-        s += n;
-        k += 16;
+        at.start += n;
+        at.tree += 16;
     }
-    Walk { tree: k, start: s }
+    at
 }
 
 // On to the first tree that begins at leaf lo or later, or past the last tree.
-fn advance(leaves: &[u32], tree: usize, start: u64, lo: u64) -> Walk
-    requires { Walking leaves.now lo tree start }
+fn advance(leaves: &[u32], from: Walk, lo: u64) -> Walk
+    requires { Walking leaves.now lo from.tree from.start }
     ensures { (result.tree ≡ trees_before leaves.now lo) × (result.start ≡ leaf_start leaves.now result.tree) }
 {
-    let near = stride(leaves, tree, start, lo);
-    let mut k = near.tree;
-    let mut s = near.start;
-    while s < lo {
-        s += wide(leaves[k]);
-        k += 1;
+    let mut at = stride(leaves, from, lo);
+    // a search, which ends at leaf lo
+    while at.start < lo {
+        at.start += leaves[at.tree] as u64;
+        at.tree += 1;
     }
-    Walk { tree: k, start: s }
+    at
 }
 
 // The entry of a rank with leaves lo up to, but without, hi, where `tree` is the first that begins at lo or later.
@@ -55,26 +54,18 @@ fn entry_of(tree: u64, start: u64, lo: u64, hi: u64) -> u64
     ensures { result ≡ shared_entry tree start lo hi }
 {
     if (lo < hi) & (lo < start) {
-        (18446744073709551615 - tree) + 1
+        u64::MAX - tree + 1
     } else {
         tree
     }
 }
 
 // The entry of rank p, which has leaves lo up to, but without, hi. The walk goes on to lo.
-pub fn put_rank(
-    leaves: &[u32],
-    tree: usize,
-    start: u64,
-    lo: u64,
-    hi: u64,
-    p: usize,
-    out: &mut [u8],
-) -> Walk
-    requires { Walking leaves.now lo tree start × (8 * p + 8 ≤ length out.old) }
+pub fn put_rank(leaves: &[u32], from: Walk, lo: u64, hi: u64, p: usize, out: &mut [u8]) -> Walk
+    requires { Walking leaves.now lo from.tree from.start × (8 * p + 8 ≤ length out.old) }
     ensures { (result.tree ≡ trees_before leaves.now lo) × (result.start ≡ leaf_start leaves.now result.tree) × (out.new ≡ put_u64 out.old (8 * p) (leaf_entry leaves.now lo hi)) }
 {
-    let at = advance(leaves, tree, start, lo);
+    let at = advance(leaves, from, lo);
     let entry = entry_of(at.tree as u64, at.start, lo, hi);
     write_u64(&mut *out, 8 * p, entry);
     at
@@ -86,16 +77,11 @@ pub fn write(ranks: usize, leaves: &[u32], n: u64, out: &mut [u8])
     ensures { out.new ≡ splice out.old 0 (leaf_table ranks leaves.now) }
 {
     let w = ranks as u64;
-    let mut tree: usize = 0;
-    let mut start: u64 = 0;
-    let mut p: usize = 0;
-    while p < ranks {
+    let mut at = Walk { tree: 0, start: 0 };
+    for p in 0..ranks {
         let lo = cut(n, p as u64, w);
         let hi = cut(n, (p + 1) as u64, w);
-        let at = put_rank(leaves, tree, start, lo, hi, p, &mut *out);
-        tree = at.tree;
-        start = at.start;
-        p += 1;
+        at = put_rank(leaves, at, lo, hi, p, &mut *out);
     }
     write_u64(&mut *out, 8 * ranks, leaves.len() as u64);
 }

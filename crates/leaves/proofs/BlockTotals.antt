@@ -1,5 +1,5 @@
 -- Laws of blocks: their sums added in pairs are the leaf counts added tree by tree.
-use Prim.Native.Nat.{ℕ, zero, suc, ◌+◌, ◌-◌, ◌*◌, ◌≤◌, ◌<◌}
+use Prim.Native.Nat.{ℕ, zero, suc, ◌+◌, ◌-◌, ◌*◌, ◌≤◌, ◌<◌, min}
 use native.Mathlib.Nat.{le_refl}
 use native.Mathlib.Numerals.{add-one}
 use native.Mathlib.Omega.{arith}
@@ -16,7 +16,7 @@ use Rattle.leaf_shares.specs.Leaves.{leaves_ok, leaf_start, leaf_total, cut, lea
 use Rattle.leaves.specs.Blocks.{block_count, block_sum, sums_ok, pairs, rounds, pair_total, block_shares, block_table}
 use Rattle.leaves.specs.Calls.{leaves_refusal, blocks_refusal, table_from_leaves, table_from_blocks}
 use Rattle.leaves.specs.Promises.{PairsAdd, BlocksAgree, BlocksAnswer}
-use Rattle.leaves.specs.Means.{block_end, Adding, AllSums}
+use Rattle.leaves.specs.Means.{Adding, AllSums}
 use Rattle.leaf_shares.proofs.LeafCounts.{start_zero, start_more, start_total, start_mono, start_bound, trees_fit}
 
 -- ---- a list's sum, from its front
@@ -96,23 +96,15 @@ start_behind ls (suc d) =
 start_past : (ls : List ℕ) (k : ℕ) → length ls ≤ k → leaf_start ls k ≡ leaf_total ls
 start_past ls k h = let e : k ≡ length ls + (k - length ls) = omega arith in rw e (start_behind ls (k - length ls))
 
--- the block that begins with tree 256 b ends within the trees
-pub end_within : (K from : ℕ) → from ≤ K → (from ≤ block_end K from) × (block_end K from ≤ K)
-unfolding block_end
-end_within K from h = either (ltb (K - from) 256) (λ e. rw e (omega arith, omega arith)) (λ e. rw e (omega arith, omega tests))
-
-start_end : (ls : List ℕ) (b : ℕ) → 256 * b ≤ length ls → leaf_start ls (block_end (length ls) (256 * b)) ≡ leaf_start ls (256 * b + 256)
-unfolding block_end
-start_end ls b h =
+start_end : (ls : List ℕ) (b : ℕ) {i : ℕ} → 256 * b ≤ length ls → i ≡ 256 * b + min (length ls - 256 * b) 256 → leaf_start ls i ≡ leaf_start ls (256 * b + 256)
+start_end ls b {i} h q =
     either (ltb (length ls - 256 * b) 256)
-    (λ e. rw e (start_total ls ∙ sym (start_past ls (256 * b + 256) (omega tests))))
-    (λ e. rw e)
+    (λ e. let f : i ≡ length ls = omega tests in rw f (start_total ls ∙ sym (start_past ls (256 * b + 256) (omega tests))))
+    (λ e. let f : i ≡ 256 * b + 256 = omega tests in rw f)
 
 -- what the loop over a block finds
-pub block_sum_is : (ls : List ℕ) (b : ℕ) {n i : ℕ} → 256 * b ≤ length ls → leaf_start ls (256 * b) + n ≡ leaf_start ls i → i ≡ block_end (length ls) (256 * b) → n ≡ block_sum ls b
-block_sum_is ls b {n} {i} h e q =
-    let f : leaf_start ls i ≡ leaf_start ls (256 * b + 256) = ap (leaf_start ls) q ∙ start_end ls b h in
-    omega (arith, start_block ls b)
+pub block_sum_is : (ls : List ℕ) (b : ℕ) {n i : ℕ} → 256 * b ≤ length ls → leaf_start ls (256 * b) + n ≡ leaf_start ls i → i ≡ 256 * b + min (length ls - 256 * b) 256 → n ≡ block_sum ls b
+block_sum_is ls b {n} {i} h e q = omega (arith, start_end ls b h q, start_block ls b)
 
 module _ (ls sums : List ℕ) (ok : sums_ok ls sums ≡ true) where
   -- as many sums as blocks

@@ -1,5 +1,5 @@
 -- Means, no part of what is promised: what writing by weights takes, and how sums of blocks are added.
-use Rattle.std.specs.Prelude.{ℕ, ◌+◌, ◌-◌, ◌^◌, ◌≤◌, ◌<◌, ◌≡◌, true, cond, List, ltb, length}
+use Rattle.std.specs.Prelude.{ℕ, ◌+◌, ◌^◌, ◌≤◌, ◌<◌, ◌≡◌, true, List, length}
 use Rattle.offsets.specs.Limits.{rank_count_ok}
 use Rattle.offsets.specs.Table.{table_length}
 use Rattle.leaf_shares.specs.Leaves.{leaves_ok, leaf_start, leaf_total}
@@ -12,10 +12,6 @@ pub record WeightedWritable (ws ls : List ℕ) (N : ℕ) (out : List ℕ) : Type
   pub leaves_fit : leaves_ok ls ≡ true
   pub total : N ≡ leaf_total ls
   pub room : table_length (length ws) ≤ length out
-
--- one past the last tree of the block of K trees that begins with tree `from`
-unfoldable pub block_end : ℕ → ℕ → ℕ
-block_end K from = cond (ltb (K - from) 256) K (from + 256)
 
 -- sums from one number up to another, at most `size` of them, are to be added; leaf_start of sums is the sum of those before
 pub record Adding (sums : List ℕ) (size from to : ℕ) : Type 0 where

@@ -2,20 +2,9 @@
 ghost use Rattle.std.specs.Prelude.{◌≡◌, true, ◌&&◌, ◌+◌, ◌*◌, ◌≤◌, ◌<◌, length};
 ghost use Rattle.leaf_shares.specs.Leaves.{leaves_ok, leaf_start};
 ghost use Rattle.leaves.specs.Blocks.{block_sum, sums_ok, pair_total};
-ghost use Rattle.leaves.specs.Means.{block_end, Adding, AllSums};
+ghost use Rattle.leaves.specs.Means.{Adding, AllSums};
 
 use leaf_shares::counts::{leaves_ok, sum};
-
-// One past the last of the block of k trees that begins with tree `from`.
-fn block_end(k: usize, from: usize) -> usize
-    requires { from ≤ k }
-    ensures { result ≡ block_end k from }
-{
-    if k - from < 256 {
-        return k;
-    }
-    from + 256
-}
 
 // The leaves of block b.
 fn block_sum(leaves: &[u32], b: usize) -> u64
@@ -23,7 +12,8 @@ fn block_sum(leaves: &[u32], b: usize) -> u64
     ensures { result ≡ block_sum leaves.now b }
 {
     let from = 256 * b;
-    sum(leaves, from, block_end(leaves.len(), from))
+    let trees = (leaves.len() - from).min(256);
+    sum(leaves, from, from + trees)
 }
 
 fn sums_ok(leaves: &[u32], sums: &[u64]) -> bool
@@ -33,12 +23,10 @@ fn sums_ok(leaves: &[u32], sums: &[u64]) -> bool
     if sums.len() != (leaves.len() + 255) / 256 {
         return false;
     }
-    let mut b = 0;
-    while b < sums.len() {
-        if sums[b] != block_sum(leaves, b) {
+    for (b, &sum) in sums.iter().enumerate() {
+        if sum != block_sum(leaves, b) {
             return false;
         }
-        b += 1;
     }
     true
 }
@@ -46,10 +34,7 @@ fn sums_ok(leaves: &[u32], sums: &[u64]) -> bool
 pub fn blocks_ok(leaves: &[u32], sums: &[u64]) -> bool
     ensures { result ≡ (leaves_ok leaves.now && sums_ok leaves.now sums.now) }
 {
-    if !leaves_ok(leaves) {
-        return false;
-    }
-    sums_ok(leaves, sums)
+    leaves_ok(leaves) && sums_ok(leaves, sums)
 }
 
 // Sums added in pairs, pairs of pairs and so on, from one number up to another. `size` is the number of sums that such a

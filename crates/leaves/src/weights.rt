@@ -6,9 +6,8 @@ ghost use Rattle.leaves.specs.Weighted.{weight_total, weights_ok, weighted_table
 ghost use Rattle.leaves.specs.Means.{WeightedWritable};
 
 use encoding::bytes::write_u64;
-use leaf_shares::counts::wide;
 use leaf_shares::shares::cut;
-use leaf_shares::table::put_rank;
+use leaf_shares::table::{Walk, put_rank};
 
 // W.
 fn total(weights: &[u32]) -> u64
@@ -16,10 +15,8 @@ fn total(weights: &[u32]) -> u64
     ensures { result ≡ weight_total weights.now }
 {
     let mut w: u64 = 0;
-    let mut p = 0;
-    while p < weights.len() {
-        w += wide(weights[p]);
-        p += 1;
+    for &x in weights {
+        w += x as u64;
     }
     w
 }
@@ -28,35 +25,28 @@ pub fn weights_ok(weights: &[u32]) -> bool
     requires { rank_count_ok (length weights.now) ≡ true }
     ensures { result ≡ weights_ok weights.now }
 {
-    let mut p = 0;
-    while p < weights.len() {
-        if 65535 < weights[p] {
+    for &x in weights {
+        if 65535 < x {
             return false;
         }
-        p += 1;
     }
     0 < total(weights)
 }
 
-// The table of unequal shares of the n leaves, at the start of `out`. v is the sum of the weights so far.
+// The table of unequal shares of the n leaves, at the start of `out`. v is the sum of the weights so far. It stands beside leaf_shares::table::write: the bounds come from a running sum here, and one function for both would need a closure with a contract.
 pub fn write(weights: &[u32], leaves: &[u32], n: u64, out: &mut [u8])
     requires { WeightedWritable weights.now leaves.now n out.old }
     ensures { out.new ≡ splice out.old 0 (weighted_table weights.now leaves.now) }
 {
     let w = total(weights);
-    let mut tree: usize = 0;
-    let mut start: u64 = 0;
+    let mut at = Walk { tree: 0, start: 0 };
     let mut v: u64 = 0;
     let mut lo: u64 = 0;
-    let mut p: usize = 0;
-    while p < weights.len() {
-        v += wide(weights[p]);
+    for (p, &x) in weights.iter().enumerate() {
+        v += x as u64;
         let hi = cut(n, v, w);
-        let at = put_rank(leaves, tree, start, lo, hi, p, &mut *out);
-        tree = at.tree;
-        start = at.start;
+        at = put_rank(leaves, at, lo, hi, p, &mut *out);
         lo = hi;
-        p += 1;
     }
     write_u64(&mut *out, 8 * weights.len(), leaves.len() as u64);
 }

@@ -1,8 +1,16 @@
 -- Means, no part of what is promised: the code that checks ranges and writes their table goes rank by rank and carries `end`, one past the last tree on the ranks below.
-use Rattle.std.specs.Prelude.{ℕ, ◌+◌, ◌-◌, ◌^◌, Bool, cond, ◌&&◌, ◌||◌, ltb, eqb}
+use Rattle.std.specs.Prelude.{ℕ, ◌+◌, ◌-◌, ◌^◌, Bool, cond, ◌&&◌, ◌||◌, List, leb, ltb, eqb, length}
 use Rattle.encoding.specs.Below.{all_below}
-use Rattle.offsets.specs.Limits.{tree_count_ok}
+use Rattle.offsets.specs.Limits.{rank_count_ok, tree_count_ok}
+use Rattle.offsets.specs.Table.{table_length}
 use Rattle.offsets_write.specs.Partition.{end_below}
+
+-- the checks that every call makes that writes a table, each alone
+abbrev pub ranks_refusal : ℕ → ℕ
+ranks_refusal P = cond (rank_count_ok P) 0 2
+
+abbrev pub room_refusal : ℕ → List ℕ → ℕ
+room_refusal P out = cond (leb (table_length P) (length out)) 0 22
 
 -- a rank is empty, or begins at the end, or one tree before it
 unfoldable pub range_fits : ℕ → ℕ → ℕ → Bool

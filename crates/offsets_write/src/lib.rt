@@ -2,44 +2,33 @@
 #![tactic(auto)]
 
 ghost use Rattle.std.specs.Prelude.{◌≡◌};
+ghost use Rattle.encoding.specs.Refusals.{length_of};
 ghost use Rattle.offsets_write.specs.Calls.{table_length_answer, write_table};
 
-use encoding::answer::{Length, refused};
-use offsets::table::rank_count_ok;
+use encoding::refusal::Refusal;
 
 mod ranges;
+pub mod room;
 
 // How long the table of so many ranks is (2).
-pub fn table_length(ranks: u32) -> Length
-    ensures { result ≡ table_length_answer ranks }
+pub fn table_length(ranks: u32) -> Result<u64, Refusal>
+    ensures { length_of result ≡ table_length_answer ranks }
 {
-    if !rank_count_ok(ranks as usize) {
-        return refused(2);
-    }
-    Length {
-        refusal: 0,
-        length: 8 * (ranks as u64 + 1),
-    }
+    let p = ranks as usize;
+    room::check_ranks(p)?;
+    Ok(room::length(p) as u64)
 }
 
 // Write the table of a partition: a first tree and a count for each rank (2, 6, 22). The first of a rank with count 0 isn't read.
-pub fn write_table(ranks: u32, first: &[u32], count: &[u32], out: &mut [u8]) -> Length
-    ensures { (result, out.new) ≡ write_table ranks first.now count.now out.old }
+pub fn write_table(ranks: u32, first: &[u32], count: &[u32], out: &mut [u8]) -> Result<u64, Refusal>
+    ensures { (length_of result, out.new) ≡ write_table ranks first.now count.now out.old }
 {
     let p = ranks as usize;
-    if !rank_count_ok(p) {
-        return refused(2);
-    }
+    room::check_ranks(p)?;
     if !ranges::partition_ok(p, first, count) {
-        return refused(6);
+        return Err(Refusal::Partition);
     }
-    let n = 8 * (p + 1);
-    if out.len() < n {
-        return refused(22);
-    }
-    ranges::write(p, first, count, out);
-    Length {
-        refusal: 0,
-        length: n as u64,
-    }
+    let n = room::check_room(p, out)?;
+    ranges::write(first, count, out);
+    Ok(n)
 }

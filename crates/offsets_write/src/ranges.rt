@@ -22,9 +22,10 @@ fn next_end(end: u64, first: u32, count: u32) -> u64
     ensures { result ≡ next_end end first count }
 {
     if 0 < count {
-        return first as u64 + count as u64;
+        first as u64 + count as u64
+    } else {
+        end
     }
-    end
 }
 
 // The entry of a rank: `end`, negative where the rank begins before it.
@@ -33,26 +34,23 @@ fn entry_of(end: u64, first: u32, count: u32) -> u64
 {
     let f = first as u64;
     if (0 < count) & (f < end) {
-        return 18446744073709551615 - end + 1;
+        u64::MAX - end + 1
+    } else {
+        end
     }
-    end
 }
 
 // Whether the ranges are a valid partition of a number of trees within its limits.
-fn ranges_fit(ranks: usize, first: &[u32], count: &[u32]) -> bool
-    requires { (length first.now ≡ ranks) × (length count.now ≡ ranks) }
-    ensures { result ≡ ranges_fit (each first.now) (each count.now) ranks }
+fn ranges_fit(first: &[u32], count: &[u32]) -> bool
+    requires { length count.now ≡ length first.now }
+    ensures { result ≡ ranges_fit (each first.now) (each count.now) (length first.now) }
 {
     let mut end: u64 = 0;
-    let mut p: usize = 0;
-    while p < ranks {
-        let f = first[p];
-        let n = count[p];
+    for (&f, &n) in first.iter().zip(count) {
         if !range_fits(end, f, n) {
             return false;
         }
         end = next_end(end, f, n);
-        p += 1;
     }
     tree_count_ok(end)
 }
@@ -61,28 +59,23 @@ fn ranges_fit(ranks: usize, first: &[u32], count: &[u32]) -> bool
 pub fn partition_ok(ranks: usize, first: &[u32], count: &[u32]) -> bool
     ensures { result ≡ partition_ok ranks first.now count.now }
 {
-    if first.len() != ranks {
+    if first.len() != ranks || count.len() != ranks {
         return false;
     }
-    if count.len() != ranks {
-        return false;
-    }
-    ranges_fit(ranks, first, count)
+    ranges_fit(first, count)
 }
 
 // The table of the ranges, at the start of `out`.
-pub fn write(ranks: usize, first: &[u32], count: &[u32], out: &mut [u8])
-    requires { (length first.now ≡ ranks) × ((length count.now ≡ ranks) × (table_length ranks ≤ length out.old)) }
-    ensures { out.new ≡ splice out.old 0 (table_of (each first.now) (each count.now) ranks) }
+pub fn write(first: &[u32], count: &[u32], out: &mut [u8])
+    requires { (length count.now ≡ length first.now) × (table_length (length first.now) ≤ length out.old) }
+    ensures { out.new ≡ splice out.old 0 (table_of (each first.now) (each count.now) (length first.now)) }
 {
     let mut end: u64 = 0;
-    let mut p: usize = 0;
-    while p < ranks {
+    for p in 0..first.len() {
         let f = first[p];
         let n = count[p];
         write_u64(&mut *out, 8 * p, entry_of(end, f, n));
         end = next_end(end, f, n);
-        p += 1;
     }
-    write_u64(&mut *out, 8 * ranks, end);
+    write_u64(&mut *out, 8 * first.len(), end);
 }

@@ -15,13 +15,13 @@ use Rattle.encoding.specs.Answer.{written}
 use Rattle.encoding.specs.Pieces.{Bytes, splice}
 use Rattle.encoding.specs.Refusal.{Check, check, first_failed}
 use Rattle.encoding.proofs.Below.{and_fst, and_snd, count_le, kept_found, kept_length}
-use Rattle.encoding.proofs.Pieces.{splice_take}
+use Rattle.encoding.proofs.Pieces.{splice_take, length_splice}
 use Rattle.offsets.specs.Calls.{range_refused, range_answer}
 use Rattle.offsets.specs.Table.{ranks, ranks_ok, valid, trees}
 use Rattle.offsets.proofs.OnePass.{ranks_known}
 use Rattle.pattern.specs.declared.Ranks.{Ranks}
-use Rattle.pattern.specs.declared.Sender.{Sender}
-use Rattle.pattern.specs.declared.Sender.TheVariants.{Rank}
+use Rattle.std.specs.declared.option.Option.{Option}
+use Rattle.std.specs.Prelude.{Some, None}
 use Rattle.pattern.specs.Calls.{table_checks, sender_refusal, sender_of, sent_refusal, trees_sent, set_refusal, set_answer, ranks_answer, send_set_of, receive_set_of}
 use Rattle.pattern.specs.Means.{TreeTo, RankOf, SmallNumbers, exchanges_tree, rank_set, rank_set_of, sender_fits, sender_refused, ranks_refused}
 use Rattle.pattern.specs.Sender.{Tables, sender_to, sender_number, sent_first, sent_count}
@@ -30,7 +30,7 @@ use Rattle.pattern.specs.Sets.{send_set, receive_set, smallest, largest}
 -- ---- numbers of answers
 
 -- a rank that fits
-pub rank_fits : (s : Sender) (p : ℕ) → sender_fits s ≡ true → s ≡ Rank p → p < 2 ^ 31
+pub rank_fits : (s : Option ℕ) (p : ℕ) → sender_fits s ≡ true → s ≡ Some p → p < 2 ^ 31
 unfolding sender_fits
 rank_fits s p h e = ltb-true p (2 ^ 31) (sym (ap sender_fits e) ∙ h)
 
@@ -58,6 +58,10 @@ module _ (set : List ℕ) (n : ℕ) (c : n ≡ length set) (out after : List ℕ
   -- as long, and as small, as the set
   pub back_length : n ≡ length (take n after)
   back_length = rw set_back c
+
+  -- the list is as long as before
+  pub list_fits : n ≤ length after
+  list_fits = omega (arith, ap length e, length_splice out 0 set (omega arith))
 
   pub back_small : SmallNumbers set → SmallNumbers (take n after)
   back_small f = rw set_back f
@@ -155,7 +159,7 @@ module _ (old new : List ℕ) (r : ℕ) (e : r ≡ first_failed (table_checks ol
         pub receiver_past : P ≤ q → sender_refused 5 ≡ sender_of old new k q
         receiver_past h = sym (sender_is 5 (sender-checked ∙ rw (← d, le-ltb q P h, and-false)))
 
-        pub sender_found : k < K → q < P → (s : Sender) (n : ℤ) → s ≡ sender_to old new k q → n ≡ sender_number s → record { refusal = 0; sender = n } ≡ sender_of old new k q
+        pub sender_found : k < K → q < P → (s : Option ℕ) (n : ℤ) → s ≡ sender_to old new k q → n ≡ sender_number s → record { refusal = 0; sender = n } ≡ sender_of old new k q
         sender_found h l s n e₁ e₂ = rw (e₂, e₁) (sym (sender_is 0 (sender-checked ∙ rw (← d, lt-ltb k K h, lt-ltb q P l))))
 
   -- ---- the trees from p to q

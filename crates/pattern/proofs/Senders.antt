@@ -14,7 +14,7 @@ use Rattle.encoding.proofs.Below.{tests, either, clash, and_fst, and_snd, and_in
 use Rattle.encoding.proofs.Pieces.{piece_past}
 use Rattle.offsets.specs.Table.{ranks, ranks_ok, valid, trees, entry, negative, magnitude, first_tree, end_tree, holds}
 use Rattle.offsets.proofs.Tables.{size, ranks_low, trees_high, zero_first, plain_magnitude, small_plain, plain_first, shared_first, end_next, end_trees, rises, last_end}
-use Rattle.pattern.specs.declared.Sender.TheVariants.{Rank, Nobody}
+use Rattle.std.specs.Prelude.{Some, None}
 use Rattle.pattern.specs.Sender.{Tables, distance, nearest, sender, sender_to, sends, sent_count, sent_first}
 use Rattle.pattern.specs.Means.{has_trees, lower_rank, above_with_trees, upper_rank, sent_low, sent_high}
 use Rattle.pattern.proofs.Counting.{range_true, range_in, count_span, least_span}
@@ -232,11 +232,11 @@ module _ (old new : List ℕ) (T : Tables old new) where
   sender_self k q e = sender_is old k q q (holds_rank old T.old_bytes T.old_ranks T.old_valid q k e) e (λ r l h. omega arith) (λ r l u h. omega arith)
 
   -- there is a sender exactly for the trees of the new range
-  pub sender_defined : (k q : ℕ) → holds new q k ≡ true → sender_to old new k q ≡ Rank (sender old k q)
+  pub sender_defined : (k q : ℕ) → holds new q k ≡ true → sender_to old new k q ≡ Some (sender old k q)
   unfolding sender_to
   sender_defined k q e = rw e
 
-  pub sender_nobody : (k q : ℕ) → holds new q k ≡ false → sender_to old new k q ≡ Nobody
+  pub sender_nobody : (k q : ℕ) → holds new q k ≡ false → sender_to old new k q ≡ None
   unfolding sender_to
   sender_nobody k q e = rw e
 

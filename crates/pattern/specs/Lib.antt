@@ -3,3 +3,4 @@ pub mod Sender
 pub mod Sets
 pub mod Calls
 pub mod Means
+pub mod Answers

@@ -1,12 +1,13 @@
 -- Means, no part of what is promised: what inner functions require, and values that follow the code. Each is proved equal to what the public definitions say.
-use Rattle.std.specs.Prelude.{ℕ, zero, suc, ◌+◌, ◌-◌, ◌^◌, ◌≤◌, ◌<◌, min, max, ◌≡◌, Bool, true, false, cond, ◌&&◌, List, leb, ltb, pos, length, get_or}
+use Rattle.std.specs.Prelude.{ℕ, zero, suc, ◌+◌, ◌-◌, ◌^◌, ◌≤◌, ◌<◌, min, max, ◌≡◌, Bool, true, false, cond, ◌&&◌, List, leb, ltb, pos, length, get_or, take, Some, None, Ok, Err, ⊤}
 use Rattle.encoding.specs.Below.{kept_below, least_below}
 use Rattle.encoding.specs.Pieces.{Bytes, splice}
 use Rattle.offsets.specs.Limits.{max_ranks}
 use Rattle.offsets.specs.Table.{ranks, ranks_ok, valid, trees, entry, magnitude, first_tree, end_tree, holds}
 use Rattle.pattern.specs.declared.Ranks.{Ranks}
-use Rattle.pattern.specs.declared.Sender.{Sender}
-use Rattle.pattern.specs.declared.Sender.TheVariants.{Rank, Nobody}
+use Rattle.std.specs.declared.option.Option.{Option}
+use Rattle.std.specs.declared.result.Result.{Result}
+use Rattle.encoding.specs.declared.refusal.Refusal.{Refusal}
 use Rattle.pattern.specs.declared.SenderAnswer.{SenderAnswer}
 use Rattle.pattern.specs.Calls.{set_refusal, set_answer}
 use Rattle.pattern.specs.Sender.{Tables}
@@ -142,11 +143,20 @@ abbrev pub ranks_refused : ℕ → Ranks
 ranks_refused refusal = record { refusal = refusal; count = 0; smallest = pos 0; largest = pos 0 }
 
 -- a sender whose number fits 32 bits with a sign
-unfoldable pub sender_fits : Sender → Bool
-sender_fits (Rank p) = ltb p (2 ^ 31)
-sender_fits Nobody = true
+unfoldable pub sender_fits : Option ℕ → Bool
+sender_fits (Some p) = ltb p (2 ^ 31)
+sender_fits None = true
+
+abbrev pub SenderFits : Result (Option ℕ) Refusal → Type 0
+SenderFits (Ok s) = sender_fits s ≡ true
+SenderFits (Err e) = ⊤
 
 -- a list whose length and numbers fit 32 bits with a sign
 pub record SmallNumbers (set : List ℕ) : Type 0 where
   pub few : length set < 2 ^ 31
   pub small : (i : ℕ) → i < length set → get_or set i 0 < 2 ^ 31
+
+-- a set whose ranks are the first n of a list
+abbrev pub SetFits : Result ℕ Refusal → List ℕ → Type 0
+SetFits (Ok n) list = (n ≤ length list) × SmallNumbers (take n list)
+SetFits (Err e) list = ⊤

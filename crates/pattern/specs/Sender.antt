@@ -1,10 +1,9 @@
 -- f is the partition of the old table, f' that of the new one: who sends tree k to rank q, by the rule of document 02, C-21, in the place of document 01's smallest rank.
-use Rattle.std.specs.Prelude.{ℕ, ◌+◌, ◌-◌, ◌≡◌, Bool, true, cond, not, ◌&&◌, ◌||◌, List, leb, eqb, ℤ, pos, negsuc}
+use Rattle.std.specs.Prelude.{ℕ, ◌+◌, ◌-◌, ◌≡◌, Bool, true, cond, not, ◌&&◌, ◌||◌, List, leb, eqb, ℤ, pos, negsuc, Some, None}
 use Rattle.encoding.specs.Below.{all_below, least_below, count_below}
 use Rattle.encoding.specs.Pieces.{Bytes}
 use Rattle.offsets.specs.Table.{ranks, ranks_ok, valid, trees, holds}
-use Rattle.pattern.specs.declared.Sender.{Sender}
-use Rattle.pattern.specs.declared.Sender.TheVariants.{Rank, Nobody}
+use Rattle.std.specs.declared.option.Option.{Option}
 
 -- an old and a new table, both valid, that agree in P and K: what the theorems are about
 pub record Tables (old new : List ℕ) : Type 0 where
@@ -29,14 +28,14 @@ nearest old k q p = holds old p k && all_below (ranks old) (λ r. not (holds old
 unfoldable pub sender : List ℕ → ℕ → ℕ → ℕ
 sender old k q = least_below (ranks old) (nearest old k q)
 
--- the same where k may not be in f'(q)
-unfoldable pub sender_to : List ℕ → List ℕ → ℕ → ℕ → Sender
-sender_to old new k q = cond (holds new q k) (Rank (sender old k q)) Nobody
+-- the same where k may not be in f'(q): then nobody
+unfoldable pub sender_to : List ℕ → List ℕ → ℕ → ℕ → Option ℕ
+sender_to old new k q = cond (holds new q k) (Some (sender old k q)) None
 
 -- the number that an answer gives: the rank, or −1
-unfoldable pub sender_number : Sender → ℤ
-sender_number (Rank p) = pos p
-sender_number Nobody = negsuc 0
+unfoldable pub sender_number : Option ℕ → ℤ
+sender_number (Some p) = pos p
+sender_number None = negsuc 0
 
 -- p sends tree k to q
 unfoldable pub sends : List ℕ → List ℕ → ℕ → ℕ → ℕ → Bool

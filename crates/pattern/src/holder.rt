@@ -2,10 +2,12 @@
 ghost use Rattle.std.specs.Prelude.{◌≡◌, true, ◌<◌};
 ghost use Rattle.offsets.specs.Limits.{max_ranks};
 ghost use Rattle.offsets.specs.Table.{ranks as ranks_of};
-ghost use Rattle.pattern.specs.Means.{TreeOf, TreeTo, held_below, held_above, sender_fits, sender_refused};
+ghost use Rattle.pattern.specs.Means.{TreeOf, TreeTo, held_below, held_above, sender_fits, SenderFits};
 ghost use Rattle.pattern.specs.Sender.{sender as sender_is, sender_to, sender_number};
+ghost use Rattle.pattern.specs.Answers.{sender_answer};
 
-use crate::{Sender, SenderAnswer};
+use crate::SenderAnswer;
+use encoding::refusal::Refusal;
 use offsets::table::{holds, ranks};
 
 // Whether the rank d below q, if there is one, has tree k.
@@ -37,43 +39,52 @@ pub fn sender(old: &[u8], k: u64, q: usize) -> usize
     ensures { (result ≡ sender_is old.now k q) × (result < max_ranks) }
 {
     let end = ranks(old);
-    let mut d = 0;
-    while d < end {
+    for d in 0..end {
         if holds_below(old, k, q, d) {
             return q - d;
         }
         if holds_above(old, k, q, d) {
             return q + d;
         }
-        d += 1;
     }
     0
 }
 
-// The same where q may not get k.
-pub fn sender_to(old: &[u8], new: &[u8], k: u64, q: usize) -> Sender
+// The same where q may not get k: then None.
+pub fn sender_to(old: &[u8], new: &[u8], k: u64, q: usize) -> Option<u32>
     requires { TreeTo old.now new.now k q }
     ensures { (result ≡ sender_to old.now new.now k q) × (sender_fits result ≡ true) }
 {
     if holds(new, q, k) {
-        return Sender::Rank(sender(old, k, q) as u32);
+        return Some(sender(old, k, q) as u32);
     }
-    Sender::Nobody
+    None
 }
 
-// The number of a sender in an answer: the rank, or −1.
-pub fn sender_number(s: Sender) -> i32
-    requires { sender_fits s ≡ true }
-    ensures { result ≡ sender_number s }
+// The number of a sender: the rank, or −1.
+fn sender_number(sender: Option<u32>) -> i32
+    requires { sender_fits sender ≡ true }
+    ensures { result ≡ sender_number sender }
 {
-    match s {
-        Sender::Rank(p) => p as i32,
-        Sender::Nobody => -1,
+    match sender {
+        Some(p) => p as i32,
+        None => -1,
     }
 }
 
-pub fn sender_refused(refusal: u32) -> SenderAnswer
-    ensures { result ≡ sender_refused refusal }
+// A sender as C gets it. No `From`: its cast needs a fact that a `From` can't ask for.
+pub fn sender_answer(answer: Result<Option<u32>, Refusal>) -> SenderAnswer
+    requires { SenderFits answer }
+    ensures { result ≡ sender_answer answer }
 {
-    SenderAnswer { refusal, sender: 0 }
+    match answer {
+        Ok(sender) => SenderAnswer {
+            refusal: 0,
+            sender: sender_number(sender),
+        },
+        Err(refusal) => SenderAnswer {
+            refusal: refusal.number(),
+            sender: 0,
+        },
+    }
 }

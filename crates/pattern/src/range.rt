@@ -6,25 +6,8 @@ ghost use Rattle.pattern.specs.Means.{PairOf, PairNear, has_trees, lower_rank, u
 ghost use Rattle.pattern.specs.Sender.{sent_first, sent_count};
 ghost use Rattle.pattern.specs.Sets.{sends_to};
 
+use offsets::Trees;
 use offsets::table::{end_tree, entry, first_tree, magnitude, ranks};
-
-fn larger(a: u64, b: u64) -> u64
-    ensures { result ≡ max a b }
-{
-    if a < b {
-        return b;
-    }
-    a
-}
-
-fn smaller(a: u64, b: u64) -> u64
-    ensures { result ≡ min a b }
-{
-    if a < b {
-        return a;
-    }
-    b
-}
 
 fn has_trees(t: &[u8], p: usize) -> bool
     requires { table_length (p + 1) ≤ length t.now }
@@ -38,9 +21,7 @@ pub fn lower_rank(t: &[u8], p: usize) -> usize
     requires { (ranks_ok t.now ≡ true) × (p < ranks_of t.now) }
     ensures { (result ≡ lower_rank t.now p) × (result < max_ranks) }
 {
-    let mut m = p;
-    while 0 < m {
-        m -= 1;
+    for m in (0..p).rev() {
         if has_trees(t, m) {
             return m;
         }
@@ -54,12 +35,10 @@ pub fn upper_rank(t: &[u8], p: usize) -> usize
     ensures { (result ≡ upper_rank t.now p) × (result ≤ max_ranks) }
 {
     let end = ranks(t);
-    let mut n = p + 1;
-    while n < end {
+    for n in p + 1..end {
         if has_trees(t, n) {
             return n;
         }
-        n += 1;
     }
     end
 }
@@ -69,9 +48,9 @@ fn sent_low(old: &[u8], new: &[u8], p: usize, q: usize, lower: usize) -> u64
     requires { PairOf old.now new.now p q × (lower ≡ lower_rank old.now p) }
     ensures { result ≡ sent_low old.now new.now p q }
 {
-    let first = larger(first_tree(old, p), first_tree(new, q));
+    let first = first_tree(old, p).max(first_tree(new, q));
     if q + q <= lower + p {
-        return larger(magnitude(entry(old, p)), first);
+        return magnitude(entry(old, p)).max(first);
     }
     first
 }
@@ -81,49 +60,35 @@ fn sent_high(old: &[u8], new: &[u8], p: usize, q: usize, upper: usize) -> u64
     requires { PairOf old.now new.now p q × (upper ≡ upper_rank old.now p) }
     ensures { result ≡ sent_high old.now new.now p q }
 {
-    let end = smaller(end_tree(old, p), end_tree(new, q));
+    let end = end_tree(old, p).min(end_tree(new, q));
     if upper + p < q + q {
-        return smaller(first_tree(old, upper), end);
+        return first_tree(old, upper).min(end);
     }
     end
 }
 
-// The trees from one rank to another: the first, 0 where there are none, and how many.
-#[derive(Clone, Copy)]
-pub struct SentRange {
-    pub first: u32,
-    pub count: u32,
-}
-
-// The same, with the ranks that have trees on either side of p.
-pub fn sent_near(
-    old: &[u8],
-    new: &[u8],
-    p: usize,
-    q: usize,
-    lower: usize,
-    upper: usize,
-) -> SentRange
+// The trees from one rank to another, the first 0 where there are none, with the ranks that have trees on either side of p.
+pub fn sent_near(old: &[u8], new: &[u8], p: usize, q: usize, lower: usize, upper: usize) -> Trees
     requires { PairNear old.now new.now p q lower upper }
     ensures { (result.first ≡ sent_first old.now new.now p q) × (result.count ≡ sent_count old.now new.now p q) }
 {
     let low = sent_low(old, new, p, q, lower);
     let high = sent_high(old, new, p, q, upper);
     if high <= low {
-        return SentRange { first: 0, count: 0 };
+        return Trees { first: 0, count: 0 };
     }
-    SentRange {
+    Trees {
         first: low as u32,
         count: (high - low) as u32,
     }
 }
 
-pub fn sent(old: &[u8], new: &[u8], p: usize, q: usize) -> SentRange
+pub fn sent(old: &[u8], new: &[u8], p: usize, q: usize) -> Trees
     requires { PairOf old.now new.now p q }
     ensures { (result.first ≡ sent_first old.now new.now p q) × (result.count ≡ sent_count old.now new.now p q) }
 {
     if !has_trees(old, p) {
-        return SentRange { first: 0, count: 0 };
+        return Trees { first: 0, count: 0 };
     }
     sent_near(old, new, p, q, lower_rank(old, p), upper_rank(old, p))
 }

@@ -2,15 +2,17 @@
 ghost use Rattle.std.specs.Prelude.{◌≡◌, ◌≤◌, ltb, length};
 ghost use Rattle.offsets.specs.Limits.{max_ranks};
 ghost use Rattle.pattern.specs.Calls.{ranks_answer};
-ghost use Rattle.pattern.specs.Means.{RankOf, PairNear, SetWritten, SmallNumbers, exchanges_tree, rank_set, ranks_refused, rank_set_of};
+ghost use Rattle.pattern.specs.Answers.{ranks_of};
+ghost use Rattle.pattern.specs.Means.{RankOf, PairNear, SetWritten, SetFits, SmallNumbers, exchanges_tree, rank_set, rank_set_of};
 
 use crate::Ranks;
 use crate::range::{lower_rank, sends_near, sends_some, upper_rank};
-use crate::tables::tables_refusal;
+use crate::tables::check_tables;
 use crate::window::window_of;
+use encoding::refusal::Refusal;
 use offsets::table::ranks;
 
-// Whether the rank, with the ranks that have trees on either side of it, sends the other a tree; where it isn't sending, whether it gets one from the other.
+// Whether the rank, with the ranks that have trees on either side of it, sends the other a tree; where it isn't sending, whether it gets one from the other. A flag and no closure: it picks one of two calls in one loop, and a closure would need a clause that ties its answers to the set.
 fn exchanges(
     old: &[u8],
     new: &[u8],
@@ -39,16 +41,12 @@ fn set_write(old: &[u8], new: &[u8], rank: usize, sending: bool, out: &mut [u32]
     let lower = lower_rank(old, rank);
     let upper = upper_rank(old, rank);
     let mut count = 0;
-    let mut other = window.first;
-    while other < end {
-        let here = exchanges(old, new, rank, other, sending, lower, upper);
-        let number = other as u32;
-        other += 1;
-        if here {
+    for other in window.first..end {
+        if exchanges(old, new, rank, other, sending, lower, upper) {
             let place = count;
             count += 1;
             if place < out.len() {
-                out[place] = number;
+                out[place] = other as u32;
             }
         }
     }
@@ -75,17 +73,6 @@ fn too_short(old: &[u8], new: &[u8], rank: usize, sending: bool, room: usize) ->
     room < set_count(old, new, rank, sending)
 }
 
-fn ranks_refused(refusal: u32) -> Ranks
-    ensures { result ≡ ranks_refused refusal }
-{
-    Ranks {
-        refusal,
-        count: 0,
-        smallest: 0,
-        largest: 0,
-    }
-}
-
 // The answer for a set of ranks: −1 and −2 where it is empty.
 fn ranks_found(set: &[u32]) -> Ranks
     requires { SmallNumbers set.now }
@@ -108,21 +95,40 @@ fn ranks_found(set: &[u32]) -> Ranks
     }
 }
 
-// The send set, or the receive set, of a rank (2, 3, 4, 5, 22).
-pub fn rank_set(old: &[u8], new: &[u8], rank: u32, sending: bool, out: &mut [u32]) -> Ranks
-    ensures { (result, out.new) ≡ rank_set_of old.now new.now rank sending out.old }
+// A set as C gets it, which is the first numbers of the list: −1 and −2 where it is empty. No `From`, as for a sender.
+pub fn ranks_answer(answer: Result<u32, Refusal>, list: &[u32]) -> Ranks
+    requires { SetFits answer list.now }
+    ensures { result ≡ ranks_of answer list.now }
 {
-    let refusal = tables_refusal(old, new);
-    if refusal != 0 {
-        return ranks_refused(refusal);
+    match answer {
+        Ok(count) => ranks_found(&list[..count as usize]),
+        Err(refusal) => Ranks {
+            refusal: refusal.number(),
+            count: 0,
+            smallest: 0,
+            largest: 0,
+        },
     }
+}
+
+// The send set, or the receive set, of a rank: how many ranks (2, 3, 4, 5, 22).
+pub fn rank_set(
+    old: &[u8],
+    new: &[u8],
+    rank: u32,
+    sending: bool,
+    out: &mut [u32],
+) -> Result<u32, Refusal>
+    ensures { ((ranks_of result out.new, out.new) ≡ rank_set_of old.now new.now rank sending out.old) × SetFits result out.new }
+{
+    check_tables(old, new)?;
     let p = rank as usize;
     if ranks(old) <= p {
-        return ranks_refused(5);
+        return Err(Refusal::Index);
     }
     if too_short(old, new, p, sending, out.len()) {
-        return ranks_refused(22);
+        return Err(Refusal::Buffer);
     }
     let count = set_write(old, new, p, sending, &mut *out);
-    ranks_found(&out[..count])
+    Ok(count as u32)
 }

@@ -1,9 +1,11 @@
 // The check of two tables.
 ghost use Rattle.std.specs.Prelude.{◌≡◌, true, ◌&&◌, eqb};
 ghost use Rattle.encoding.specs.Refusal.{first_failed};
+ghost use Rattle.encoding.specs.Refusals.{refusal_of};
 ghost use Rattle.offsets.specs.Table.{ranks_ok, ranks as ranks_of, valid as is_valid, trees as trees_of};
 ghost use Rattle.pattern.specs.Calls.{table_checks};
 
+use encoding::refusal::Refusal;
 use offsets::table::{ranks, ranks_ok, trees, valid};
 
 fn both_ranks_ok(old: &[u8], new: &[u8]) -> bool
@@ -27,18 +29,18 @@ fn agree(old: &[u8], new: &[u8]) -> bool
     (ranks(old) == ranks(new)) & (trees(old) == trees(new))
 }
 
-// Check two tables (2, 3, 4): 0 or the refusal.
-pub fn tables_refusal(old: &[u8], new: &[u8]) -> u32
-    ensures { result ≡ first_failed (table_checks old.now new.now) }
+// Check two tables (2, 3, 4).
+pub fn check_tables(old: &[u8], new: &[u8]) -> Result<(), Refusal>
+    ensures { refusal_of result ≡ first_failed (table_checks old.now new.now) }
 {
     if !both_ranks_ok(old, new) {
-        return 2;
+        return Err(Refusal::Ranks);
     }
     if !both_valid(old, new) {
-        return 3;
+        return Err(Refusal::Table);
     }
     if !agree(old, new) {
-        return 4;
+        return Err(Refusal::Differ);
     }
-    0
+    Ok(())
 }

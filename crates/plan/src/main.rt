@@ -3,7 +3,6 @@
 
 ghost use Rattle.std.specs.Prelude.{◌≡◌, ◌≤◌, length, IfOk};
 
-use encoding::answer::Length;
 use std::io;
 use std::io::{Read, Write};
 
@@ -21,11 +20,13 @@ fn output_buffer() -> [u8; 131072]
     [0; 131072]
 }
 
-// Reads until the buffer is full or the input ends, and answers how many bytes it put at the buffer's beginning.
+// Reads until the buffer is full or the input ends, and answers how many bytes it put at the buffer's beginning. `examples` has it too:
+// no crate below both reads input.
 fn read_full(reader: &mut impl Read, text: &mut [u8]) -> io::Result<usize>
     ensures { IfOk result (λ n. n ≤ length text.new) }
 {
     let mut done = 0;
+    // as much at a time as the reader gives
     while done < text.len() {
         let n = reader.read(&mut text[done..])?;
         if n == 0 {
@@ -36,13 +37,12 @@ fn read_full(reader: &mut impl Read, text: &mut [u8]) -> io::Result<usize>
     Ok(done)
 }
 
-// The whole output for a text, written to a writer.
+// The whole output for a text, written to a writer. It fits (`output_fits`), so something is always written.
 fn answer(text: &[u8], out: &mut [u8], writer: &mut impl Write) -> io::Result<()> {
-    let l: Length = plan_text::plan_output(text, out);
-    let n = l.length;
-    if n <= out.len() as u64 {
-        let end = n as usize;
-        writer.write_all(&out[..end])?;
+    if let Ok(length) = plan_text::plan_output(text, out) {
+        if let Some(output) = out.get(..length as usize) {
+            writer.write_all(output)?;
+        }
     }
     Ok(())
 }

@@ -61,18 +61,31 @@ word_read text at word rest e =
     all_intro (length word) (λ i. eqb (byte_at text (at + i)) (get_or word i 0))
     (λ i h. eq-eqb (byte_at text (at + i)) (get_or word i 0) (bytes_from text at (word ++ rest) e i ∙ get_or-append word rest 0 i h))
 
--- a word whose last byte isn't 0
-pub word_sound_lem : (text : List ℕ) (at : ℕ) (word : List ℕ) → 0 < get_or word (length word - 1) 0 → word_at text at word ≡ true
-    → drop at text ≡ word ++ drop (at + length word) text
-unfolding word_at piece
-word_sound_lem text at word h e =
+-- the bytes of a word whose last byte isn't 0
+pub word_piece : (text : List ℕ) (at : ℕ) (word : List ℕ) → 0 < get_or word (length word - 1) 0 → word_at text at word ≡ true
+    → (at + length word ≤ length text) × (piece text at (length word) ≡ word)
+unfolding word_at
+word_piece text at word h e =
     let same : (i : ℕ) → i < length word → byte_at text (at + i) ≡ get_or word i 0 =
     λ i l. eqb-true (byte_at text (at + i)) (get_or word i 0) (all_at (length word) (λ i. eqb (byte_at text (at + i)) (get_or word i 0)) e i l) in
     let some : length word - 1 < length word = byte_within word (length word - 1) h in
     let last : at + (length word - 1) < length text = byte_within text (at + (length word - 1)) (rw (same (length word - 1) some) h) in
     let l : length (piece text at (length word)) ≡ length word = piece_length text at (length word) (omega arith) in
-    let p : piece text at (length word) ≡ word =
-    ext_get_or 0 (piece text at (length word)) word l (λ i m. piece_at text at (length word) i (omega arith) ∙ same i (omega arith)) in
+    (omega arith, ext_get_or 0 (piece text at (length word)) word l (λ i m. piece_at text at (length word) i (omega arith) ∙ same i (omega arith)))
+
+-- a word that is the bytes from a place on stands there
+pub piece_word : (text : List ℕ) (at : ℕ) (word : List ℕ) → word ≡ piece text at (length word) → word_at text at word ≡ true
+unfolding word_at
+piece_word text at word e =
+    all_intro (length word) (λ i. eqb (byte_at text (at + i)) (get_or word i 0))
+    (λ i h. eq-eqb (byte_at text (at + i)) (get_or word i 0) (sym (piece_at text at (length word) i h) ∙ sym (ap (λ (l : List ℕ). get_or l i 0) e)))
+
+-- a word whose last byte isn't 0
+pub word_sound_lem : (text : List ℕ) (at : ℕ) (word : List ℕ) → 0 < get_or word (length word - 1) 0 → word_at text at word ≡ true
+    → drop at text ≡ word ++ drop (at + length word) text
+unfolding piece
+word_sound_lem text at word h e =
+    let p : piece text at (length word) ≡ word = (word_piece text at word h e).1 in
     join word (rw p at (sym (take-append-drop (length word) (drop at text)))) (drop-drop (length word) at text)
 
 -- ---- numbers

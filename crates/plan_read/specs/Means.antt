@@ -1,13 +1,13 @@
 -- Means, no part of what is promised: reading the input, so that each call's answer is one equation, and what the reader's functions hand on. A text is in form exactly where it is
 -- `Rendered`, and gives back what was rendered: `form-exact` and `parse-render` (proofs/Grammar.antt).
-use Rattle.std.specs.Prelude.{ℕ, zero, suc, ◌+◌, ◌-◌, ◌*◌, ◌/◌, ◌^◌, ◌≤◌, ◌≡◌, Bool, true, false, cond, not, ◌&&◌, ◌||◌, List, [], ◌∷◌, leb, ltb, eqb, length, get_or}
+use Rattle.std.specs.Prelude.{ℕ, zero, suc, ◌+◌, ◌-◌, ◌*◌, ◌/◌, ◌^◌, ◌≤◌, ◌≡◌, Bool, true, false, cond, not, ◌&&◌, ◌||◌, List, [], ◌∷◌, leb, ltb, eqb, length, get_or, Some, None}
+use Rattle.std.specs.declared.option.Option.{Option}
 use Rattle.encoding.specs.Below.{all_below, least_below}
 use Rattle.encoding.specs.Pieces.{piece, splice}
 use Rattle.encoding.specs.Numbers.{put_u64}
 use Rattle.offsets.specs.Table.{table_length, table_bytes}
 use Rattle.plan_read.specs.declared.number.Numeral.{Numeral}
 use Rattle.plan_read.specs.declared.input.Counted.{Counted}
-use Rattle.plan_read.specs.declared.input.Heading.{Heading}
 use Rattle.plan_read.specs.Text.{input_limit, ranks_word, old_word, new_word}
 
 -- ---- what a text says
@@ -111,9 +111,13 @@ parse text = record { ok = form_ok text; ranks = (read_ranks text).value; old = 
 
 -- ---- what the functions hand on
 
+-- a number, where it was read
+abbrev pub numeral_of : Number → Option Numeral
+numeral_of n = cond n.ok (Some (record { value = n.value; next = n.next })) None
+
 -- a number that was read
-abbrev pub numeral_of : Numeral → Number
-numeral_of n = record { ok = n.ok; value = n.value; next = n.next }
+abbrev pub number_of : Numeral → Number
+number_of n = record { ok = true; value = n.value; next = n.next }
 
 -- a count of digits that a number may have, where b is the first
 abbrev pub digit_count_ok : ℕ → ℕ → Bool
@@ -123,21 +127,18 @@ digit_count_ok n b = leb 1 n && leb n 8 && (eqb n 1 || not (eqb b 48))
 unfoldable pub stored : List ℕ → ℕ → ℕ → List ℕ
 stored t i v = cond (ltb i (length t / 8)) (put_u64 t (8 * i) v) t
 
--- the tests of the form, on what the three lines gave
-unfoldable pub form_tests : List ℕ → Numeral → Counted → Counted → Bool
-form_tests text ranks old new =
-    (word_at text 0 ranks_word && ranks.ok && eqb (byte_at text ranks.next) 10)
-    && (word_at text (ranks.next + 1) old_word && old.ok)
-    && (word_at text old.next new_word && new.ok)
-    && eqb new.next (length text)
-    && (eqb old.count (ranks.value + 1) && eqb new.count (ranks.value + 1))
+-- the place behind a word that stands at a place
+abbrev pub place_behind : List ℕ → ℕ → List ℕ → Option ℕ
+place_behind text at word = cond (word_at text at word) (Some (at + length word)) None
+
+-- a list, as it is counted
+abbrev pub counted_of : Entries → Option Counted
+counted_of es = cond es.ok (Some (record { count = length es.values; next = es.next })) None
 
 -- the list es of a text, as it is counted, and the table that it leaves where there is room for all its entries
-pub record ListRead (text : List ℕ) (es : Entries) (entry exit : List ℕ) (r : Counted) : Type 0 where
-  pub ok : r.ok ≡ es.ok
-  pub count : r.count ≡ length es.values
-  pub next : r.next ≡ es.next
-  pub within : r.next ≤ length text
+pub record ListRead (text : List ℕ) (es : Entries) (entry exit : List ℕ) (r : Option Counted) : Type 0 where
+  pub gives : r ≡ counted_of es
+  pub within : es.next ≤ length text
   pub filled : es.ok ≡ true → 8 * length es.values ≤ length entry → exit ≡ splice entry 0 (table_bytes es.values)
 
 -- a list at the start of a table that has room for P + 1 entries
@@ -145,8 +146,7 @@ abbrev pub Fills : ℕ → List ℕ → List ℕ → List ℕ → Type 0
 Fills P values entry exit = table_length P ≤ length entry → exit ≡ splice entry 0 (table_bytes values)
 
 -- what the whole input says, and the tables that it leaves
-pub record InputRead (text old_entry old_exit new_entry new_exit : List ℕ) (r : Heading) : Type 0 where
-  pub ok : r.ok ≡ form_ok text
-  pub ranks : r.ok ≡ true → r.ranks ≡ (parse text).ranks
-  pub old : r.ok ≡ true → Fills (parse text).ranks (parse text).old old_entry old_exit
-  pub new : r.ok ≡ true → Fills (parse text).ranks (parse text).new new_entry new_exit
+pub record InputRead (text old_entry old_exit new_entry new_exit : List ℕ) (r : Option ℕ) : Type 0 where
+  pub gives : r ≡ cond (form_ok text) (Some (parse text).ranks) None
+  pub old : form_ok text ≡ true → Fills (parse text).ranks (parse text).old old_entry old_exit
+  pub new : form_ok text ≡ true → Fills (parse text).ranks (parse text).new new_entry new_exit

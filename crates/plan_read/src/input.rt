@@ -1,37 +1,26 @@
 // The input's three lines, read into two tables.
-ghost use Rattle.std.specs.Prelude.{◌≡◌, ◌+◌, ◌<◌, ◌^◌, length};
-ghost use Rattle.plan_read.specs.Means.{read_list, word_at, stored, form_tests, ListRead, InputRead};
+ghost use Rattle.std.specs.Prelude.{◌≡◌, ◌≤◌, ◌<◌, ◌-◌, length, get_or};
+ghost use Rattle.plan_read.specs.Means.{read_list, stored, place_behind, ListRead, InputRead};
 
-use crate::number::{Numeral, byte_at, read_entry, read_number};
+use crate::number::{byte_at, read_entry, read_number};
 
 // A list that was read: how many entries it has, and the place behind its LF.
 #[derive(Clone, Copy)]
 struct Counted {
-    ok: bool,
     count: usize,
     next: usize,
 }
 
-// What the input says of P.
-#[derive(Clone, Copy)]
-pub struct Heading {
-    pub ok: bool,
-    pub ranks: u64,
-}
-
-// The word stands at the place.
-fn word_at(text: &[u8], at: usize, word: &[u8]) -> bool
-    requires { at + length word.now < 2 ^ 64 }
-    ensures { result ≡ word_at text.now at word.now }
+// The place behind a word that stands at a place. The last byte of the word isn't 0.
+fn behind(text: &[u8], at: usize, word: &[u8]) -> Option<usize>
+    requires { 0 < get_or word.now (length word.now - 1) 0 }
+    ensures { result ≡ place_behind text.now at word.now }
 {
-    let mut i = 0;
-    while i < word.len() {
-        if !(byte_at(text, at + i) == word[i]) {
-            return false;
-        }
-        i += 1;
+    if at <= text.len() && text[at..].starts_with(word) {
+        Some(at + word.len())
+    } else {
+        None
     }
-    true
 }
 
 // Entry i of a table, where there is room for it.
@@ -44,69 +33,47 @@ fn store(table: &mut [u8], i: usize, v: u64)
 }
 
 // A list of entries, with commas between them and LF behind the last. Entries for which the table has no room are counted.
-fn read_list(text: &[u8], at: usize, table: &mut [u8]) -> Counted
+fn read_list(text: &[u8], at: usize, table: &mut [u8]) -> Option<Counted>
     ensures { ListRead text.now (read_list (length text.now) text.now at) table.old table.new result }
 {
     let mut place = at;
     let mut count: usize = 0;
+    // number by number: where one ends is found on the way
     loop {
-        let n = read_entry(text, place);
-        if !n.ok {
-            return Counted {
-                ok: false,
-                count: 0,
-                next: 0,
-            };
-        }
+        let n = read_entry(text, place)?;
         store(&mut *table, count, n.value);
         count += 1;
         let b = byte_at(text, n.next);
-        if b == 10 {
-            return Counted {
-                ok: true,
-                count: count,
+        if b == b'\n' {
+            return Some(Counted {
+                count,
                 next: n.next + 1,
-            };
+            });
         }
-        if b != 44 {
-            return Counted {
-                ok: false,
-                count: 0,
-                next: 0,
-            };
+        if b != b',' {
+            return None;
         }
         place = n.next + 1;
     }
 }
 
-// The three lines, each with its word and LF, nothing behind them, and as many entries as ranks + 1.
-fn form_ok(text: &[u8], ranks: Numeral, old: Counted, new: Counted) -> bool
-    requires { (ranks.next < 2 ^ 32) × (ranks.value < 2 ^ 32) × (old.next < 2 ^ 32) }
-    ensures { result ≡ form_tests text.now ranks old new }
-{
-    let count = (ranks.value + 1) as usize;
-    (word_at(text, 0, b"ranks=") & ranks.ok & (byte_at(text, ranks.next) == 10))
-        & (word_at(text, ranks.next + 1, b"old=") & old.ok)
-        & (word_at(text, old.next, b"new=") & new.ok)
-        & (new.next == text.len())
-        & ((old.count == count) & (new.count == count))
-}
-
-// The whole input. Where it is in form and a table has room for all entries of its list, the table begins with them.
-pub fn read_input(text: &[u8], old: &mut [u8], new: &mut [u8]) -> Heading
+// P, where the whole input is in form: three lines, with as many entries as ranks + 1. A table then begins with the entries
+// of its list, if it has room for all.
+pub fn read_input(text: &[u8], old: &mut [u8], new: &mut [u8]) -> Option<u64>
     ensures { InputRead text.now old.old old.new new.old new.new result }
 {
     if 32768 < text.len() {
-        return Heading {
-            ok: false,
-            ranks: 0,
-        };
+        return None;
     }
-    let p = read_number(text, 6);
-    let o = read_list(text, p.next + 5, &mut *old);
-    let n = read_list(text, o.next + 4, &mut *new);
-    Heading {
-        ok: form_ok(text, p, o, n),
-        ranks: p.value,
+    let ranks_at = behind(text, 0, b"ranks=")?;
+    let ranks = read_number(text, ranks_at)?;
+    let old_at = behind(text, ranks.next, b"\nold=")?;
+    let old_list = read_list(text, old_at, &mut *old)?;
+    let new_at = behind(text, old_list.next, b"new=")?;
+    let new_list = read_list(text, new_at, &mut *new)?;
+    let count = (ranks.value + 1) as usize;
+    if new_list.next != text.len() || old_list.count != count || new_list.count != count {
+        return None;
     }
+    Some(ranks.value)
 }

@@ -1,5 +1,5 @@
 -- The output is that of the input, and the program has room for it.
-use Prim.Native.Nat.{ℕ, zero, suc, ◌+◌, ◌*◌, ◌/◌, ◌≤◌, ◌<◌}
+use Prim.Native.Nat.{ℕ, zero, suc, ◌+◌, ◌*◌, ◌/◌, ◌≤◌}
 use native.Mathlib.Omega.{arith}
 use mathlib.Core.Path.{◌≡◌, refl, sym, ap, ◌∙◌}
 use mathlib.Core.Bool.{Bool, true, false, cond, ◌&&◌, ◌||◌}
@@ -14,18 +14,24 @@ use Rattle.encoding.specs.declared.answer.Length.{Length}
 use Rattle.encoding.specs.Answer.{length_refused, length_answer, written, write_answer}
 use Rattle.encoding.specs.Refusal.{Check, check, first_failed}
 use Rattle.encoding.proofs.Below.{either, clash, and_snd}
+use Rattle.encoding.proofs.Refusals.{number_positive}
 use Rattle.encoding.proofs.Pieces.{splice_take}
 use Rattle.offsets.specs.Table.{table_length, ranks, ranks_ok, trees, valid, table_bytes}
 use Rattle.pattern.specs.Calls.{table_checks}
 use Rattle.pattern.proofs.Sets.{move_bound}
 use Rattle.pattern.proofs.Answers.{tables_agree}
-use Rattle.plan_read.specs.Text.{number_limit, ranks_word}
+use Rattle.plan_read.specs.Text.{ranks_word}
 use Rattle.plan_read.specs.Means.{form_ok, parse, Fills, InputRead}
 use Rattle.plan_write.specs.Moves.{plan_ranks, trees_word, messages_word, refused_word, line_text, move_count, moves_output}
 use Rattle.plan_text.specs.Plan.{plan_ranks_ok, text_checks, plan_refusal, plan_moves, plan_answer, plan_output, plan_output_answer}
 use Rattle.plan_write.specs.Means.{PlanTables, output_answer}
 use Rattle.plan_text.specs.Means.{tables_answer}
-use Rattle.plan_read.specs.declared.input.Heading.{Heading}
+use Rattle.encoding.specs.declared.refusal.Refusal.{Refusal}
+use Rattle.encoding.specs.Refusals.{refusal_number}
+use Rattle.std.specs.declared.option.Option.{Option}
+use Rattle.std.proofs.Common.{Some, None, Err}
+use Rattle.std.specs.Option.{ok_or}
+use Rattle.plan_read.proofs.Picked.{some_picked, none_picked}
 use Rattle.plan_read.proofs.Decimals.{decimal_most}
 use Rattle.plan_read.proofs.Grammar.{table_length_lem, formed}
 use Rattle.plan_write.proofs.Writing.{text_most, line_length, output_length}
@@ -153,32 +159,43 @@ module _ (text out : List ℕ) where
       unfolding plan_answer plan_moves first_failed parse tables_answer
       plan_tabled = rw (e, t)
 
+-- no input was read
+pub unread : (o : Option ℕ) {e : Refusal} → Err e ≡ ok_or o Refusal.Input → (o ≡ None) × (e ≡ Refusal.Input)
+unread (Some n) h = absurd cc
+unread None h = (refl, cc)
+
 -- what the input says, read into two tables with room for the program's limit of P
-module _ {text old_entry old_exit new_entry new_exit : List ℕ} {h : Heading} (R : InputRead text old_entry old_exit new_entry new_exit h) where
-  pub read_unformed : (out : List ℕ) → h.ok ≡ false → (length_refused 1, out) ≡ plan_answer text out
-  read_unformed out f = plan_unformed text out (sym R.ok ∙ f)
+module _ {text old_entry old_exit new_entry new_exit : List ℕ} where
+  pub read_unformed : InputRead text old_entry old_exit new_entry new_exit None → (out : List ℕ) → (length_refused 1, out) ≡ plan_answer text out
+  read_unformed R out = plan_unformed text out (none_picked (form_ok text) _ R.gives)
 
-  module _ (e : h.ok ≡ true) where
-    pub read_unranked : (out : List ℕ) → plan_ranks_ok h.ranks ≡ false → (length_refused 2, out) ≡ plan_answer text out
-    read_unranked out f = plan_unranked text out (sym R.ok ∙ e) (ap plan_ranks_ok (sym (R.ranks e)) ∙ f)
+  module _ {P : ℕ} (R : InputRead text old_entry old_exit new_entry new_exit (Some P)) where
+    form_is : form_ok text ≡ true
+    form_is = (some_picked (form_ok text) R.gives).0
 
-    module _ (t : plan_ranks_ok h.ranks ≡ true) where
-      pub read_most : table_length h.ranks ≤ table_length plan_ranks
-      read_most = omega (arith, ranks_most h.ranks t)
+    ranks_are : P ≡ (parse text).ranks
+    ranks_are = (some_picked (form_ok text) R.gives).1
+
+    pub read_unranked : (out : List ℕ) → plan_ranks_ok P ≡ false → (length_refused 2, out) ≡ plan_answer text out
+    read_unranked out f = plan_unranked text out form_is (ap plan_ranks_ok (sym ranks_are) ∙ f)
+
+    module _ (t : plan_ranks_ok P ≡ true) where
+      pub read_most : table_length P ≤ table_length plan_ranks
+      read_most = omega (arith, ranks_most P t)
 
       -- the entries of a list that was read are the table of P ranks
-      part : (vs bs out : List ℕ) → length vs ≡ h.ranks + 1 → table_length plan_ranks ≤ length bs → Fills (parse text).ranks vs bs out → take (8 * (h.ranks + 1)) out ≡ table_bytes vs
+      part : (vs bs out : List ℕ) → length vs ≡ P + 1 → table_length plan_ranks ≤ length bs → Fills (parse text).ranks vs bs out → take (8 * (P + 1)) out ≡ table_bytes vs
       part vs bs out l b f =
-          let m : 0 + length (table_bytes vs) ≡ 8 * (h.ranks + 1) = omega (arith, table_length_lem vs) in
-          rw (f (rw (← R.ranks e) (omega (arith, read_most))), ← m) (splice_take bs 0 (table_bytes vs) (omega (arith, read_most)))
+          let m : 0 + length (table_bytes vs) ≡ 8 * (P + 1) = omega (arith, table_length_lem vs) in
+          rw (f (rw (← ranks_are) (omega (arith, read_most))), ← m) (splice_take bs 0 (table_bytes vs) (omega (arith, read_most)))
 
       pub read_tables : (out : List ℕ) → table_length plan_ranks ≤ length old_entry → table_length plan_ranks ≤ length new_entry
-          → tables_answer (take (8 * (h.ranks + 1)) old_exit) (take (8 * (h.ranks + 1)) new_exit) out ≡ plan_answer text out
+          → tables_answer (take (8 * (P + 1)) old_exit) (take (8 * (P + 1)) new_exit) out ≡ plan_answer text out
       unfolding parse
       read_tables out o n =
-          let form = formed text (sym R.ok ∙ e) in
-          rw (part (parse text).old old_entry old_exit (form.old_many ∙ rw (R.ranks e)) o (R.old e), part (parse text).new new_entry new_exit (form.new_many ∙ rw (R.ranks e)) n (R.new e))
-          (plan_tabled text out (sym R.ok ∙ e) (ap plan_ranks_ok (sym (R.ranks e)) ∙ t))
+          let form = formed text form_is in
+          rw (part (parse text).old old_entry old_exit (form.old_many ∙ rw ranks_are) o (R.old form_is), part (parse text).new new_entry new_exit (form.new_many ∙ rw ranks_are) n (R.new form_is))
+          (plan_tabled text out form_is (ap plan_ranks_ok (sym ranks_are) ∙ t))
 
 -- ---- the call of the output, over that of a plan
 
@@ -272,10 +289,15 @@ module _ (text out : List ℕ) {mid : List ℕ} {l : Length} (h : (l, mid) ≡ p
     is-refused : plan_refusal text ≡ 0 → ⊥
     is-refused z = clash (zero_or_22 (fits text out) l.refusal (refusal_is ∙ kept-refusal text out z)) f
 
-    pub output_small : l.refusal < number_limit
-    output_small = rw (refused-is is-refused) (omega (arith, refusal-small text))
-
     pub output_refused : {answer : Length × List ℕ} → answer ≡ output_answer (line_text refused_word l.refusal) mid → answer ≡ plan_output_answer text out
     output_refused e =
         let same : mid ≡ out = ap (λ (a : Length × List ℕ). a.1) h ∙ ap (λ (a : Length × List ℕ). a.1) (refused-plan text out is-refused) in
         (rw (same, refused-is is-refused) at e) ∙ refused-output text out is-refused
+
+-- no other refusal has the number 22
+buffer_only : (e : Refusal) → refusal_number e ≡ 22 → e ≡ Refusal.Buffer
+buffer_only e h = grind arith
+
+-- every refusal but 22
+pub other_refusal : (e : Refusal) → (e ≡ Refusal.Buffer → ⊥) → (eqb (refusal_number e) 0 || eqb (refusal_number e) 22) ≡ false
+other_refusal e n = rw (ne_eqb (refusal_number e) 0 (number_positive e), ne_eqb (refusal_number e) 22 (λ h. n (buffer_only e h)))

@@ -7,8 +7,7 @@ use mathlib.Core.Path.{◌≡◌, refl, sym, ap, ◌∙◌}
 use mathlib.Core.Bool.{true, false, cond}
 use mathlib.Core.List.{List, [], ◌∷◌, ◌++◌, append_assoc}
 use lib.Dec.{ltb}
-use lib.ListN.{length, get_or, set, take, length-append}
-use lib.Seq.{take-suc}
+use lib.ListN.{length, set, length-append}
 use borrow.Author.Tests.{lt-ltb, le-ltb, lt-leb, le-leb}
 use Rattle.encoding.specs.Below.{any_below, count_below, sum_below}
 use Rattle.encoding.specs.Pieces.{splice}
@@ -110,10 +109,6 @@ module _ (N : ℕ) (f g : ℕ → List ℕ) (more : (i : ℕ) → i < N → f (i
     pub put_turn : {c : List ℕ} {m : ℕ} → Put b c n m (g i) → Put a c at m (f (i + 1))
     put_turn q = put_as (sym (more i h)) (put_then p _ fits_more q)
 
--- a word grows by its next byte
-pub word_more : (word : List ℕ) (i : ℕ) → i < length word → take (i + 1) word ≡ take i word ++ (get_or word i 0 ∷ [])
-word_more word i h = rw add-one (take-suc word i 0 h)
-
 -- ---- moves
 
 -- a move written as a word and four numbers
@@ -209,9 +204,14 @@ module _ (old new : List ℕ) where
   moves_most n h r =
       omega (arith, sum_le n (λ p. count_below (ranks old) (sends_to old new p)) plan_ranks (λ p _. omega (arith, count_le (ranks old) (sends_to old new p))))
 
+-- with no tree there is no move
+pub pair_none : (old new : List ℕ) (p q : ℕ) → sends_to old new p q ≡ false → pair_text old new p q ≡ []
+unfolding pair_text
+pair_none old new p q e = rw e
+
 -- the trees from p to q: the first and how many
 module _ {old new : List ℕ} {p q first count : ℕ} (P : PairOf old new p q) (a : first ≡ sent_first old new p q) (b : count ≡ sent_count old new p q) where
-  -- with no tree there is no move
+  -- none is sent
   pub pair_unsent : count ≡ 0 → sends_to old new p q ≡ false
   unfolding sends_to sent_count sends
   pair_unsent e = any_none (trees old) (sends old new p q) (count_zero (trees old) (sends old new p q) (sym b ∙ e))
@@ -221,10 +221,6 @@ module _ {old new : List ℕ} {p q first count : ℕ} (P : PairOf old new p q) (
   pair_sent n =
       either (any_below (trees old) (sends old new p q)) (λ t. t)
       (λ f. absurd (n (b ∙ count_none (trees old) (sends old new p q) (any_false (trees old) (sends old new p q) f))))
-
-  pub pair_none : count ≡ 0 → pair_text old new p q ≡ []
-  unfolding pair_text
-  pair_none e = rw (pair_unsent e)
 
   module _ (n : count ≡ 0 → ⊥) where
     -- else the move is the row of the two ranks, the first and the last tree

@@ -1,5 +1,7 @@
 -- Means, no part of what is promised: what the writers of the output ask for and leave behind.
-use Rattle.std.specs.Prelude.{ℕ, ◌+◌, ◌*◌, ◌≤◌, ◌<◌, ◌≡◌, cond, List, [], ◌∷◌, ◌++◌, leb, length}
+use Rattle.std.specs.Prelude.{ℕ, ◌+◌, ◌*◌, ◌≤◌, ◌<◌, ◌≡◌, true, false, cond, List, [], ◌∷◌, ◌++◌, leb, length}
+use Rattle.std.specs.Option.{MatchOption}
+use Rattle.std.specs.declared.option.Option.{Option}
 use Rattle.encoding.specs.declared.answer.Length.{Length}
 use Rattle.encoding.specs.Answer.{write_answer}
 use Rattle.encoding.specs.Refusal.{check, first_failed}
@@ -51,6 +53,15 @@ module _ (old new : List ℕ) where
   -- the move from p to q, where there is one
   unfoldable pub pair_text : ℕ → ℕ → List ℕ
   pair_text p q = cond (sends_to old new p q) (move_text old new p q) []
+
+-- the first and the last tree of the move from p to q, if there is one
+pub record MovedTrees (old new : List ℕ) (p q first last : ℕ) : Type 0 where
+  pub some : sends_to old new p q ≡ true
+  pub row : pair_text old new p q ≡ row_text p q first last
+  pub small : Small p q first last
+
+abbrev pub Moved : List ℕ → List ℕ → ℕ → ℕ → Option (ℕ × ℕ) → Type 0
+Moved old new p q moved = MatchOption moved (sends_to old new p q ≡ false) (λ trees. MovedTrees old new p q trees.0 trees.1)
 
 -- room for the move from p to q
 pub record FitsPair (old new out : List ℕ) (at p q : ℕ) : Type 0 where

@@ -5,7 +5,7 @@ ghost use Rattle.offsets.specs.Table.{ranks as ranks_of};
 ghost use Rattle.pattern.specs.Sets.{sends_to};
 ghost use Rattle.pattern.specs.Means.{RankOf, PairOf};
 ghost use Rattle.plan_write.specs.Moves.{moves_from, moves_text, move_count};
-ghost use Rattle.plan_write.specs.Means.{Put, Small, FitsRow, FitsPair, FitsFrom, FitsMoves, PlanTables, row_text, pair_text};
+ghost use Rattle.plan_write.specs.Means.{Put, Small, Moved, FitsRow, FitsPair, FitsFrom, FitsMoves, PlanTables, row_text, pair_text};
 
 use crate::put::{decimal_length, put_number, put_word};
 use offsets::table::ranks;
@@ -22,7 +22,11 @@ fn row_length(p: u64, q: u64, first: u64, last: u64) -> usize
     requires { Small p q first last }
     ensures { result ≡ length (row_text p q first last) }
 {
-    9 + decimal_length(p) + decimal_length(q) + decimal_length(first) + decimal_length(last)
+    b"move=,,,\n".len()
+        + decimal_length(p)
+        + decimal_length(q)
+        + decimal_length(first)
+        + decimal_length(last)
 }
 
 // A move: sender, receiver, first and last tree.
@@ -31,25 +35,35 @@ fn put_row(out: &mut [u8], at: usize, p: u64, q: u64, first: u64, last: u64) -> 
     ensures { Put out.old out.new at result (row_text p q first last) }
 {
     let a = put_word(&mut *out, at, b"move=");
-    let b = put_number(&mut *out, a, p, 44);
-    let c = put_number(&mut *out, b, q, 44);
-    let d = put_number(&mut *out, c, first, 44);
-    put_number(&mut *out, d, last, 10)
+    let b = put_number(&mut *out, a, p, b',');
+    let c = put_number(&mut *out, b, q, b',');
+    let d = put_number(&mut *out, c, first, b',');
+    put_number(&mut *out, d, last, b'\n')
+}
+
+// The first and the last tree of the move from p to q, if there is one.
+fn moved(old: &[u8], new: &[u8], p: usize, q: usize) -> Option<(u64, u64)>
+    requires { PairOf old.now new.now p q }
+    ensures { Moved old.now new.now p q result }
+{
+    let trees = sent(old, new, p, q);
+    if trees.count == 0 {
+        return None;
+    }
+    let first = trees.first as u64;
+    Some((first, first + trees.count as u64 - 1))
 }
 
 fn pair_size(old: &[u8], new: &[u8], p: usize, q: usize) -> Size
     requires { PairOf old.now new.now p q }
     ensures { (result.bytes ≡ length (pair_text old.now new.now p q)) × (result.moves ≡ cond (sends_to old.now new.now p q) 1 0) }
 {
-    let range = sent(old, new, p, q);
-    let first = range.first as u64;
-    let count = range.count as u64;
-    if count == 0 {
-        return Size { bytes: 0, moves: 0 };
-    }
-    Size {
-        bytes: row_length(p as u64, q as u64, first, first + count - 1),
-        moves: 1,
+    match moved(old, new, p, q) {
+        None => Size { bytes: 0, moves: 0 },
+        Some((first, last)) => Size {
+            bytes: row_length(p as u64, q as u64, first, last),
+            moves: 1,
+        },
     }
 }
 
@@ -58,13 +72,10 @@ fn put_pair(out: &mut [u8], at: usize, old: &[u8], new: &[u8], p: usize, q: usiz
     requires { FitsPair old.now new.now out.old at p q }
     ensures { Put out.old out.new at result (pair_text old.now new.now p q) }
 {
-    let range = sent(old, new, p, q);
-    let first = range.first as u64;
-    let count = range.count as u64;
-    if count == 0 {
-        return at;
+    match moved(old, new, p, q) {
+        None => at,
+        Some((first, last)) => put_row(&mut *out, at, p as u64, q as u64, first, last),
     }
-    put_row(&mut *out, at, p as u64, q as u64, first, first + count - 1)
 }
 
 fn from_size(old: &[u8], new: &[u8], p: usize) -> Size
@@ -74,12 +85,10 @@ fn from_size(old: &[u8], new: &[u8], p: usize) -> Size
     let n = ranks(old);
     let mut bytes: usize = 0;
     let mut moves: usize = 0;
-    let mut q = 0;
-    while q < n {
+    for q in 0..n {
         let s = pair_size(old, new, p, q);
         bytes += s.bytes;
         moves += s.moves;
-        q += 1;
     }
     Size { bytes, moves }
 }
@@ -91,10 +100,8 @@ fn put_from(out: &mut [u8], at: usize, old: &[u8], new: &[u8], p: usize) -> usiz
 {
     let n = ranks(old);
     let mut next = at;
-    let mut q = 0;
-    while q < n {
+    for q in 0..n {
         next = put_pair(&mut *out, next, old, new, p, q);
-        q += 1;
     }
     next
 }
@@ -106,12 +113,10 @@ pub fn moves_size(old: &[u8], new: &[u8]) -> Size
     let n = ranks(old);
     let mut bytes: usize = 0;
     let mut moves: usize = 0;
-    let mut p = 0;
-    while p < n {
+    for p in 0..n {
         let s = from_size(old, new, p);
         bytes += s.bytes;
         moves += s.moves;
-        p += 1;
     }
     Size { bytes, moves }
 }
@@ -123,10 +128,8 @@ pub fn put_moves(out: &mut [u8], at: usize, old: &[u8], new: &[u8]) -> usize
 {
     let n = ranks(old);
     let mut next = at;
-    let mut p = 0;
-    while p < n {
+    for p in 0..n {
         next = put_from(&mut *out, next, old, new, p);
-        p += 1;
     }
     next
 }

@@ -1,12 +1,13 @@
 // The whole output.
-ghost use Rattle.std.specs.Prelude.{◌≡◌, ◌+◌, ◌<◌, length};
-ghost use Rattle.plan_read.specs.Text.{number_limit, ranks_word};
+ghost use Rattle.std.specs.Prelude.{◌≡◌, ◌+◌, length};
+ghost use Rattle.encoding.specs.Refusals.{length_of, refusal_number};
+ghost use Rattle.plan_read.specs.Text.{ranks_word};
 ghost use Rattle.plan_write.specs.Moves.{trees_word, messages_word, refused_word, line_text, moves_output};
 ghost use Rattle.plan_write.specs.Means.{Put, PlanTables, SmallOutput, FitsOutput, output_answer};
 
 use crate::moves::{moves_size, put_moves};
 use crate::put::{line_length, put_line};
-use encoding::answer::{Length, refused};
+use encoding::refusal::Refusal;
 use offsets::table::{ranks, trees};
 
 // How long the output is, of which the moves have so many bytes.
@@ -32,34 +33,27 @@ fn put_output(out: &mut [u8], old: &[u8], new: &[u8], moves: u64) -> usize
 }
 
 // The output of two tables that agree, if it fits (22).
-pub fn write_moves(old: &[u8], new: &[u8], out: &mut [u8]) -> Length
+pub fn write_moves(old: &[u8], new: &[u8], out: &mut [u8]) -> Result<u64, Refusal>
     requires { PlanTables old.now new.now }
-    ensures { (result, out.new) ≡ output_answer (moves_output old.now new.now) out.old }
+    ensures { (length_of result, out.new) ≡ output_answer (moves_output old.now new.now) out.old }
 {
     let size = moves_size(old, new);
     let moves = size.moves as u64;
     if out.len() < output_length(ranks(old) as u64, trees(old), size.bytes, moves) {
-        return refused(22);
+        return Err(Refusal::Buffer);
     }
     let end = put_output(&mut *out, old, new, moves);
-    Length {
-        refusal: 0,
-        length: end as u64,
-    }
+    Ok(end as u64)
 }
 
 // The line of a refused input, if it fits (22).
-pub fn write_refused(refusal: u32, out: &mut [u8]) -> Length
-    requires { refusal < number_limit }
-    ensures { (result, out.new) ≡ output_answer (line_text refused_word refusal) out.old }
+pub fn write_refused(refusal: Refusal, out: &mut [u8]) -> Result<u64, Refusal>
+    ensures { (length_of result, out.new) ≡ output_answer (line_text refused_word (refusal_number refusal)) out.old }
 {
-    let n = refusal as u64;
+    let n = refusal.number() as u64;
     if out.len() < line_length(b"refused=", n) {
-        return refused(22);
+        return Err(Refusal::Buffer);
     }
     let end = put_line(&mut *out, 0, b"refused=", n);
-    Length {
-        refusal: 0,
-        length: end as u64,
-    }
+    Ok(end as u64)
 }

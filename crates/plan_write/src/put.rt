@@ -19,8 +19,9 @@ pub fn decimal_length(n: u64) -> usize
 {
     let mut count: usize = 1;
     let mut m = n;
+    // one digit fewer each time
     while 10 <= m {
-        m = m / 10;
+        m /= 10;
         count += 1;
     }
     count
@@ -31,10 +32,10 @@ fn put_decimal(out: &mut [u8], at: usize, n: u64) -> usize
     ensures { Put out.old out.new at result (decimal n) }
 {
     if n < 10 {
-        return put_byte(&mut *out, at, (48 + n) as u8);
+        return put_byte(&mut *out, at, b'0' + n as u8);
     }
     let next = put_decimal(&mut *out, at, n / 10);
-    put_byte(&mut *out, next, (48 + n % 10) as u8)
+    put_byte(&mut *out, next, b'0' + (n % 10) as u8)
 }
 
 // A number and the byte behind it.
@@ -50,12 +51,8 @@ pub fn put_word(out: &mut [u8], at: usize, word: &[u8]) -> usize
     requires { Fits out.old at word.now }
     ensures { Put out.old out.new at result word.now }
 {
-    let mut next = at;
-    let mut i = 0;
-    while i < word.len() {
-        next = put_byte(&mut *out, next, word[i]);
-        i += 1;
-    }
+    let next = at + word.len();
+    out[at..next].copy_from_slice(word);
     next
 }
 
@@ -65,7 +62,7 @@ pub fn put_line(out: &mut [u8], at: usize, word: &[u8], n: u64) -> usize
     ensures { Put out.old out.new at result (line_text word.now n) }
 {
     let next = put_word(&mut *out, at, word);
-    put_number(&mut *out, next, n, 10)
+    put_number(&mut *out, next, n, b'\n')
 }
 
 // How long a line of a word and a number is.

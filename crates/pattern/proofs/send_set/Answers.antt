@@ -3,4 +3,4 @@ use Rattle.pattern.proofs.Answers.{send_is}
 use Rattle.pattern.proofs.send_set.Goals as goal
 
 pub returns : goal.returns
-returns c = c.rank_set.ensures ∙ send_is _ _ _ _
+returns c = (c.rank_set.ensures.0 ∙ send_is _ _ _ _, c.rank_set.ensures.1)

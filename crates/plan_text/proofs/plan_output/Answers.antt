@@ -1,15 +1,12 @@
-use Rattle.plan_text.proofs.Answers.{output_kept, output_small, output_refused}
+use Rattle.plan_text.proofs.Answers.{output_kept, output_refused, other_refusal}
+use mathlib.Core.Path.{refl}
 use Rattle.plan_text.proofs.plan_output.Goals as goal
 
-pub returns-then-refusal : goal.returns-then-refusal
-returns-then-refusal c = output_kept _ _ c.plan-l.ensures c.if-refusal.true
+pub returns-in-Ok : goal.returns-in-Ok
+returns-in-Ok c = output_kept _ _ c.in-Ok.ensures refl
 
-pub write_refused-requires : goal.write_refused-requires
-write_refused-requires c = output_small _ _ c.plan-l.ensures c.if-refusal.false
+pub returns-in-Buffer : goal.returns-in-Buffer
+returns-in-Buffer c = rw c.in-Buffer.is (output_kept _ _ (rw c.in-Buffer.is at c.in-Err.ensures) refl)
 
-pub returns : goal.returns
-returns c =
-    let plan = c.plan-l in
-    let if1 = c.if-refusal in
-    let write_refused = c.write_refused in
-    output_refused _ _ plan.ensures if1.false write_refused.ensures
+pub returns-in_default : goal.returns-in_default
+returns-in_default c = output_refused _ _ c.in-Err.ensures (other_refusal _ c.in_default.not-Buffer) c.write_refused.ensures

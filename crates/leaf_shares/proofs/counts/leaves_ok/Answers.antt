@@ -17,18 +17,15 @@ pub returns-then-not-tree_count_ok : goal.returns-then-not-tree_count_ok
 unfolding leaves_ok
 returns-then-not-tree_count_ok c = rw (sym c.tree_count_ok.ensures ∙ c.if-not-tree_count_ok.true)
 
-pub loop-i-init : goal.loop-i-init
+pub loop-x-init : goal.loop-x-init
 unfolding all_below
-loop-i-init c = (omega arith, refl)
+loop-x-init c = refl
 
-pub loop-i-preserved : goal.loop-i-preserved
-loop-i-preserved c = (omega arith, one_more _ _ c.loop-i.invariant.1 c.count_ok-ok.ensures)
+pub loop-x-preserved : goal.loop-x-preserved
+loop-x-preserved c = one_more _ _ c.loop-x.invariant c.count_ok-ok.ensures
 
 pub returns : goal.returns
 unfolding leaves_ok
 returns c =
-    let loop = c.loop-i in
-    let tree-count-ok = c.tree_count_ok in
-    let if1 = c.if-not-tree_count_ok in
-    let e : loop.i ≡ length c.args.leaves.now = omega arith in
-    rw (sym tree-count-ok.ensures ∙ if1.false, sym e) loop.invariant.1
+    let e : c.loop-x.x-index ≡ length c.args.leaves.now = omega arith in
+    rw (sym c.tree_count_ok.ensures ∙ c.if-not-tree_count_ok.false, sym e) c.loop-x.invariant

@@ -3,8 +3,8 @@ use lib.ListN.{length}
 use Prim.Native.Nat.{◌-◌}
 use Rattle.leaf_shares.proofs.table.advance.Given as goal
 
-abbrev pub invariant-loop-s : goal.invariant-loop-s
-invariant-loop-s l = Walking l.leaves l.lo l.k l.s
+abbrev pub invariant-loop-at : goal.invariant-loop-at
+invariant-loop-at l = Walking l.leaves l.lo l.at.tree l.at.start
 
-abbrev pub decreases-loop-s : goal.decreases-loop-s
-decreases-loop-s l = length l.leaves - l.k
+abbrev pub decreases-loop-at : goal.decreases-loop-at
+decreases-loop-at l = length l.leaves - l.at.tree

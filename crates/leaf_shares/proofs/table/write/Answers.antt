@@ -30,17 +30,15 @@ pub loop-p-preserved : goal.loop-p-preserved
 loop-p-preserved c =
     let pre = c.requires in
     let loop = c.loop-p in
-    let loop-test = c.loop-p-test in
     let cut = c.cut-lo in
     let cut2 = c.cut-hi in
     let put-rank = c.put_rank-at in
-    writing_more (shares_cuts _ _ pre.ranks_fit pre.leaves_fit) pre.room loop.invariant loop-test.true (share_is _ _ _ pre.total cut.ensures.0) (share_is _ _ _ pre.total cut2.ensures.0) put-rank.ensures.0 put-rank.ensures.1 put-rank.ensures.2
+    writing_more (shares_cuts _ _ pre.ranks_fit pre.leaves_fit) pre.room loop.invariant c.loop-p-test.true (share_is _ _ _ pre.total cut.ensures.0) (share_is _ _ _ pre.total cut2.ensures.0) put-rank.ensures.0 put-rank.ensures.1 put-rank.ensures.2
 
 pub returns : goal.returns
 unfolding leaf_table
 returns c =
     let pre = c.requires in
     let loop = c.loop-p in
-    let loop-test = c.loop-p-test in
     let write-u64 = c.write_u64 in
-    writing_done (shares_cuts _ _ pre.ranks_fit pre.leaves_fit) pre.room loop.invariant loop-test.false refl write-u64.ensures
+    writing_done (shares_cuts _ _ pre.ranks_fit pre.leaves_fit) pre.room loop.invariant (omega arith) refl write-u64.ensures

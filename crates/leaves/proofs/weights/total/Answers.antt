@@ -5,17 +5,14 @@ use mathlib.Core.Path.{◌≡◌, sym, ◌∙◌}
 use lib.ListN.{length}
 use Rattle.leaves.proofs.weights.total.Goals as goal
 
-pub loop-p-init : goal.loop-p-init
-loop-p-init c = (omega arith, sym (weight_none _), omega arith)
+pub loop-x-init : goal.loop-x-init
+loop-x-init c = (sym (weight_none _), omega arith)
 
 pub overflow_add-w : goal.overflow_add-w
 overflow_add-w c = omega (arith, ranks_within _ c.requires)
 
-pub loop-p-preserved : goal.loop-p-preserved
-loop-p-preserved c = omega (arith, weight_more c.args.weights.now c.loop-p.p)
+pub loop-x-preserved : goal.loop-x-preserved
+loop-x-preserved c = omega (arith, weight_more c.args.weights.now c.loop-x.x-index, c.type_inv.weights c.loop-x.x-index)
 
 pub returns : goal.returns
-returns c =
-    let at-loop = c.loop-p in
-    let at-args = c.args in
-    let loop = at-loop in let args = at-args in let e : loop.p ≡ length args.weights.now = omega arith in loop.invariant.1 ∙ rw e (weight_all _)
+returns c = let e : c.loop-x.x-index ≡ length c.args.weights.now = omega arith in c.loop-x.invariant.0 ∙ rw e (weight_all _)

@@ -1,5 +1,4 @@
-use Prim.Native.Nat.{◌≤◌, ◌-◌}
-use lib.ListN.{length, get_or}
+use lib.ListN.{get_or}
 use lib.Dec.{leb}
 use mathlib.Core.Path.{◌≡◌}
 use mathlib.Core.Bool.{true}
@@ -7,8 +6,5 @@ use Rattle.encoding.specs.Below.{all_below}
 use Rattle.leaves.specs.Weighted.{max_weight}
 use Rattle.leaves.proofs.weights.weights_ok.Given as goal
 
-abbrev pub invariant-loop-p : goal.invariant-loop-p
-invariant-loop-p l = (l.p ≤ length l.weights) × (all_below l.p (λ i. leb (get_or l.weights i 0) max_weight) ≡ true)
-
-abbrev pub decreases-loop-p : goal.decreases-loop-p
-decreases-loop-p l = length l.weights - l.p
+abbrev pub invariant-loop-x : goal.invariant-loop-x
+invariant-loop-x l = all_below l.x-index (λ i. leb (get_or l.weights i 0) max_weight) ≡ true

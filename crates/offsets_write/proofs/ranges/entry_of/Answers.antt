@@ -10,6 +10,6 @@ pub returns-then-count-f : goal.returns-then-count-f
 unfolding next_entry
 returns-then-count-f c = rw c.if-count-f.true (omega (tests, and_snd (ltb 0 c.args.count) _ c.if-count-f.true))
 
-pub returns : goal.returns
+pub returns-else-count-f : goal.returns-else-count-f
 unfolding next_entry
-returns c = rw c.if-count-f.false
+returns-else-count-f c = rw c.if-count-f.false

@@ -6,6 +6,6 @@ pub returns-then-count-gt0 : goal.returns-then-count-gt0
 unfolding next_end
 returns-then-count-gt0 c = rw (lt-ltb _ _ c.if-count-gt0.true)
 
-pub returns : goal.returns
+pub returns-else-count-gt0 : goal.returns-else-count-gt0
 unfolding next_end
-returns c = rw (le-ltb _ _ c.if-count-gt0.false)
+returns-else-count-gt0 c = rw (le-ltb _ _ c.if-count-gt0.false)

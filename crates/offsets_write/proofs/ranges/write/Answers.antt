@@ -8,17 +8,13 @@ use Rattle.offsets_write.proofs.ranges.write.Goals as goal
 
 pub loop-p-init : goal.loop-p-init
 unfolding end_below entries_below
-loop-p-init c = (omega arith, (refl, (sym (splice_none _ 0), refl)))
+loop-p-init c = (refl, sym (splice_none _ 0), refl)
 
 pub loop-p-preserved : goal.loop-p-preserved
 loop-p-preserved c =
-    let loop = c.loop-p in
-    let entry_of = c.entry_of in
-    let write-u64 = c.write_u64 in
-    let i = loop.invariant in (omega arith, (end_turn _ _ _ _ _ i.1.0 c.next_end-end.ensures, (write_turn _ _ _ _ _ _ _ _ i.1.0 entry_of.ensures i.1.1.0 write-u64.ensures (omega arith), search rules)))
+    let i = c.loop-p.invariant in
+    (end_turn _ _ _ _ _ i.0 c.next_end-end.ensures, write_turn _ _ _ _ _ _ _ _ i.0 c.entry_of.ensures i.1 c.write_u64.ensures (omega arith), search rules)
 
 pub returns : goal.returns
 returns c =
-    let loop = c.loop-p in
-    let write-u642 = c.write_u64-2 in
-    let i = loop.invariant in write_done _ _ _ _ _ _ _ _ i.0 (omega arith) i.1.0 i.1.1.0 write-u642.ensures (omega arith)
+    let i = c.loop-p.invariant in write_done _ _ _ _ _ _ _ _ c.loop-p.auto.p-end (omega arith) i.0 i.1 c.write_u64-2.ensures (omega arith)

@@ -26,17 +26,17 @@ pub returns-then-upper-p : goal.returns-then-upper-p
 unfolding sent_high
 returns-then-upper-p c =
     let first_tree_call = c.first_tree in
-    let smaller = c.smaller-end in
+    let smaller = c.min-end in
     let end-tree = c.end_tree in
     let end-tree2 = c.end_tree-2 in
     let pre = c.requires in
     let if1 = c.if-upper-p in
-    simp (c.smaller.ensures, first_tree_call.ensures, smaller.ensures, end-tree.ensures, end-tree2.ensures, ← pre.1, lt-ltb _ _ if1.true)
+    simp (c.min.ensures, first_tree_call.ensures, smaller.ensures, end-tree.ensures, end-tree2.ensures, ← pre.1, lt-ltb _ _ if1.true)
 
 pub returns : goal.returns
 unfolding sent_high
 returns c =
-    let smaller = c.smaller-end in
+    let smaller = c.min-end in
     let end-tree = c.end_tree in
     let end-tree2 = c.end_tree-2 in
     let pre = c.requires in

@@ -27,17 +27,17 @@ unfolding sent_low
 returns-then-q-lower c =
     let magnitude = c.magnitude in
     let entry = c.entry in
-    let larger = c.larger-first in
+    let larger = c.max-first in
     let first_tree_call = c.first_tree in
     let first-tree2 = c.first_tree-2 in
     let pre = c.requires in
     let if1 = c.if-q-lower in
-    simp (c.larger.ensures, magnitude.ensures, entry.ensures, larger.ensures, first_tree_call.ensures, first-tree2.ensures, ← pre.1, le-leb _ _ if1.true)
+    simp (c.max.ensures, magnitude.ensures, entry.ensures, larger.ensures, first_tree_call.ensures, first-tree2.ensures, ← pre.1, le-leb _ _ if1.true)
 
 pub returns : goal.returns
 unfolding sent_low
 returns c =
-    let larger = c.larger-first in
+    let larger = c.max-first in
     let first_tree_call = c.first_tree in
     let first-tree2 = c.first_tree-2 in
     let pre = c.requires in

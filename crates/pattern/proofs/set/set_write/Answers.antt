@@ -2,13 +2,14 @@ use Rattle.pattern.proofs.Laws.{pair_near}
 use Rattle.pattern.proofs.Windows.{list_start, list_count, list_more, list_past, list_skip, list_done}
 use mathlib.Core.Path.{sym, ◌∙◌}
 use native.Mathlib.Omega.{arith}
+use Rattle.pattern.proofs.set.set_write.Goals.{then-exchanges+then-place-out, then-exchanges+else-place-out, else-exchanges}
 use Rattle.pattern.proofs.set.set_write.Goals as goal
 
 pub loop-other-init : goal.loop-other-init
 loop-other-init c = list_start c.window_of-window.ensures.0 _
 
-pub exchanges-here-requires : goal.exchanges-here-requires
-exchanges-here-requires c =
+pub exchanges-requires : goal.exchanges-requires
+exchanges-requires c =
     let pre = c.requires in
     let window-of = c.window_of-window in
     let lower-rank = c.lower_rank-lower in
@@ -21,28 +22,13 @@ overflow_add-count c = omega (arith, list_count _ _ _ c.loop-other.invariant)
 pub offset_bounds-out-place : goal.offset_bounds-out-place
 offset_bounds-out-place c = omega (arith, list_count _ _ _ c.loop-other.invariant)
 
-pub loop-other-preserved-then-place-out : goal.loop-other-preserved-then-place-out
-loop-other-preserved-then-place-out c =
-    let loop = c.loop-other in
-    let loop-test = c.loop-other-test in
-    let exchanges = c.exchanges-here in
-    let if1 = c.if-here in
-    list_more _ _ _ loop.invariant loop-test.true (sym exchanges.ensures ∙ if1.true) c.if-place-out.true
-
-pub loop-other-preserved-else-place-out : goal.loop-other-preserved-else-place-out
-loop-other-preserved-else-place-out c =
-    let loop = c.loop-other in
-    let loop-test = c.loop-other-test in
-    let exchanges = c.exchanges-here in
-    let if1 = c.if-here in
-    list_past _ _ _ loop.invariant loop-test.true (sym exchanges.ensures ∙ if1.true) c.if-place-out.false
-
 pub loop-other-preserved : goal.loop-other-preserved
 loop-other-preserved c =
-    let loop = c.loop-other in
-    let loop-test = c.loop-other-test in
-    let exchanges = c.exchanges-here in
-    list_skip _ _ _ loop.invariant loop-test.true (sym exchanges.ensures ∙ c.if-here.false)
+    elim c.if-exchanges.branch [
+      | then-exchanges+then-place-out w ↦ rw (w.out-is, w.count-is) (list_more _ _ _ c.loop-other.invariant c.loop-other-test.true (sym c.exchanges.ensures ∙ w.if-exchanges.true) w.if-place-out.true)
+      | then-exchanges+else-place-out w ↦ rw (w.out-is, w.count-is) (list_past _ _ _ c.loop-other.invariant c.loop-other-test.true (sym c.exchanges.ensures ∙ w.if-exchanges.true) w.if-place-out.false)
+      | else-exchanges w ↦ rw (w.out-is, w.count-is) (list_skip _ _ _ c.loop-other.invariant c.loop-other-test.true (sym c.exchanges.ensures ∙ w.if-exchanges.false))
+    ]
 
 pub shape_of-out : goal.shape_of-out
 shape_of-out c = c.loop-other.invariant.long

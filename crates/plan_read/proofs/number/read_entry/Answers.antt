@@ -1,34 +1,44 @@
+use Rattle.plan_read.proofs.Picked.{number_picked, none_picked}
 use Rattle.plan_read.proofs.Grammar.{byte_within}
-use Rattle.plan_read.specs.Means.{byte_at, Number, read_number, negated, read_entry}
+use Rattle.plan_read.specs.Means.{byte_at, read_number, negated, read_entry}
 use borrow.Author.Tests.{ne_eqb}
 use lib.ListN.{length}
 use native.Mathlib.Omega.{arith}
 use mathlib.Core.List.{List}
+use mathlib.Core.Bool.{false}
 use mathlib.Core.Path.{◌≡◌}
 use Prim.Native.Nat.{ℕ, ◌+◌, ◌<◌}
 use Rattle.plan_read.proofs.number.read_entry.Goals as goal
 
-module _ (text : List ℕ) (at b : ℕ) (eb : b ≡ byte_at text at) where
+module _ (text : List ℕ) (at : ℕ) {b : ℕ} (eb : b ≡ byte_at text at) where
   -- a minus sign is within the text
   within : b ≡ 45 → at < length text
   within p = byte_within text at (omega arith)
 
-  minus : (m n : Number) → b ≡ 45 → n ≡ read_number text (at + 1) → m ≡ negated n → m ≡ read_entry text at
+  minus : b ≡ 45 → negated (read_number text (at + 1)) ≡ read_entry text at
   unfolding read_entry
-  minus m n p en em = rw (← eb, p, ← en) em
+  minus p = rw (← eb, p)
 
-  plain : (m : Number) → (b ≡ 45 → ⊥) → m ≡ read_number text at → m ≡ read_entry text at
+  minus_fails : b ≡ 45 → (read_number text (at + 1)).ok ≡ false → (read_entry text at).ok ≡ false
+  unfolding read_entry negated
+  minus_fails p e = rw (← eb, p, e)
+
+  plain : (b ≡ 45 → ⊥) → read_number text at ≡ read_entry text at
   unfolding read_entry
-  plain m p em = rw (← eb, ne_eqb b 45 p) em
+  plain p = rw (← eb, ne_eqb b 45 p)
 
 pub overflow_add-at : goal.overflow_add-at
-overflow_add-at c =
-    let args = c.args in
-    let byte_at_call = c.byte_at in
-    omega (arith, within args.text.now args.at _ byte_at_call.ensures c.if-byte_at-eq45.true)
+overflow_add-at c = omega (arith, within c.args.text.now c.args.at c.byte_at.ensures c.if-byte_at-eq45.true)
+
+pub returns-in_err-read_number : goal.returns-in_err-read_number
+returns-in_err-read_number c =
+    let f = none_picked (read_number c.args.text.now (c.args.at + 1)).ok _ (c.in_err-read_number.ensures) in
+    rw (c.from_residual.ensures, minus_fails _ _ c.byte_at.ensures c.if-byte_at-eq45.true f)
 
 pub returns-then-byte_at-eq45 : goal.returns-then-byte_at-eq45
-returns-then-byte_at-eq45 c = minus _ _ _ c.byte_at.ensures _ _ c.if-byte_at-eq45.true c.read_number.ensures c.negated.ensures
+returns-then-byte_at-eq45 c =
+    let n = number_picked _ c.in_ok-read_number.ensures in
+    rw (← minus _ _ c.byte_at.ensures c.if-byte_at-eq45.true, ← n) c.negated.ensures
 
 pub returns : goal.returns
-returns c = plain _ _ _ c.byte_at.ensures _ c.if-byte_at-eq45.false c.read_number-2.ensures
+returns c = rw (← plain _ _ c.byte_at.ensures c.if-byte_at-eq45.false) c.read_number-2.ensures

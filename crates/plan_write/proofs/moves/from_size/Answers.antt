@@ -14,7 +14,7 @@ ranks-n-requires c = c.requires.tables.old_ranks
 
 pub loop-q-init : goal.loop-q-init
 unfolding moves_from count_below
-loop-q-init c = (omega arith, (refl, refl))
+loop-q-init c = (refl, refl)
 
 pub pair_size-s-requires : goal.pair_size-s-requires
 pair_size-s-requires c =
@@ -37,7 +37,7 @@ pub loop-q-preserved : goal.loop-q-preserved
 loop-q-preserved c =
     let args = c.args in
     let loop = c.loop-q in
-    let old = args.old.now in let new = args.new.now in let p = args.p in let q = loop.q in (omega arith, (omega (arith, from_length old new p q), omega (arith, count_more q (sends_to old new p))))
+    let old = args.old.now in let new = args.new.now in let p = args.p in let q = loop.q in (omega (arith, from_length old new p q), omega (arith, count_more q (sends_to old new p)))
 
 pub returns : goal.returns
-returns c = let e : c.loop-q.q ≡ ranks c.args.old.now = omega arith in rw (← e) c.loop-q.invariant.1
+returns c = let e : c.loop-q.q ≡ ranks c.args.old.now = omega arith in rw (← e) c.loop-q.invariant

@@ -14,7 +14,7 @@ ranks-n-requires c = c.requires.agree.old_ranks
 
 pub loop-p-init : goal.loop-p-init
 unfolding moves_text sum_below
-loop-p-init c = (omega arith, (refl, refl))
+loop-p-init c = (refl, refl)
 
 pub from_size-s-requires : goal.from_size-s-requires
 from_size-s-requires c = record { tables = c.requires.agree; rank_below = omega arith }
@@ -37,8 +37,8 @@ pub loop-p-preserved : goal.loop-p-preserved
 loop-p-preserved c =
     let args = c.args in
     let loop = c.loop-p in
-    let old = args.old.now in let new = args.new.now in let p = loop.p in (omega arith, (omega (arith, text_length old new p), omega (arith, sum_more p (λ i. count_below (ranks old) (sends_to old new i)))))
+    let old = args.old.now in let new = args.new.now in let p = loop.p in (omega (arith, text_length old new p), omega (arith, sum_more p (λ i. count_below (ranks old) (sends_to old new i))))
 
 pub returns : goal.returns
 unfolding move_count
-returns c = let e : c.loop-p.p ≡ ranks c.args.old.now = omega arith in rw e at c.loop-p.invariant.1
+returns c = let e : c.loop-p.p ≡ ranks c.args.old.now = omega arith in rw e at c.loop-p.invariant

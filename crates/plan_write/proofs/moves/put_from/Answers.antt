@@ -11,23 +11,23 @@ ranks-n-requires c = c.requires.rank.tables.old_ranks
 
 pub loop-q-init : goal.loop-q-init
 unfolding moves_from
-loop-q-init c = (omega arith, (put_none _ _, refl))
+loop-q-init c = (put_none _ _, refl)
 
 pub put_pair-next-requires : goal.put_pair-next-requires
 put_pair-next-requires c =
     let pre = c.requires in
     let loop = c.loop-q in
-    from_fits pre loop.q (omega arith) loop.invariant.1.0
+    from_fits pre loop.q (omega arith) loop.invariant.0
 
 pub loop-q-preserved : goal.loop-q-preserved
 loop-q-preserved c =
     let pre = c.requires in
     let loop = c.loop-q in
     let put-pair = c.put_pair-next in
-    (omega arith, (from_turn pre loop.q (omega arith) loop.invariant.1.0 put-pair.ensures, search rules))
+    (from_turn pre loop.q (omega arith) loop.invariant.0 put-pair.ensures, search rules)
 
 pub returns : goal.returns
 returns c =
     let loop = c.loop-q in
     let args = c.args in
-    let e : loop.q ≡ ranks args.old.now = omega arith in rw (← e) loop.invariant.1.0
+    let e : loop.q ≡ ranks args.old.now = omega arith in rw (← e) loop.invariant.0

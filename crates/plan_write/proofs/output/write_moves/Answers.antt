@@ -21,7 +21,7 @@ returns-then-out-output_length c =
     let trees = c.trees in
     let moves-size = c.moves_size-size in
     let output_length = c.output_length in
-    let e = output_is _ _ ranks.ensures.0 trees.ensures moves-size.ensures.0 moves-size.ensures.1 output_length.ensures in rw c.refused.ensures (answer_short _ _ (omega arith))
+    let e = output_is _ _ ranks.ensures.0 trees.ensures moves-size.ensures.0 moves-size.ensures.1 output_length.ensures in answer_short _ _ (omega arith)
 
 pub put_output-end-requires : goal.put_output-end-requires
 put_output-end-requires c =

@@ -1,13 +1,15 @@
 -- A list that is read entry by entry: what has been read, and what is left to read.
+use Rattle.std.proofs.Common.{Some, None}
+use Rattle.plan_read.specs.declared.number.Numeral.{Numeral}
 use Prim.Native.Nat.{ℕ, zero, suc, ◌+◌, ◌-◌, ◌*◌, ◌/◌, ◌≤◌, ◌<◌}
 use mathlib.Core.Path.{◌≡◌, refl, sym, ap, ◌∙◌}
-use mathlib.Core.Bool.{true, false, cond, not}
+use mathlib.Core.Bool.{true, false, cond}
 use mathlib.Core.List.{List, [], ◌∷◌, ◌++◌, append_assoc}
 use native.Mathlib.Nat.{zero-add, sub-zero}
 use native.Mathlib.Omega.{arith}
 use lib.Dec.{ltb, eqb}
 use lib.ListN.{length, drop, length-append, length-drop}
-use borrow.Author.Tests.{not-true, not-false, lt-ltb, ne_eqb}
+use borrow.Author.Tests.{lt-ltb, ne_eqb}
 use Rattle.encoding.specs.Pieces.{splice}
 use Rattle.encoding.specs.Numbers.{le_put, le_bytes}
 use Rattle.encoding.proofs.Below.{tests, either, clash}
@@ -15,7 +17,7 @@ use Rattle.encoding.proofs.Pieces.{splice_none, splice_then}
 use Rattle.encoding.proofs.Numbers.{length_put}
 use Rattle.offsets.specs.Table.{table_bytes}
 use Rattle.plan_read.specs.Text.{entry_text}
-use Rattle.plan_read.specs.Means.{byte_at, Number, read_entry, Entries, no_entries, before, read_list, stored, ListRead}
+use Rattle.plan_read.specs.Means.{byte_at, Number, read_entry, Entries, no_entries, before, read_list, stored, number_of, ListRead}
 use Rattle.plan_read.proofs.Grammar.{byte_within, entry_least, entry_sound, from_length, before_ok, table_length_lem, table_snoc}
 
 -- ---- one entry
@@ -117,25 +119,24 @@ reading_none text at entry =
       filled = λ h. sym (splice_none entry 0);
     }
 
-module _ {text : List ℕ} {at : ℕ} {entry : List ℕ} {count place : ℕ} {table : List ℕ} (s : Reading text at entry count place table) {n : Number} (en : n ≡ read_entry text place) where
+module _ {text : List ℕ} {at : ℕ} {entry : List ℕ} {count place : ℕ} {table : List ℕ} (s : Reading text at entry count place table) where
   -- nothing is read
-  failed : {exit : List ℕ} → read_list (length text - count) text place ≡ no_entries
-      → ListRead text (read_list (length text) text at) entry exit (record { ok = false; count = 0; next = 0 })
+  failed : {exit : List ℕ} → read_list (length text - count) text place ≡ no_entries → ListRead text (read_list (length text) text at) entry exit None
   unfolding prefixed
   failed e =
       let z : read_list (length text) text at ≡ no_entries = s.left ∙ rw e in
-      rw z record { ok = refl; count = refl; next = refl; within = omega arith; filled = λ p h. clash p refl }
+      rw z record { gives = refl; within = omega arith; filled = λ p h. clash p refl }
 
-  pub reading_refused : not n.ok ≡ true → ListRead text (read_list (length text) text at) entry table (record { ok = false; count = 0; next = 0 })
-  reading_refused p = failed (no-entry text place (length text - count) (rw (← en) (not-true n.ok p)))
+  pub reading_refused : (read_entry text place).ok ≡ false → ListRead text (read_list (length text) text at) entry table None
+  reading_refused p = failed (no-entry text place (length text - count) p)
 
-  module _ (ok : not n.ok ≡ false) where
+  module _ {n : Numeral} (en : number_of n ≡ read_entry text place) where
     read : (read_entry text place).ok ≡ true
-    read = rw (← en) (not-false n.ok ok)
+    read = rw (← en)
 
     -- the entry begins within the text and ends behind its place
     pub reading_moves : (place < length text) × (place < n.next)
-    reading_moves = rw en (entry-moves text place read)
+    reading_moves = let m = entry-moves text place read in rw (← en) at m
 
     -- the entries left are one fewer
     fewer : length text - count ≡ suc (length text - (count + 1))
@@ -165,17 +166,17 @@ module _ {text : List ℕ} {at : ℕ} {entry : List ℕ} {count place : ℕ} {ta
       one_more = rw (length-append, s.many)
 
       -- LF ends the list
-      pub reading_last : b ≡ 10 → ListRead text (read_list (length text) text at) entry exit (record { ok = true; count = count + 1; next = n.next + 1 })
+      pub reading_last : b ≡ 10 → ListRead text (read_list (length text) text at) entry exit (Some (record { count = count + 1; next = n.next + 1 }))
       unfolding prefixed
       reading_last p =
           let z : read_list (length text) text at ≡ record { ok = true; values = s.values ++ (n.value ∷ []); next = n.next + 1 } =
           s.left ∙ rw (fewer, line_feed text place (length text - (count + 1)) read (behind 10 p), ← en) in
           let w : n.next < length text = reading_within (omega arith) in
           rw z
-          record { ok = refl; count = sym one_more; next = refl; within = omega arith; filled = λ q h. exit-filled (rw one_more at h) }
+          record { gives = rw one_more; within = omega arith; filled = λ q h. exit-filled (rw one_more at h) }
 
       -- any other byte but a comma
-      pub reading_broken : (b ≡ 10 → ⊥) → (b ≡ 44 → ⊥) → ListRead text (read_list (length text) text at) entry exit (record { ok = false; count = 0; next = 0 })
+      pub reading_broken : (b ≡ 10 → ⊥) → (b ≡ 44 → ⊥) → ListRead text (read_list (length text) text at) entry exit None
       reading_broken p q = failed (rw fewer (neither text place (length text - (count + 1)) read (not_behind 44 q) (not_behind 10 p)))
 
       -- a comma

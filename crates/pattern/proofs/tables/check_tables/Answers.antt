@@ -1,7 +1,7 @@
 use mathlib.Core.Path.{◌∙◌, sym}
 use Rattle.encoding.specs.Refusal.{first_failed}
 use Rattle.pattern.specs.Calls.{table_checks}
-use Rattle.pattern.proofs.tables.tables_refusal.Goals as goal
+use Rattle.pattern.proofs.tables.check_tables.Goals as goal
 
 pub returns-then-not-both_ranks_ok : goal.returns-then-not-both_ranks_ok
 unfolding table_checks first_failed

@@ -7,8 +7,7 @@ use borrow.Author.Tests.{eqb-true, eq-eqb, ne_eqb}
 use Rattle.encoding.specs.Below.{all_below, least_below}
 use Rattle.encoding.proofs.Below.{all_at, all_more, all_to, any_intro, any_none, least_is}
 use Rattle.faults.specs.declared.answer.Fault.{Fault}
-use Rattle.faults.specs.declared.answer.Wrong.{Wrong}
-use Rattle.faults.specs.Answer.{wrong, is_fault, no_fault, fault_at, first_place, first_fault}
+use Rattle.faults.specs.Answer.{Wrong, wrong, is_fault, no_fault, fault_at, first_place, first_fault}
 use Rattle.faults.specs.Record.{first_face}
 
 -- a check of something only where something else holds

@@ -1,4 +1,5 @@
 -- Laws of faults, for this crate's proofs and for the crates above.
+pub mod Positive
 pub mod Firsts
 pub mod Records
 pub mod Right

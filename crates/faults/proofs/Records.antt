@@ -10,7 +10,7 @@ use Rattle.encoding.specs.Refusal.{first_failed}
 use Rattle.encoding.proofs.Below.{clash}
 use Rattle.encoding.specs.Pieces.{piece}
 use Rattle.records.specs.Shape.{shape_ok, dimension_of, face_count}
-use Rattle.records.specs.Record.{core_size, tree_size, region_limit, unused, shape_of, neighbour_of, code_of, face_of, orientation_of, zeros_ok, region_of, region_ok, unused_ok, to_itself, boundary_ok}
+use Rattle.records.specs.Record.{core_size, tree_size, unused, shape_of, neighbour_of, code_of, face_of, orientation_of, zeros_ok, region_ok, unused_ok, to_itself, boundary_ok}
 use Rattle.mesh.specs.Mesh.{mesh_header, mesh_core}
 use Rattle.faults.specs.Record.{record_kind, face_kind, link_kind}
 use Rattle.faults.specs.Mesh.{tree_link_kind, tree_face_kind}
@@ -28,18 +28,18 @@ module _ (r : List ℕ) (D : ℕ) {i : Bool} where
     unfolding record_kind first_failed
     shape_wrong e = rw (g1, ← ps, ← pb, e)
 
-    module _ (g2 : b ≡ true) {z : Bool} (pz : z ≡ zeros_ok r) {g : ℕ} (pg : g ≡ region_of r) where
-      pub bytes_wrong : (z && ltb g region_limit) ≡ false → 9 ≡ record_kind i D r
-      unfolding record_kind first_failed region_ok
+    module _ (g2 : b ≡ true) {z : Bool} (pz : z ≡ zeros_ok r) {g : Bool} (pg : g ≡ region_ok r) where
+      pub bytes_wrong : (z && g) ≡ false → 9 ≡ record_kind i D r
+      unfolding record_kind first_failed
       bytes_wrong e = rw (g1, ← ps, ← pb, g2, ← pz, ← pg, e)
 
-      module _ (g3 : (z && ltb g region_limit) ≡ true) {d : ℕ} (pd : d ≡ dimension_of s) where
+      module _ (g3 : (z && g) ≡ true) {d : ℕ} (pd : d ≡ dimension_of s) where
         pub dimension_wrong : (d ≡ D → ⊥) → 12 ≡ record_kind i D r
-        unfolding record_kind first_failed region_ok
+        unfolding record_kind first_failed
         dimension_wrong h = rw (g1, ← ps, ← pb, g2, ← pz, ← pg, g3, ← pd, ne_eqb d D h)
 
         pub record_right : d ≡ D → 0 ≡ record_kind i D r
-        unfolding record_kind first_failed region_ok
+        unfolding record_kind first_failed
         record_right h = rw (g1, ← ps, ← pb, g2, ← pz, ← pg, g3, ← pd, eq-eqb d D h)
 
 -- ---- the form of a face

@@ -16,10 +16,9 @@ use Rattle.records.proofs.Forms.{form_intro, form_shape, form_zeros, form_region
 use Rattle.mesh.specs.Link.{orientation_ok, same_corners, answered, link_ok}
 use Rattle.mesh.specs.Mesh.{face_sound, tree_sound}
 use Rattle.mesh.specs.Means.{link_between}
-use Rattle.faults.specs.Answer.{is_fault}
+use Rattle.faults.specs.Answer.{Wrong, is_fault}
 use Rattle.faults.specs.Record.{record_kind, face_kind, link_kind, first_face, record_wrong}
 use Rattle.faults.specs.Mesh.{tree_link_kind, tree_face_kind, tree_wrong}
-use Rattle.faults.specs.declared.answer.Wrong.{Wrong}
 
 four_zero : (a b c d : Bool) → eqb (cond a (cond b (cond c (cond d 0 12) 9) 8) 7) 0 ≡ (a && b && c && d)
 four_zero true true true true = refl

@@ -11,8 +11,7 @@ use Rattle.encoding.proofs.Below.{all_same}
 use Rattle.records.specs.Record.{core_size, tree_size, number_of}
 use Rattle.mesh.specs.Mesh.{mesh_header, mesh_dimension, mesh_trees, mesh_core, header_sound, tree_sound}
 use Rattle.faults.specs.declared.answer.Fault.{Fault}
-use Rattle.faults.specs.declared.answer.Wrong.{Wrong}
-use Rattle.faults.specs.Answer.{wrong, fault_at, first_fault}
+use Rattle.faults.specs.Answer.{Wrong, wrong, fault_at, first_fault}
 use Rattle.faults.specs.Record.{record_kind, first_face, record_wrong}
 use Rattle.faults.specs.Mesh.{tree_face_kind, tree_wrong}
 use Rattle.faults.specs.Calls.{mesh_fault_of}
@@ -37,8 +36,8 @@ module _ (m : List ℕ) (D K k : ℕ) {at n kind : ℕ} (here : at ≡ mesh_head
   tree_found h e = e ∙ rw (← read, eq-eqb kind 0 h)
 
 -- the kind of tree k
-abbrev pub kind_of : (ℕ → List ℕ) → ℕ → ℕ → ℕ → ℕ
-kind_of core D K k = (tree_wrong core D K k).kind
+abbrev pub kind_at : (ℕ → List ℕ) → ℕ → ℕ → ℕ → ℕ
+kind_at core D K k = (tree_wrong core D K k).kind
 
 -- what the check of a tree tells
 module _ (core : ℕ → List ℕ) (D K k : ℕ) {b : Bool} (pb : b ≡ tree_by_dimension core D K k) where
@@ -52,17 +51,17 @@ module _ (core : ℕ → List ℕ) (D K k : ℕ) {b : Bool} (pb : b ≡ tree_by_
   tree_fails h e z = eqb-false (tree_wrong core D K k).kind 0 (sym right ∙ h) (sym (ap (λ (w : Wrong). w.kind) e) ∙ z)
 
 -- nothing is wrong with trees that pass it
-pub trees_pass : (core : ℕ → List ℕ) (D K k : ℕ) → all_below k (tree_by_dimension core D K) ≡ true → quiet (kind_of core D K) k ≡ true
+pub trees_pass : (core : ℕ → List ℕ) (D K k : ℕ) → all_below k (tree_by_dimension core D K) ≡ true → quiet (kind_at core D K) k ≡ true
 unfolding quiet
-trees_pass core D K k all = sym (all_same k (tree_by_dimension core D K) (λ j. eqb (kind_of core D K j) 0) (λ j h. right core D K j refl)) ∙ all
+trees_pass core D K k all = sym (all_same k (tree_by_dimension core D K) (λ j. eqb (kind_at core D K j) 0) (λ j h. right core D K j refl)) ∙ all
 
 -- ---- a whole mesh
 
 module _ (m : List ℕ) {D K : ℕ} (pD : D ≡ mesh_dimension m) (pK : K ≡ mesh_trees m) where
   -- nothing is wrong with any tree exactly where all are sound
-  pub trees_right : quiet (kind_of (mesh_core m) D K) K ≡ all_below K (tree_sound (mesh_core m) D K)
+  pub trees_right : quiet (kind_at (mesh_core m) D K) K ≡ all_below K (tree_sound (mesh_core m) D K)
   unfolding quiet
-  trees_right = all_same K (λ k. eqb (kind_of (mesh_core m) D K k) 0) (tree_sound (mesh_core m) D K) (λ k h. tree_right (mesh_core m) D K k)
+  trees_right = all_same K (λ k. eqb (kind_at (mesh_core m) D K k) 0) (tree_sound (mesh_core m) D K) (λ k h. tree_right (mesh_core m) D K k)
 
   pub mesh_searched : {a : Fault} → header_sound m ≡ true → a ≡ first_fault 7 K (tree_wrong (mesh_core m) D K) → a ≡ mesh_fault_of m
   unfolding mesh_fault_of

@@ -11,8 +11,7 @@ use Rattle.encoding.specs.Refusal.{first_failed}
 use Rattle.encoding.proofs.Below.{either, clash, all_intro, all_fails, any_false, least_lt, least_at, least_below_lem}
 use Rattle.mesh.specs.Mesh.{mesh_dimension, mesh_trees, mesh_core, header_sound, mesh_sound, mesh_refusal}
 use Rattle.faults.specs.declared.answer.Fault.{Fault}
-use Rattle.faults.specs.declared.answer.Wrong.{Wrong}
-use Rattle.faults.specs.Answer.{wrong, is_fault, first_place, first_fault}
+use Rattle.faults.specs.Answer.{Wrong, wrong, is_fault, first_place, first_fault}
 use Rattle.faults.specs.Record.{record_kind, first_face, record_wrong}
 use Rattle.records.specs.Record.{number_of}
 use Rattle.faults.specs.Mesh.{tree_face_kind, tree_wrong}

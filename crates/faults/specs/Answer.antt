@@ -2,9 +2,12 @@
 use Rattle.std.specs.Prelude.{ℕ, Bool, cond, not, eqb}
 use Rattle.encoding.specs.Below.{any_below, least_below}
 use Rattle.faults.specs.declared.answer.Fault.{Fault}
-use Rattle.faults.specs.declared.answer.Wrong.{Wrong}
 
--- what is wrong at a place: the kind, 0 for nothing, and the face
+-- what is wrong at a place: the kind, 0 for nothing, and the face, 0 where the kind has none
+pub record Wrong : Type 0 where
+  pub kind : ℕ
+  pub face : ℕ
+
 abbrev pub wrong : ℕ → ℕ → Wrong
 wrong kind face = record { kind = kind; face = face }
 

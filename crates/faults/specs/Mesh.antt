@@ -1,7 +1,7 @@
 -- What may be wrong with a tree of a whole mesh. core k is the core of tree k, K the number of trees.
 use Rattle.std.specs.Prelude.{ℕ, cond, List, ltb, eqb}
 use Rattle.records.specs.Record.{number_of, neighbour_of}
-use Rattle.faults.specs.declared.answer.Wrong.{Wrong}
+use Rattle.faults.specs.Answer.{Wrong}
 use Rattle.faults.specs.Record.{record_kind, face_kind, link_kind, first_face, record_wrong}
 
 -- the link of face f of tree k

@@ -5,8 +5,7 @@ use Rattle.encoding.specs.Refusal.{check, first_failed}
 use Rattle.records.specs.Shape.{shape_ok, dimension_of, face_count}
 use Rattle.records.specs.Record.{shape_of, zeros_ok, region_ok, unused_ok, boundary_ok}
 use Rattle.mesh.specs.Link.{orientation_ok, same_corners, answered}
-use Rattle.faults.specs.declared.answer.Wrong.{Wrong}
-use Rattle.faults.specs.Answer.{wrong, is_fault}
+use Rattle.faults.specs.Answer.{Wrong, wrong, is_fault}
 
 -- the kinds without a face
 --   7  its number is out of order

@@ -2,20 +2,29 @@
 #![tactic(auto)]
 
 ghost use Rattle.std.specs.Prelude.{◌≡◌};
+ghost use Rattle.faults.specs.Kinds.{fault_of};
 ghost use Rattle.faults.specs.Calls.{mesh_fault_of};
 
-use answer::{Fault, Wrong};
+use answer::{Kind, Place, Wrong};
+use encoding::refusal::Refusal;
 
 pub mod answer;
 pub mod record;
 pub mod tree;
 
 // The first fault of a whole mesh (no refusal).
-pub fn mesh_fault(mesh: &[u8]) -> Fault
-    ensures { result ≡ mesh_fault_of mesh.now }
+pub fn mesh_fault(mesh: &[u8]) -> Option<Place>
+    ensures { fault_of result ≡ mesh_fault_of mesh.now }
 {
     if !mesh::layout::header_sound(mesh) {
-        return answer::found(7, 0, Wrong { kind: 6, face: 0 });
+        return Some(Place {
+            fault: Refusal::Mesh,
+            at: 0,
+            wrong: Wrong {
+                kind: Kind::Header,
+                face: 0,
+            },
+        });
     }
     tree::first_wrong(
         mesh,

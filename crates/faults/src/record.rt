@@ -2,41 +2,36 @@
 ghost use Rattle.std.specs.Prelude.{◌≡◌, ◌+◌, ◌≤◌, ◌<◌, ltb, length};
 ghost use Rattle.encoding.specs.Pieces.{piece};
 ghost use Rattle.records.specs.Shape.{face_count};
-ghost use Rattle.records.specs.Record.{core_size, shape_of, zeros_ok};
+ghost use Rattle.records.specs.Record.{core_size, shape_of};
 ghost use Rattle.mesh.specs.Link.{same_corners, answered as is_answered};
+ghost use Rattle.faults.specs.Kinds.{kind_of};
 ghost use Rattle.faults.specs.Record.{record_kind, link_kind};
 ghost use Rattle.faults.specs.Means.{form_kind};
 
-use records::form::{REGIONS, UNUSED};
-use records::read::{code_of, face_of, neighbour_of, orientation_of, region_of, shape_of};
+use crate::answer::Kind;
+use records::form::{UNUSED, region_ok, zeros_ok};
+use records::read::{code_of, face_of, neighbour_of, orientation_of, shape_of};
 use records::shape::{dimension_of, face_count, shape_ok};
 
-fn zeros_ok(bs: &[u8], at: usize) -> bool
-    requires { at + core_size ≤ length bs.now }
-    ensures { result ≡ zeros_ok (piece bs.now at core_size) }
-{
-    (bs[at + 5] == 0) & (bs[at + 6] == 0) & (bs[at + 7] == 0)
-}
-
 // The kinds without a face.
-pub fn record_kind(bs: &[u8], at: usize, in_order: bool, dimension: u32) -> u32
+pub fn check_record(bs: &[u8], at: usize, in_order: bool, dimension: u32) -> Result<(), Kind>
     requires { at + core_size ≤ length bs.now }
-    ensures { result ≡ record_kind in_order dimension (piece bs.now at core_size) }
+    ensures { kind_of result ≡ record_kind in_order dimension (piece bs.now at core_size) }
 {
     if !in_order {
-        return 7;
+        return Err(Kind::Number);
     }
     let shape = shape_of(bs, at);
     if !shape_ok(shape) {
-        return 8;
+        return Err(Kind::Shape);
     }
-    if !(zeros_ok(bs, at) & (region_of(bs, at) < REGIONS)) {
-        return 9;
+    if !(zeros_ok(bs, at) & region_ok(bs, at)) {
+        return Err(Kind::Bytes);
     }
     if dimension_of(shape) != dimension {
-        return 12;
+        return Err(Kind::Dimension);
     }
-    0
+    Ok(())
 }
 
 // Whether the shape has the face.
@@ -48,21 +43,21 @@ pub fn has_face(bs: &[u8], at: usize, face: u32) -> bool
 }
 
 // A face that the shape doesn't have is marked so, and a boundary has no orientation.
-pub fn form_kind(bs: &[u8], at: usize, own: u32, face: u32) -> u32
+pub fn check_form(bs: &[u8], at: usize, own: u32, face: u32) -> Result<(), Kind>
     requires { (at + core_size ≤ length bs.now) × (face < 6) }
-    ensures { result ≡ form_kind own (piece bs.now at core_size) face }
+    ensures { kind_of result ≡ form_kind own (piece bs.now at core_size) face }
 {
     let n = neighbour_of(bs, at, face);
     if has_face(bs, at, face) {
         if (n == own) & (face_of(bs, at, face) == face) & (orientation_of(bs, at, face) != 0) {
-            return 11;
+            return Err(Kind::Boundary);
         }
-        return 0;
+        return Ok(());
     }
     if (n == UNUSED) & (code_of(bs, at, face) == 0) {
-        return 0;
+        return Ok(());
     }
-    10
+    Err(Kind::Unused)
 }
 
 fn same_corners(bs: &[u8], at: usize, face: u32, to: usize) -> bool
@@ -84,18 +79,18 @@ fn answered(bs: &[u8], back: u32, at: usize, face: u32, to: usize) -> bool
 }
 
 // The rule of a link, each record read by its own shape. The neighbour's link leads back to `back`, as it is stored there.
-pub fn link_kind(bs: &[u8], back: u32, at: usize, face: u32, to: usize) -> u32
+pub fn check_link(bs: &[u8], back: u32, at: usize, face: u32, to: usize) -> Result<(), Kind>
     requires { (at + core_size ≤ length bs.now) × (face < 6) × (to + core_size ≤ length bs.now) }
-    ensures { result ≡ link_kind back (piece bs.now at core_size) face (piece bs.now to core_size) }
+    ensures { kind_of result ≡ link_kind back (piece bs.now at core_size) face (piece bs.now to core_size) }
 {
     if !mesh::link::orientation_ok(bs, at, face) {
-        return 14;
+        return Err(Kind::Orientation);
     }
     if !same_corners(bs, at, face, to) {
-        return 15;
+        return Err(Kind::Corners);
     }
     if !answered(bs, back, at, face, to) {
-        return 16;
+        return Err(Kind::Answer);
     }
-    0
+    Ok(())
 }

@@ -6,61 +6,56 @@ ghost use Rattle.records.specs.Record.{tree_size};
 ghost use Rattle.mesh.specs.Mesh.{mesh_header, mesh_core};
 ghost use Rattle.mesh.specs.Means.{face_by_dimension, tree_by_dimension};
 ghost use Rattle.faults.specs.Answer.{first_fault};
+ghost use Rattle.faults.specs.Kinds.{fault_of, kind_of, wrong_of};
 ghost use Rattle.faults.specs.Record.{first_face};
 ghost use Rattle.faults.specs.Mesh.{tree_face_kind, tree_wrong};
 
-use crate::answer::{Fault, Wrong, found, refused};
-use crate::record::{form_kind, has_face, link_kind, record_kind};
+use crate::answer::{Kind, Place, Wrong};
+use crate::record::{check_form, check_link, check_record, has_face};
+use encoding::refusal::Refusal;
 use mesh::layout::tree_at;
 use mesh::link::link_ok;
 use mesh::plain::link_alike;
 use records::read::{code_of, neighbour_of, number_of, shape_of};
 
 // The neighbour's record is read only once its number is known to be below K.
-fn tree_face(mesh: &[u8], trees: u32, k: u32, face: u32) -> u32
+fn check_face(mesh: &[u8], trees: u32, k: u32, face: u32) -> Result<(), Kind>
     requires { (length mesh.now ≡ mesh_header + tree_size * trees) × (k < trees) × (face < 6) }
-    ensures { result ≡ tree_face_kind (mesh_core mesh.now) trees k face }
+    ensures { kind_of result ≡ tree_face_kind (mesh_core mesh.now) trees k face }
 {
     let at = tree_at(k);
-    let kind = form_kind(mesh, at, k, face);
-    if kind != 0 {
-        return kind;
-    }
+    check_form(mesh, at, k, face)?;
     if !has_face(mesh, at, face) {
-        return 0;
+        return Ok(());
     }
     let n = neighbour_of(mesh, at, face);
     if trees <= n {
-        return 13;
+        return Err(Kind::Neighbour);
     }
-    link_kind(mesh, k, at, face, tree_at(n))
+    check_link(mesh, k, at, face, tree_at(n))
 }
 
-fn tree_faces(mesh: &[u8], trees: u32, k: u32) -> Wrong
+fn wrong_face(mesh: &[u8], trees: u32, k: u32) -> Option<Wrong>
     requires { (length mesh.now ≡ mesh_header + tree_size * trees) × (k < trees) }
-    ensures { result ≡ first_face (tree_face_kind (mesh_core mesh.now) trees k) }
+    ensures { wrong_of result ≡ first_face (tree_face_kind (mesh_core mesh.now) trees k) }
 {
-    let mut face = 0;
-    while face < 6 {
-        let kind = tree_face(mesh, trees, k, face);
-        if kind != 0 {
-            return Wrong { kind, face };
+    for face in 0..6 {
+        if let Err(kind) = check_face(mesh, trees, k, face) {
+            return Some(Wrong { kind, face });
         }
-        face += 1;
     }
-    Wrong { kind: 0, face: 0 }
+    None
 }
 
-fn tree_wrong(mesh: &[u8], dimension: u32, trees: u32, k: u32) -> Wrong
+fn wrong_tree(mesh: &[u8], dimension: u32, trees: u32, k: u32) -> Option<Wrong>
     requires { (length mesh.now ≡ mesh_header + tree_size * trees) × (k < trees) }
-    ensures { result ≡ tree_wrong (mesh_core mesh.now) dimension trees k }
+    ensures { wrong_of result ≡ tree_wrong (mesh_core mesh.now) dimension trees k }
 {
     let at = tree_at(k);
-    let kind = record_kind(mesh, at, number_of(mesh, at) == k, dimension);
-    if kind != 0 {
-        return Wrong { kind, face: 0 };
+    if let Err(kind) = check_record(mesh, at, number_of(mesh, at) == k, dimension) {
+        return Some(Wrong { kind, face: 0 });
     }
-    tree_faces(mesh, trees, k)
+    wrong_face(mesh, trees, k)
 }
 
 // ---- the check of one tree, as mesh::sound makes it. It stands here again since a second caller of that one keeps the compiler from inlining it there, which would cost the check of a mesh two fifths more.
@@ -81,12 +76,10 @@ fn faces_right(mesh: &[u8], dimension: u32, trees: u32, k: u32, faces: u32) -> b
     requires { (length mesh.now ≡ mesh_header + tree_size * trees) × (k < trees) × (faces ≤ 6) }
     ensures { result ≡ all_below faces (face_by_dimension (mesh_core mesh.now) dimension trees k) }
 {
-    let mut at = 0;
-    while at < faces {
+    for at in 0..faces {
         if !face_right(mesh, dimension, trees, k, at) {
             return false;
         }
-        at += 1;
     }
     true
 }
@@ -114,8 +107,7 @@ fn plain_tree(mesh: &[u8], trees: u32, shape: u32, faces: u32, k: u32) -> bool
     if !records::form::alike(mesh, at, shape, faces, k) {
         return false;
     }
-    let mut next = 0;
-    while next < faces {
+    for next in 0..faces {
         let n = neighbour_of(mesh, at, next);
         if trees <= n {
             return false;
@@ -126,7 +118,6 @@ fn plain_tree(mesh: &[u8], trees: u32, shape: u32, faces: u32, k: u32) -> bool
         {
             return false;
         }
-        next += 1;
     }
     true
 }
@@ -150,29 +141,31 @@ fn plain_run(mesh: &[u8], dimension: u32, trees: u32) -> u32
         return 0;
     }
     let faces = records::shape::face_count(shape);
-    let mut k = 0;
-    while k < trees {
+    for k in 0..trees {
         if !plain_tree(mesh, trees, shape, faces, k) {
             return k;
         }
-        k += 1;
     }
-    k
+    trees
 }
 
 // ---- all trees
 
 // The first tree that is wrong. The check of a tree is faster than the search of its record, which is made only where the check fails.
-pub fn first_wrong(mesh: &[u8], dimension: u32, trees: u32) -> Fault
+pub fn first_wrong(mesh: &[u8], dimension: u32, trees: u32) -> Option<Place>
     requires { length mesh.now ≡ mesh_header + tree_size * trees }
-    ensures { result ≡ first_fault 7 trees (tree_wrong (mesh_core mesh.now) dimension trees) }
+    ensures { fault_of result ≡ first_fault 7 trees (tree_wrong (mesh_core mesh.now) dimension trees) }
 {
-    let mut k = plain_run(mesh, dimension, trees);
-    while k < trees {
+    for k in plain_run(mesh, dimension, trees)..trees {
         if !tree_right(mesh, dimension, trees, k) {
-            return found(7, k, tree_wrong(mesh, dimension, trees, k));
+            if let Some(wrong) = wrong_tree(mesh, dimension, trees, k) {
+                return Some(Place {
+                    fault: Refusal::Mesh,
+                    at: k,
+                    wrong,
+                });
+            }
         }
-        k += 1;
     }
-    refused(0)
+    None
 }

@@ -4,12 +4,15 @@ use native.Mathlib.Omega.{arith}
 use mathlib.Core.Path.{◌≡◌, refl, sym, ap, ◌∙◌}
 use mathlib.Core.Bool.{Bool, true, false, cond, ◌&&◌, and-true, and-false}
 use mathlib.Core.List.{List}
+use Rattle.std.specs.Prelude.{Some}
+use Rattle.std.specs.Int.{from_bool}
+use Rattle.std.specs.declared.option.Option.{Option}
 use lib.Dec.{eqb, ltb, leb}
 use lib.ListN.{length}
 use borrow.Author.Tests.{leb-true, lt-ltb, le-ltb, ne_eqb}
 use Rattle.encoding.specs.Below.{all_below, count_below, sum_below}
 use Rattle.encoding.specs.Pieces.{piece}
-use Rattle.encoding.proofs.Below.{clash, all_fails, all_more, all_to, count_more, sum_more}
+use Rattle.encoding.proofs.Below.{all_fails, all_more, all_to, count_more, sum_more}
 use Rattle.offsets.specs.Limits.{tree_count_ok}
 use Rattle.records.specs.Shape.{shape_ok, dimension_of, face_count, faces_in}
 use Rattle.records.specs.Record.{core_size, tree_size, number_of, shape_of, neighbour_of, code_of, zeros_ok, region_ok, boundary_ok, in_form}
@@ -17,6 +20,8 @@ use Rattle.records.specs.Means.{unused_from}
 use Rattle.mesh.specs.Mesh.{mesh_header, mesh_dimension, mesh_trees, dimension_ok, mesh_core, header_sound, mesh_sound}
 use Rattle.mesh.specs.Means.{corners_fit, corners_by_dimension, answered_there, answered_by_dimension, link_by_dimension, face_by_dimension, tree_by_dimension, leads_up, leads_down, links_up, links_down}
 use Rattle.mesh.specs.Means.{alone_by_dimension, leads_inside, listed_link, down_sound, listed_sound, face_from_above, tree_from_above, trees_from_above, SeenAs, FacesAs, Reached, RunAs}
+use Rattle.mesh.specs.declared.sound.Counts.{Counts}
+use Rattle.mesh.specs.declared.sound.Run.{Run}
 use Rattle.mesh.proofs.FromAbove.{trees_from_above_lem}
 use Rattle.mesh.proofs.Packing.{faces_both}
 
@@ -37,16 +42,12 @@ module _ (d back : ℕ) (r s : List ℕ) (f c g o : ℕ) (code : c ≡ code_of r
 
 -- ---- what is seen of a tree
 
--- a test that fails counts nothing
-pub seen_refused : {test : Bool} {up down : ℕ} {ok : Bool} {ups downs : ℕ} → test ≡ false → (ok ≡ false) × ((ups ≡ 0) × (downs ≡ 0)) → SeenAs test up down ok ups downs
-seen_refused e r = record { tested = r.0 ∙ sym e; upward = λ t. clash t r.0; downward = λ t. clash t r.0; few = (omega (arith, r.1.0), omega (arith, r.1.1)) }
-
 -- a loop over the faces that has come to its end
-pub seen_all : {ups downs : ℕ} (n face : ℕ) (f p q : ℕ → Bool) → face ≤ n → n ≤ face → n ≤ 6 → all_below face f ≡ true → (ups ≡ count_below face p) × (ups ≤ face) → (downs ≡ count_below face q) × (downs ≤ face)
-    → SeenAs (all_below n f) (count_below n p) (count_below n q) true ups downs
+pub seen_all : {seen : Counts} (n face : ℕ) (f p q : ℕ → Bool) → face ≤ n → n ≤ face → n ≤ 6 → all_below face f ≡ true → (seen.ups ≡ count_below face p) × (seen.ups ≤ face) → (seen.downs ≡ count_below face q) × (seen.downs ≤ face)
+    → SeenAs (all_below n f) (count_below n p) (count_below n q) 6 (Some seen)
 seen_all n face f p q h k six a u v =
     let e : face ≡ n = omega arith in
-    record { tested = sym (all_to n f face h k a); upward = λ t. rw (sym e) u.0; downward = λ t. rw (sym e) v.0; few = (omega (arith, u.1), omega (arith, v.1)) }
+    (all_to n f face h k a, record { upward = rw (sym e) u.0; downward = rw (sym e) v.0; few = (omega (arith, u.1), omega (arith, v.1)) })
 
 -- both passes over the faces
 module _ (core : ℕ → List ℕ) (d k K n : ℕ) (tree : k < K) where
@@ -56,16 +57,21 @@ module _ (core : ℕ → List ℕ) (d k K n : ℕ) (tree : k < K) where
   pub faces_off : all_below n (listed_sound core d k) ≡ false → all_below n (face_from_above core d K k) ≡ false
   faces_off e = rw (faces_both core d k K tree n, e, and-false)
 
-  pub faces_seen : {up down ups downs : ℕ} {ok : Bool} → all_below n (listed_sound core d k) ≡ true → SeenAs (all_below n (leads_inside core K k)) up down ok ups downs → ok ≡ true
-      → SeenAs (all_below n (face_from_above core d K k)) up down true ups downs
-  faces_seen e s passes =
-      let inside : all_below n (leads_inside core K k) ≡ true = sym s.tested ∙ passes in
-      let both : all_below n (face_from_above core d K k) ≡ true = rw (faces_both core d k K tree n, inside, e) in
-      record { tested = sym both; upward = λ t. s.upward passes; downward = λ t. s.downward passes; few = s.few }
+  pub faces_seen : all_below n (listed_sound core d k) ≡ true → all_below n (leads_inside core K k) ≡ true → all_below n (face_from_above core d K k) ≡ true
+  faces_seen e inside = rw (faces_both core d k K tree n, inside, e)
+
+-- what counts as 1
+bit : (b : Bool) → from_bool b ≡ cond {A = ℕ} b 1 0
+bit true = refl
+bit false = refl
+
+pub bit_most : (b : Bool) → from_bool b ≤ 1
+bit_most true = omega arith
+bit_most false = omega arith
 
 -- one more number that may count
-pub count_next : {n r : ℕ} {b : Bool} (i : ℕ) (f : ℕ → Bool) → r ≡ cond b 1 0 → b ≡ f i → n ≡ count_below i f → n + r ≡ count_below (i + 1) f
-count_next i f e p h = rw (count_more i f, h, e, p)
+pub count_next : {n r : ℕ} {b : Bool} (i : ℕ) (f : ℕ → Bool) → r ≡ from_bool b → b ≡ f i → n ≡ count_below i f → n + r ≡ count_below (i + 1) f
+count_next i f e p h = rw (count_more i f, h, e, p, bit (f i))
 
 -- a number that doesn't count
 pub count_stays : {n : ℕ} (i : ℕ) (f : ℕ → Bool) → f i ≡ false → n ≡ count_below i f → n ≡ count_below (i + 1) f
@@ -93,17 +99,17 @@ module _ (test p q : ℕ → Bool) where
             downward = (count_stays f q d before.downward.0, omega (arith, before.downward.1));
           }
 
-      pub faces_down_lem : {r : ℕ} {b : Bool} → p f ≡ false → (r ≡ cond b 1 0) × (r ≤ 1) → b ≡ q f → FacesAs test p q (f + 1) ups (downs + r)
-      faces_down_lem u one d =
+      pub faces_down_lem : {r : ℕ} {b : Bool} → p f ≡ false → r ≡ from_bool b → b ≡ q f → FacesAs test p q (f + 1) ups (downs + r)
+      faces_down_lem {b = b} u one d =
           record {
             passed = all_more f test before.passed passes;
             upward = (count_stays f p u before.upward.0, omega (arith, before.upward.1));
-            downward = (count_next f q one.0 d before.downward.0, omega (arith, before.downward.1, one.1));
+            downward = (count_next f q one d before.downward.0, omega (arith, before.downward.1, one, bit_most b));
           }
 
-    -- all of them
-    pub faces_all : (n : ℕ) → f ≤ n → n ≤ f → n ≤ 6 → SeenAs (all_below n test) (count_below n p) (count_below n q) true ups downs
-    faces_all n h k six = seen_all n f test p q h k six before.passed before.upward before.downward
+  -- all of them
+  pub faces_all : {seen : Counts} (f : ℕ) → FacesAs test p q f seen.ups seen.downs → (n : ℕ) → f ≤ n → n ≤ f → n ≤ 6 → SeenAs (all_below n test) (count_below n p) (count_below n q) 6 (Some seen)
+  faces_all f before n h k six = seen_all n f test p q h k six before.passed before.upward before.downward
 
 -- ---- runs
 
@@ -114,26 +120,36 @@ module _ (test : ℕ → Bool) (p q : ℕ → ℕ) where
   reached_none = record { passed = refl; upward = refl; downward = refl }
 
   -- one more record
-  pub reached_next : {ok : Bool} {up down ups downs : ℕ} (i : ℕ) → Reached test p q i up down → SeenAs (test i) (p i) (q i) ok ups downs → ok ≡ true → Reached test p q (i + 1) (up + ups) (down + downs)
-  reached_next i r s t =
+  pub reached_next : {up down : ℕ} {seen : Counts} (i : ℕ) → Reached test p q i up down → SeenAs (test i) (p i) (q i) 6 (Some seen) → Reached test p q (i + 1) (up + seen.ups) (down + seen.downs)
+  reached_next i r s =
       record {
-        passed = all_more i test r.passed (sym s.tested ∙ t);
-        upward = sum_next i p (s.upward t) r.upward;
-        downward = sum_next i q (s.downward t) r.downward;
+        passed = all_more i test r.passed s.0;
+        upward = sum_next i p s.1.upward r.upward;
+        downward = sum_next i q s.1.downward r.downward;
       }
 
   -- a run that doesn't go on, and one that goes on by a record
-  pub run_stays : (n start up down : ℕ) → start ≤ n → up ≤ 6 * start → down ≤ 6 * start → RunAs test p q n start up down start up down
-  run_stays n start up down h u d = record { on = omega arith; within = h; few = (u, d); reaches = λ r. r }
+  pub run_stays : (n : ℕ) (run : Run) → run.next ≤ n → run.seen.ups ≤ 6 * run.next → run.seen.downs ≤ 6 * run.next → RunAs test p q n run run
+  run_stays n run h u d = record { on = omega arith; within = h; few = (u, d); reaches = λ r. r }
 
-  pub run_next : {start up down more less ups downs : ℕ} {ok : Bool} (n i : ℕ) → RunAs test p q n start up down i more less → SeenAs (test i) (p i) (q i) ok ups downs → ok ≡ true → i < n
-      → RunAs test p q n start up down (i + 1) (more + ups) (less + downs)
-  run_next n i run s t h =
+  pub run_next : {start : Run} {ups downs : ℕ} {seen : Counts} (n i : ℕ) → RunAs test p q n start (record { next = i; seen = record { ups = ups; downs = downs } }) → SeenAs (test i) (p i) (q i) 6 (Some seen) → i < n
+      → RunAs test p q n start (record { next = i + 1; seen = record { ups = ups + seen.ups; downs = downs + seen.downs } })
+  run_next n i run s h =
       record {
         on = omega (arith, run.on);
         within = omega arith;
-        few = (omega (arith, run.few.0, s.few.0), omega (arith, run.few.1, s.few.1));
-        reaches = λ r. reached_next i (run.reaches r) s t;
+        few = (omega (arith, run.few.0, s.1.few.0), omega (arith, run.few.1, s.1.few.1));
+        reaches = λ r. reached_next i (run.reaches r) s;
+      }
+
+  -- one that has come to the end
+  pub run_ends : {start : Run} {seen : Counts} (n i : ℕ) → n ≡ i → RunAs test p q n start (record { next = i; seen = seen }) → RunAs test p q n start (record { next = n; seen = seen })
+  run_ends n i e run =
+      record {
+        on = omega (arith, run.on);
+        within = omega arith;
+        few = (omega (arith, run.few.0), omega (arith, run.few.1));
+        reaches = λ r. rw e (run.reaches r);
       }
 
 -- ---- the header and all trees
@@ -237,11 +253,11 @@ module _ (m : List ℕ) where
       unfolding tree_from_above
       tree_unused e = let u : all_below 6 (unused_from faces (mesh_core m k)) ≡ false = rw here-is e in rw (← faces-here, u, and-false)
 
-      pub tree_seen_lem : {ok : Bool} {ups downs : ℕ} → alone_by_dimension d k (piece m at core_size) ≡ true → all_below 6 (unused_from faces (piece m at core_size)) ≡ true
-          → SeenAs (all_below faces (face_from_above (mesh_core m) d K k)) (count_below faces (leads_up (mesh_core m) k)) (count_below faces (leads_down (mesh_core m) k)) ok ups downs
-          → SeenAs (tree_from_above (mesh_core m) d K k) (links_up (mesh_core m) k) (links_down (mesh_core m) k) ok ups downs
+      pub tree_seen_lem : (seen : Option Counts) → alone_by_dimension d k (piece m at core_size) ≡ true → all_below 6 (unused_from faces (piece m at core_size)) ≡ true
+          → SeenAs (all_below faces (face_from_above (mesh_core m) d K k)) (count_below faces (leads_up (mesh_core m) k)) (count_below faces (leads_down (mesh_core m) k)) 6 seen
+          → SeenAs (tree_from_above (mesh_core m) d K k) (links_up (mesh_core m) k) (links_down (mesh_core m) k) 6 seen
       unfolding tree_from_above links_up links_down
-      tree_seen_lem a u s =
+      tree_seen_lem seen a u s =
           let alone : alone_by_dimension d k (mesh_core m k) ≡ true = rw here-is a in
           let unused : all_below 6 (unused_from faces (mesh_core m k)) ≡ true = rw here-is u in
           rw (← faces-here, alone, unused) s

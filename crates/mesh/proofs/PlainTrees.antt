@@ -16,6 +16,8 @@ use Rattle.records.specs.Means.{alike_form}
 use Rattle.records.proofs.Forms.{alike_used, alike_zeros, alike_region, alike_number, alike_shape, alike_form_lem, hexahedron_faces}
 use Rattle.mesh.specs.Mesh.{mesh_header, mesh_core}
 use Rattle.mesh.specs.Means.{corners_fit, answered_there, link_by_dimension, face_by_dimension, tree_by_dimension, face_passes, leads_up, leads_down, links_up, links_down, alone_by_dimension, face_from_above, tree_from_above, SeenAs}
+use Rattle.std.specs.Prelude.{Some}
+use Rattle.mesh.specs.declared.sound.Counts.{Counts}
 use Rattle.mesh.proofs.Checking.{is_answered, leads_up_lem, leads_down_lem, tree_seen_lem, tree_read, face_read}
 
 -- ---- a link
@@ -89,11 +91,11 @@ module _ (m : List ℕ) (k : ℕ) {at : ℕ} (here : at ≡ mesh_header + tree_s
     alone =
         rw (alike_zeros 2 6 k (piece m at core_size) hexahedron, alike_region 2 6 k (piece m at core_size) hexahedron, alike_number 2 6 k (piece m at core_size) hexahedron, eq-eqb k k refl, tree_shape)
 
-    pub plain_seen : {ok : Bool} {ups downs : ℕ} (K : ℕ) → SeenAs (all_below 6 (face_from_above (mesh_core m) 3 K k)) (count_below 6 (leads_up (mesh_core m) k)) (count_below 6 (leads_down (mesh_core m) k)) ok ups downs
-        → SeenAs (tree_from_above (mesh_core m) 3 K k) (links_up (mesh_core m) k) (links_down (mesh_core m) k) ok ups downs
-    plain_seen K s =
+    pub plain_seen : {seen : Counts} (K : ℕ) → SeenAs (all_below 6 (face_from_above (mesh_core m) 3 K k)) (count_below 6 (leads_up (mesh_core m) k)) (count_below 6 (leads_down (mesh_core m) k)) 6 (Some seen)
+        → SeenAs (tree_from_above (mesh_core m) 3 K k) (links_up (mesh_core m) k) (links_down (mesh_core m) k) 6 (Some seen)
+    plain_seen {seen} K s =
         let six : face_count (shape_of (piece m at core_size)) ≡ 6 = hexahedron_faces k (piece m at core_size) hexahedron in
-        tree_seen_lem m 3 K k here refl (sym six) alone (alike_used 2 6 k (piece m at core_size) hexahedron) s
+        tree_seen_lem m 3 K k here refl (sym six) (Some seen) alone (alike_used 2 6 k (piece m at core_size) hexahedron) s
 
 -- ---- a tree of which each link is looked at, and its neighbours have its shape
 

@@ -1,10 +1,14 @@
 -- Means, no part of what is promised: the rule of a link between two records, and the same read by the dimension. In proofs/ByDimension.antt: where all records have the dimension, the two say the same.
-use Rattle.std.specs.Prelude.{ℕ, zero, suc, ◌+◌, ◌*◌, ◌/◌, ◌%◌, ◌≤◌, ◌≡◌, Bool, true, cond, ◌&&◌, List, ltb, leb, eqb}
+use Rattle.std.specs.Prelude.{ℕ, zero, suc, ◌+◌, ◌*◌, ◌/◌, ◌%◌, ◌≤◌, ◌≡◌, Bool, true, false, cond, ◌&&◌, List, Some, None, ltb, leb, eqb}
+use Rattle.std.specs.declared.option.Option.{Option}
 use Rattle.encoding.specs.Below.{all_below, count_below, sum_below}
 use Rattle.records.specs.Shape.{shape_ok, dimension_of, face_count, faces_in, corners}
 use Rattle.records.specs.Record.{number_of, shape_of, neighbour_of, code_of, region_ok, zeros_ok, boundary_ok, in_form}
 use Rattle.records.specs.Means.{unused_from}
 use Rattle.mesh.specs.Link.{orientation_ok, same_corners, answered}
+use Rattle.mesh.specs.declared.sound.Counts.{Counts}
+use Rattle.mesh.specs.declared.sound.Links.{Links}
+use Rattle.mesh.specs.declared.sound.Run.{Run}
 
 -- both faces have as many corners, and the orientation is below these
 unfoldable pub corners_fit : ℕ → ℕ → ℕ → ℕ → ℕ → Bool
@@ -91,12 +95,21 @@ tree_from_above core d K k =
 unfoldable pub trees_from_above : (ℕ → List ℕ) → ℕ → ℕ → Bool
 trees_from_above core d K = all_below K (tree_from_above core d K) && eqb (sum_below K (links_up core)) (sum_below K (links_down core))
 
--- what a loop over the faces of a tree answers: the test, and where it passes the links up and down
-pub record SeenAs (test : Bool) (up down : ℕ) (ok : Bool) (ups downs : ℕ) : Type 0 where
-  pub tested : ok ≡ test
-  pub upward : ok ≡ true → ups ≡ up
-  pub downward : ok ≡ true → downs ≡ down
-  pub few : (ups ≤ 6) × (downs ≤ 6)
+-- so many links up and down, each no more than most
+pub record CountsAs (up down most : ℕ) (seen : Counts) : Type 0 where
+  pub upward : seen.ups ≡ up
+  pub downward : seen.downs ≡ down
+  pub few : (seen.ups ≤ most) × (seen.downs ≤ most)
+
+-- what a look at records or faces answers: the links up and down where the test passes, none where it fails
+abbrev pub SeenAs : Bool → ℕ → ℕ → ℕ → Option Counts → Type 0
+SeenAs test up down most None = test ≡ false
+SeenAs test up down most (Some seen) = (test ≡ true) × CountsAs up down most seen
+
+-- the same of one record, and the list of those that don't lead up
+abbrev pub SortedAs : Bool → ℕ → ℕ → ℕ → Option Links → Type 0
+SortedAs test up down list None = test ≡ false
+SortedAs test up down list (Some links) = (test ≡ true) × CountsAs up down 6 links.counts × (links.list ≡ list)
 
 -- a loop over the faces that has come to face f: those before it pass, and so many of them lead up and down
 pub record FacesAs (test up down : ℕ → Bool) (f ups downs : ℕ) : Type 0 where
@@ -110,9 +123,9 @@ pub record Reached (test : ℕ → Bool) (up down : ℕ → ℕ) (next ups downs
   pub upward : ups ≡ sum_below next up
   pub downward : downs ≡ sum_below next down
 
--- a run over n records that had come to `start`, with so many links up and down, goes on to `next`
-pub record RunAs (test : ℕ → Bool) (up down : ℕ → ℕ) (n start up_before down_before next ups downs : ℕ) : Type 0 where
-  pub on : start ≤ next
-  pub within : next ≤ n
-  pub few : (ups ≤ 6 * next) × (downs ≤ 6 * next)
-  pub reaches : Reached test up down start up_before down_before → Reached test up down next ups downs
+-- a run over n records goes on from `start` to `end`
+pub record RunAs (test : ℕ → Bool) (up down : ℕ → ℕ) (n : ℕ) (start end : Run) : Type 0 where
+  pub on : start.next ≤ end.next
+  pub within : end.next ≤ n
+  pub few : (end.seen.ups ≤ 6 * end.next) × (end.seen.downs ≤ 6 * end.next)
+  pub reaches : Reached test up down start.next start.seen.ups start.seen.downs → Reached test up down end.next end.seen.ups end.seen.downs

@@ -1,5 +1,5 @@
 // Plain trees: those whose neighbours have their shape, above all hexahedra, as in a brick. Their links need fewer tests. These tests answer in one direction: what doesn't pass them is looked at by the general ones.
-ghost use Rattle.std.specs.Prelude.{◌≡◌, true, ◌+◌, ◌*◌, ◌≤◌, ◌<◌, length};
+ghost use Rattle.std.specs.Prelude.{◌≡◌, true, Some, IfSome, ◌+◌, ◌*◌, ◌≤◌, ◌<◌, length};
 ghost use Rattle.encoding.specs.Pieces.{piece};
 ghost use Rattle.records.specs.Record.{core_size, tree_size, shape_of};
 ghost use Rattle.mesh.specs.Mesh.{mesh_header, mesh_core};
@@ -7,7 +7,7 @@ ghost use Rattle.mesh.specs.Means.{link_by_dimension, links_up, links_down, tree
 
 use crate::layout::tree_at;
 use crate::link::{answered_there, corners_fit};
-use crate::sound::{Run, Seen, one, refused};
+use crate::sound::{Counts, Run};
 use records::read::{code_of, neighbour_of, shape_of};
 
 // The rule of a link in dimension 3 between two records of one shape.
@@ -23,24 +23,21 @@ pub fn link_alike(bs: &[u8], shape: u32, back: u32, at: usize, face: u32, to: us
 }
 
 // A hexahedron of a mesh; a link that leads up is only counted.
-fn plain_tree(mesh: &[u8], trees: u32, k: u32) -> Seen
+fn plain_tree(mesh: &[u8], trees: u32, k: u32) -> Option<Counts>
     requires { (length mesh.now ≡ mesh_header + tree_size * trees) × (k < trees) }
-    ensures { result.ok ≡ true → SeenAs (tree_from_above (mesh_core mesh.now) 3 trees k) (links_up (mesh_core mesh.now) k) (links_down (mesh_core mesh.now) k) result.ok result.ups result.downs }
+    ensures { IfSome result (λ seen. SeenAs (tree_from_above (mesh_core mesh.now) 3 trees k) (links_up (mesh_core mesh.now) k) (links_down (mesh_core mesh.now) k) 6 (Some seen)) }
 {
     let at = tree_at(k);
     if !records::form::alike(mesh, at, 2, 6, k) {
-        return refused();
+        return None;
     }
-    let mut next = 0;
     let mut ups = 0;
     let mut downs = 0;
-    while next < 6 {
-        let face = next;
-        next += 1;
+    for face in 0..6 {
         let n = neighbour_of(mesh, at, face);
         if k < n {
             if trees <= n {
-                return refused();
+                return None;
             }
             ups += 1;
         } else {
@@ -48,42 +45,41 @@ fn plain_tree(mesh: &[u8], trees: u32, k: u32) -> Seen
             if !(link_alike(mesh, 2, k, at, face, tree_at(n))
                 & ((n != k) | (code_of(mesh, at, face) < 6)))
             {
-                return refused();
+                return None;
             }
-            downs += one(n < k);
+            downs += u64::from(n < k);
         }
     }
-    Seen {
-        ok: true,
-        ups,
-        downs,
-    }
+    Some(Counts { ups, downs })
 }
 
 // Goes on with a run in dimension 3, as far as the trees are plain. By itself, so that few values are at hand in this loop, and all in registers.
 fn plain_run(mesh: &[u8], trees: u32, begun: Run) -> Run
-    requires { (length mesh.now ≡ mesh_header + tree_size * trees) × (begun.next ≤ trees) × (begun.ups ≤ 6 * begun.next) × (begun.downs ≤ 6 * begun.next) }
-    ensures { RunAs (tree_from_above (mesh_core mesh.now) 3 trees) (links_up (mesh_core mesh.now)) (links_down (mesh_core mesh.now)) trees begun.next begun.ups begun.downs result.next result.ups result.downs }
+    requires { (length mesh.now ≡ mesh_header + tree_size * trees) × (begun.next ≤ trees) × (begun.seen.ups ≤ 6 * begun.next) × (begun.seen.downs ≤ 6 * begun.next) }
+    ensures { RunAs (tree_from_above (mesh_core mesh.now) 3 trees) (links_up (mesh_core mesh.now)) (links_down (mesh_core mesh.now)) trees begun result }
 {
-    let mut next = begun.next;
-    let mut ups = begun.ups;
-    let mut downs = begun.downs;
-    while next < trees {
-        let seen = plain_tree(mesh, trees, next);
-        if !seen.ok {
-            return Run { next, ups, downs };
-        }
+    let mut ups = begun.seen.ups;
+    let mut downs = begun.seen.downs;
+    for next in begun.next..trees {
+        let Some(seen) = plain_tree(mesh, trees, next) else {
+            return Run {
+                next,
+                seen: Counts { ups, downs },
+            };
+        };
         ups += seen.ups;
         downs += seen.downs;
-        next += 1;
     }
-    Run { next, ups, downs }
+    Run {
+        next: trees,
+        seen: Counts { ups, downs },
+    }
 }
 
 // The same in any dimension; where the next tree is no hexahedron it costs one test.
 pub fn run_on(mesh: &[u8], dimension: u32, trees: u32, begun: Run) -> Run
-    requires { (length mesh.now ≡ mesh_header + tree_size * trees) × (begun.next < trees) × (begun.ups ≤ 6 * begun.next) × (begun.downs ≤ 6 * begun.next) }
-    ensures { RunAs (tree_from_above (mesh_core mesh.now) dimension trees) (links_up (mesh_core mesh.now)) (links_down (mesh_core mesh.now)) trees begun.next begun.ups begun.downs result.next result.ups result.downs }
+    requires { (length mesh.now ≡ mesh_header + tree_size * trees) × (begun.next < trees) × (begun.seen.ups ≤ 6 * begun.next) × (begun.seen.downs ≤ 6 * begun.next) }
+    ensures { RunAs (tree_from_above (mesh_core mesh.now) dimension trees) (links_up (mesh_core mesh.now)) (links_down (mesh_core mesh.now)) trees begun result }
 {
     if shape_of(mesh, tree_at(begun.next)) != 2 {
         return begun;

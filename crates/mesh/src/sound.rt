@@ -1,19 +1,18 @@
 // Whether a whole mesh is sound: its header, each tree's record, and each link looked at from the end with the higher number. Where as many links lead up as down, each link up is then the answer to one down (proofs/FromAbove.antt).
-ghost use Rattle.std.specs.Prelude.{◌≡◌, true, false, cond, ◌+◌, ◌*◌, ◌≤◌, ◌<◌, length};
+ghost use Rattle.std.specs.Prelude.{◌≡◌, true, cond, ◌+◌, ◌*◌, ◌≤◌, ◌<◌, length};
 ghost use Rattle.encoding.specs.Below.{all_below, count_below};
 ghost use Rattle.encoding.specs.Pieces.{piece};
 ghost use Rattle.records.specs.Record.{core_size, tree_size};
 ghost use Rattle.mesh.specs.Mesh.{mesh_header, mesh_core, mesh_sound};
-ghost use Rattle.mesh.specs.Means.{packed, link_by_dimension, leads_inside, listed_link, down_sound, listed_sound, leads_up, leads_down, links_up, links_down, alone_by_dimension, face_from_above, tree_from_above, trees_from_above, SeenAs};
+ghost use Rattle.mesh.specs.Means.{packed, link_by_dimension, leads_inside, listed_link, down_sound, listed_sound, leads_up, leads_down, links_up, links_down, alone_by_dimension, face_from_above, tree_from_above, trees_from_above, SeenAs, SortedAs};
 
 use crate::layout::{dimension, header_sound, tree_at, trees};
 use crate::link::{answered_there, corners_fit, parted};
 use crate::plain::run_on;
 
-// What the faces of a tree show: whether each passes, and how many links lead up and down.
+// How many links lead up and down.
 #[derive(Clone, Copy)]
-pub struct Seen {
-    pub ok: bool,
+pub struct Counts {
     pub ups: u64,
     pub downs: u64,
 }
@@ -22,29 +21,7 @@ pub struct Seen {
 #[derive(Clone, Copy)]
 pub struct Run {
     pub next: u32,
-    pub ups: u64,
-    pub downs: u64,
-}
-
-// 1 for what counts.
-pub fn one(counts: bool) -> u64
-    ensures { (result ≡ cond counts 1 0) × (result ≤ 1) }
-{
-    if counts {
-        return 1;
-    }
-    0
-}
-
-// What a record that fails shows.
-pub fn refused() -> Seen
-    ensures { (result.ok ≡ false) × ((result.ups ≡ 0) × (result.downs ≡ 0)) }
-{
-    Seen {
-        ok: false,
-        ups: 0,
-        downs: 0,
-    }
+    pub seen: Counts,
 }
 
 // The rule of a link, as `link::link_ok` has it: a function with one caller costs no call.
@@ -80,13 +57,11 @@ fn face_sound(mesh: &[u8], dimension: u32, trees: u32, k: u32, face: u32) -> boo
     link_down(mesh, dimension, k, at, face, tree_at(n))
 }
 
-// The links of a tree, sorted: those that don't lead up as digits to base 8, and how many lead up and down.
+// The links of a record, sorted: those that don't lead up as digits to base 8, and how many lead up and down.
 #[derive(Clone, Copy)]
 pub struct Links {
-    pub ok: bool,
     pub list: u32,
-    pub ups: u64,
-    pub downs: u64,
+    pub counts: Counts,
 }
 
 // A list with one more face, if it is listed.
@@ -101,36 +76,27 @@ pub fn pushed(list: u32, face: u32, listed: bool) -> u32
 }
 
 // No branch hangs on where a link leads: with random links it would be guessed wrong every second time.
-fn sorted(mesh: &[u8], trees: u32, k: u32, faces: u32) -> Links
+fn sorted(mesh: &[u8], trees: u32, k: u32, faces: u32) -> Option<Links>
     requires { (length mesh.now ≡ mesh_header + tree_size * trees) × (k < trees) × (faces ≤ 6) }
-    ensures { (SeenAs (all_below faces (leads_inside (mesh_core mesh.now) trees k)) (count_below faces (leads_up (mesh_core mesh.now) k)) (count_below faces (leads_down (mesh_core mesh.now) k)) result.ok result.ups result.downs) × (result.ok ≡ true → result.list ≡ packed faces (listed_link (mesh_core mesh.now) k)) }
+    ensures { SortedAs (all_below faces (leads_inside (mesh_core mesh.now) trees k)) (count_below faces (leads_up (mesh_core mesh.now) k)) (count_below faces (leads_down (mesh_core mesh.now) k)) (packed faces (listed_link (mesh_core mesh.now) k)) result }
 {
     let at = tree_at(k);
-    let mut face = 0;
     let mut list = 0;
     let mut ups = 0;
     let mut downs = 0;
-    while face < faces {
+    for face in 0..faces {
         let n = records::read::neighbour_of(mesh, at, face);
         if trees <= n {
-            return Links {
-                ok: false,
-                list: 0,
-                ups: 0,
-                downs: 0,
-            };
+            return None;
         }
         list = pushed(list, face, n <= k);
-        ups += one(k < n);
-        downs += one(n < k);
-        face += 1;
+        ups += u64::from(k < n);
+        downs += u64::from(n < k);
     }
-    Links {
-        ok: true,
+    Some(Links {
         list,
-        ups,
-        downs,
-    }
+        counts: Counts { ups, downs },
+    })
 }
 
 // The faces of a list, the last first.
@@ -139,6 +105,7 @@ fn listed_sound(mesh: &[u8], dimension: u32, trees: u32, k: u32, faces: u32, lis
     ensures { result ≡ all_below faces (listed_sound (mesh_core mesh.now) dimension k) }
 {
     let mut left = list;
+    // the digits of the list, the last first: no index is counted
     while 0 < left {
         if !face_sound(mesh, dimension, trees, k, left % 8 - 1) {
             return false;
@@ -148,22 +115,15 @@ fn listed_sound(mesh: &[u8], dimension: u32, trees: u32, k: u32, faces: u32, lis
     true
 }
 
-fn faces_sound(mesh: &[u8], dimension: u32, trees: u32, k: u32, faces: u32) -> Seen
+fn faces_sound(mesh: &[u8], dimension: u32, trees: u32, k: u32, faces: u32) -> Option<Counts>
     requires { (length mesh.now ≡ mesh_header + tree_size * trees) × (k < trees) × (faces ≤ 6) }
-    ensures { SeenAs (all_below faces (face_from_above (mesh_core mesh.now) dimension trees k)) (count_below faces (leads_up (mesh_core mesh.now) k)) (count_below faces (leads_down (mesh_core mesh.now) k)) result.ok result.ups result.downs }
+    ensures { SeenAs (all_below faces (face_from_above (mesh_core mesh.now) dimension trees k)) (count_below faces (leads_up (mesh_core mesh.now) k)) (count_below faces (leads_down (mesh_core mesh.now) k)) 6 result }
 {
-    let links = sorted(mesh, trees, k, faces);
-    if !links.ok {
-        return refused();
-    }
+    let links = sorted(mesh, trees, k, faces)?;
     if !listed_sound(mesh, dimension, trees, k, faces, links.list) {
-        return refused();
+        return None;
     }
-    Seen {
-        ok: true,
-        ups: links.ups,
-        downs: links.downs,
-    }
+    Some(links.counts)
 }
 
 fn alone(mesh: &[u8], dimension: u32, k: u32, at: usize) -> bool
@@ -178,17 +138,17 @@ fn alone(mesh: &[u8], dimension: u32, k: u32, at: usize) -> bool
         & (records::shape::dimension_of(shape) == dimension)
 }
 
-fn tree_sound(mesh: &[u8], dimension: u32, trees: u32, k: u32) -> Seen
+fn tree_sound(mesh: &[u8], dimension: u32, trees: u32, k: u32) -> Option<Counts>
     requires { (length mesh.now ≡ mesh_header + tree_size * trees) × (k < trees) }
-    ensures { SeenAs (tree_from_above (mesh_core mesh.now) dimension trees k) (links_up (mesh_core mesh.now) k) (links_down (mesh_core mesh.now) k) result.ok result.ups result.downs }
+    ensures { SeenAs (tree_from_above (mesh_core mesh.now) dimension trees k) (links_up (mesh_core mesh.now) k) (links_down (mesh_core mesh.now) k) 6 result }
 {
     let at = tree_at(k);
     if !alone(mesh, dimension, k, at) {
-        return refused();
+        return None;
     }
     let faces = records::shape::face_count(records::read::shape_of(mesh, at));
     if !records::form::unused_from(mesh, at, faces) {
-        return refused();
+        return None;
     }
     faces_sound(mesh, dimension, trees, k, faces)
 }
@@ -197,33 +157,28 @@ fn trees_sound(mesh: &[u8], dimension: u32, trees: u32) -> bool
     requires { length mesh.now ≡ mesh_header + tree_size * trees }
     ensures { result ≡ trees_from_above (mesh_core mesh.now) dimension trees }
 {
-    let mut k = 0;
-    let mut ups = 0;
-    let mut downs = 0;
-    while k < trees {
-        let run = run_on(
-            mesh,
-            dimension,
-            trees,
-            Run {
-                next: k,
-                ups,
-                downs,
-            },
-        );
-        let tree = run.next;
-        if tree == trees {
-            return run.ups == run.downs;
+    let mut run = Run {
+        next: 0,
+        seen: Counts { ups: 0, downs: 0 },
+    };
+    // a run may pass over many trees
+    while run.next < trees {
+        run = run_on(mesh, dimension, trees, run);
+        if run.next == trees {
+            break;
         }
-        let seen = tree_sound(mesh, dimension, trees, tree);
-        if !seen.ok {
+        let Some(seen) = tree_sound(mesh, dimension, trees, run.next) else {
             return false;
-        }
-        ups = run.ups + seen.ups;
-        downs = run.downs + seen.downs;
-        k = tree + 1;
+        };
+        run = Run {
+            next: run.next + 1,
+            seen: Counts {
+                ups: run.seen.ups + seen.ups,
+                downs: run.seen.downs + seen.downs,
+            },
+        };
     }
-    ups == downs
+    run.seen.ups == run.seen.downs
 }
 
 pub fn sound(mesh: &[u8]) -> bool

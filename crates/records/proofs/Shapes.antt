@@ -5,7 +5,7 @@ use mathlib.Core.Path.{◌≡◌, refl, sym, ◌∙◌}
 use mathlib.Core.Bool.{Bool, true, false, cond}
 use lib.Dec.{eqb, leb, ltb, lit≤}
 use borrow.Author.Tests.{ne_eqb, lt-leb, lt-ltb, le-ltb}
-use Rattle.encoding.proofs.Below.{either}
+use Rattle.encoding.proofs.Below.{either, below_suc}
 use Rattle.records.specs.Means.{base_corners, corners_formula}
 use Rattle.records.specs.Shape.{dimension_of, face_count, faces_in, corners_of, corners}
 
@@ -24,6 +24,11 @@ pub count_none : (s : ℕ) → 5 < s → face_count s ≡ 0
 unfolding face_count
 count_none s h =
     rw (ne_eqb s 0 (λ e. omega arith), ne_eqb s 1 (λ e. omega arith), ne_eqb s 2 (λ e. omega arith), ne_eqb s 3 (λ e. omega arith), ne_eqb s 4 (λ e. omega arith), ne_eqb s 5 (λ e. omega arith))
+
+-- the two shapes with five faces
+pub count_five : (s : ℕ) → 4 ≤ s → s ≤ 5 → 5 ≡ face_count s
+unfolding face_count
+count_five s h k = below_suc s 5 (omega arith) (λ p. let e : s ≡ 4 = omega arith in rw e) (λ e. rw e)
 
 pub dimension_none : (s : ℕ) → 5 < s → dimension_of s ≡ 0
 unfolding dimension_of

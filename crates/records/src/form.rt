@@ -66,12 +66,10 @@ fn faces_ok(bs: &[u8], at: usize, own: u32) -> bool
     requires { at + core_size ≤ length bs.now }
     ensures { result ≡ all_below 6 (face_form own (piece bs.now at core_size)) }
 {
-    let mut face = 0;
-    while face < 6 {
+    for face in 0..6 {
         if !face_ok(bs, at, own, face) {
             return false;
         }
-        face += 1;
     }
     true
 }
@@ -81,12 +79,10 @@ pub fn unused_from(bs: &[u8], at: usize, faces: u32) -> bool
     requires { (at + core_size ≤ length bs.now) × (faces ≤ 6) }
     ensures { result ≡ all_below 6 (unused_from faces (piece bs.now at core_size)) }
 {
-    let mut face = faces;
-    while face < 6 {
+    for face in faces..6 {
         if !unused_ok(bs, at, face) {
             return false;
         }
-        face += 1;
     }
     true
 }

@@ -5,13 +5,6 @@ ghost use Rattle.records.specs.Record.{core_size, number_of, shape_of, neighbour
 
 use crate::shape::{dimension_of, faces_in};
 
-// A byte as a wider number.
-fn wide(x: u8) -> u32
-    ensures { (result ≡ x) × (result < 256) }
-{
-    x as u32
-}
-
 pub fn number_of(bs: &[u8], at: usize) -> u32
     requires { at + core_size ≤ length bs.now }
     ensures { result ≡ number_of (piece bs.now at core_size) }
@@ -23,7 +16,7 @@ pub fn shape_of(bs: &[u8], at: usize) -> u32
     requires { at + core_size ≤ length bs.now }
     ensures { result ≡ shape_of (piece bs.now at core_size) }
 {
-    wide(bs[at + 4])
+    u32::from(bs[at + 4])
 }
 
 pub fn neighbour_of(bs: &[u8], at: usize, face: u32) -> u32
@@ -37,7 +30,7 @@ pub fn code_of(bs: &[u8], at: usize, face: u32) -> u32
     requires { (at + core_size ≤ length bs.now) × (face < 6) }
     ensures { result ≡ code_of (piece bs.now at core_size) face }
 {
-    wide(bs[at + (32 + (face as usize))])
+    u32::from(bs[at + (32 + (face as usize))])
 }
 
 // F by the record's own shape.
@@ -76,5 +69,5 @@ pub fn region_of(bs: &[u8], at: usize) -> u32
     requires { at + core_size ≤ length bs.now }
     ensures { result ≡ region_of (piece bs.now at core_size) }
 {
-    wide(bs[at + 38]) + 256 * wide(bs[at + 39])
+    u32::from(bs[at + 38]) + 256 * u32::from(bs[at + 39])
 }

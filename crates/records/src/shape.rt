@@ -11,13 +11,11 @@ pub fn shape_ok(shape: u32) -> bool
 pub fn dimension_of(shape: u32) -> u32
     ensures { result ≡ dimension_of shape }
 {
-    if shape <= 1 {
-        return 2;
+    match shape {
+        0..=1 => 2,
+        2..=5 => 3,
+        _ => 0,
     }
-    if shape <= 5 {
-        return 3;
-    }
-    0
 }
 
 pub fn face_count(shape: u32) -> u32
@@ -28,8 +26,7 @@ pub fn face_count(shape: u32) -> u32
         1 => 3,
         2 => 6,
         3 => 4,
-        4 => 5,
-        5 => 5,
+        4 | 5 => 5,
         _ => 0,
     }
 }
@@ -38,8 +35,5 @@ pub fn face_count(shape: u32) -> u32
 pub fn faces_in(dimension: u32) -> u32
     ensures { (result ≡ faces_in dimension) × ((0 < result) × (result ≤ 6)) }
 {
-    if dimension == 2 {
-        return 4;
-    }
-    6
+    if dimension == 2 { 4 } else { 6 }
 }

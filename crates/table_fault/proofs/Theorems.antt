@@ -11,8 +11,7 @@ use Rattle.encoding.proofs.Below.{tests, either, clash, iff_eq, and_fst, and_snd
 use Rattle.offsets.specs.Limits.{tree_count_ok}
 use Rattle.offsets.specs.Table.{ranks, ranks_ok, entry, trees, negative, magnitude, first_tree, end_tree, entries_within, counts_ok, valid}
 use Rattle.offsets.specs.Calls.{table_refusal}
-use Rattle.faults.specs.declared.answer.Wrong.{Wrong}
-use Rattle.faults.specs.Answer.{first_fault}
+use Rattle.faults.specs.Answer.{Wrong, first_fault}
 use Rattle.faults.specs.Calls.{fault_answer}
 use Rattle.faults.specs.Theorems.{AsChecked}
 use Rattle.faults.proofs.Firsts.{quiet, quiet_at}

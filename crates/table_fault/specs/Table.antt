@@ -3,8 +3,7 @@ use Rattle.std.specs.Prelude.{ℕ, not, ◌&&◌, ◌||◌, List, [], ◌∷◌,
 use Rattle.encoding.specs.Refusal.{check, first_failed}
 use Rattle.offsets.specs.Limits.{tree_count_ok}
 use Rattle.offsets.specs.Table.{ranks, entry, trees, negative, magnitude, first_tree, end_tree}
-use Rattle.faults.specs.declared.answer.Wrong.{Wrong}
-use Rattle.faults.specs.Answer.{wrong}
+use Rattle.faults.specs.Answer.{Wrong, wrong}
 
 -- the kind of entry p, 0 where nothing is wrong there
 --   1  the first entry isn't 0

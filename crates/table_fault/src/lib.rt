@@ -2,18 +2,20 @@
 #![tactic(auto)]
 
 ghost use Rattle.std.specs.Prelude.{◌≡◌};
+ghost use Rattle.faults.specs.Kinds.{answer_of};
 ghost use Rattle.table_fault.specs.Calls.{table_fault_of};
 
-use faults::answer::Fault;
+use encoding::refusal::Refusal;
+use faults::answer::Place;
 
 mod table;
 
 // The first fault of a table (2).
-pub fn table_fault(table: &[u8]) -> Fault
-    ensures { result ≡ table_fault_of table.now }
+pub fn table_fault(table: &[u8]) -> Result<Option<Place>, Refusal>
+    ensures { answer_of result ≡ table_fault_of table.now }
 {
     if !offsets::table::ranks_ok(table) {
-        return faults::answer::refused(2);
+        return Err(Refusal::Ranks);
     }
-    table::first_wrong(table)
+    Ok(table::first_wrong(table))
 }

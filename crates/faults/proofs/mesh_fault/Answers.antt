@@ -1,11 +1,11 @@
-use mathlib.Core.Path.{sym, ◌∙◌}
+use mathlib.Core.Path.{refl, sym, ◌∙◌}
 use native.Mathlib.Omega.{arith}
 use Rattle.mesh.proofs.Soundness.{header_parts}
 use Rattle.faults.proofs.Searches.{mesh_headless, mesh_searched}
 use Rattle.faults.proofs.mesh_fault.Goals as goal
 
 pub returns-then-not-header_sound : goal.returns-then-not-header_sound
-returns-then-not-header_sound c = mesh_headless _ (sym c.header_sound.ensures ∙ c.if-not-header_sound.true) c.found.ensures
+returns-then-not-header_sound c = mesh_headless _ (sym c.header_sound.ensures ∙ c.if-not-header_sound.true) refl
 
 pub dimension-requires : goal.dimension-requires
 dimension-requires c = omega (arith, (header_parts _ (sym c.header_sound.ensures ∙ c.if-not-header_sound.false)).2)

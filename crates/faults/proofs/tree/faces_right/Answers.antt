@@ -13,7 +13,7 @@ pub returns-then-not-face_right : goal.returns-then-not-face_right
 returns-then-not-face_right c = sym (all_fails _ _ _ c.loop-at-test.true (sym c.face_right.ensures ∙ c.if-not-face_right.true))
 
 pub loop-at-preserved : goal.loop-at-preserved
-loop-at-preserved c = (omega arith, all_more _ _ c.loop-at.invariant.1 (sym c.face_right.ensures ∙ c.if-not-face_right.false))
+loop-at-preserved c = all_more _ _ c.loop-at.invariant (sym c.face_right.ensures ∙ c.if-not-face_right.false)
 
 pub returns : goal.returns
-returns c = sym (all_to _ _ _ c.loop-at.invariant.0 (omega arith) c.loop-at.invariant.1)
+returns c = sym (all_to _ _ _ c.loop-at.auto.at-end (omega arith) c.loop-at.invariant)

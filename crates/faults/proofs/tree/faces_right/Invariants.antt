@@ -1,4 +1,3 @@
-use Prim.Native.Nat.{◌≤◌, ◌-◌}
 use mathlib.Core.Path.{◌≡◌}
 use mathlib.Core.Bool.{true}
 use Rattle.mesh.specs.Mesh.{mesh_core}
@@ -7,7 +6,4 @@ use Rattle.encoding.specs.Below.{all_below}
 use Rattle.faults.proofs.tree.faces_right.Given as goal
 
 abbrev pub invariant-loop-at : goal.invariant-loop-at
-invariant-loop-at l = (l.at ≤ l.faces) × (all_below l.at (face_by_dimension (mesh_core l.mesh) l.dimension l.trees l.k) ≡ true)
-
-abbrev pub decreases-loop-at : goal.decreases-loop-at
-decreases-loop-at l = l.faces - l.at
+invariant-loop-at l = all_below l.at (face_by_dimension (mesh_core l.mesh) l.dimension l.trees l.k) ≡ true

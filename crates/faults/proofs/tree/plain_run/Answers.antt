@@ -1,4 +1,4 @@
-use Rattle.encoding.proofs.Below.{all_more}
+use Rattle.encoding.proofs.Below.{all_more, all_to}
 use Rattle.encoding.specs.Below.{all_below}
 use native.Mathlib.Omega.{arith}
 use mathlib.Core.Path.{refl, sym, ◌∙◌}
@@ -22,7 +22,7 @@ returns-then-dimension_of-ne3 c = (omega arith, refl)
 
 pub loop-k-init : goal.loop-k-init
 unfolding all_below
-loop-k-init c = (omega arith, refl)
+loop-k-init c = refl
 
 pub plain_tree-requires : goal.plain_tree-requires
 plain_tree-requires c =
@@ -35,14 +35,14 @@ plain_tree-requires c =
     (pre, omega arith, sym shape-ok.ensures ∙ if3.false, sym dimension_of_call.ensures ∙ if4.false, face-count.ensures.0, face-count.ensures.1)
 
 pub returns-then-not-plain_tree : goal.returns-then-not-plain_tree
-returns-then-not-plain_tree c = c.loop-k.invariant
+returns-then-not-plain_tree c = (omega arith, c.loop-k.invariant)
 
 pub loop-k-preserved : goal.loop-k-preserved
 loop-k-preserved c =
     let loop = c.loop-k in
     let if1 = c.if-dimension-ne3 in
     let plain-tree = c.plain_tree in
-    (omega arith, all_more _ _ loop.invariant.1 (rw if1.false (plain-tree.ensures (c.if-not-plain_tree.false))))
+    all_more _ _ loop.invariant (rw if1.false (plain-tree.ensures (c.if-not-plain_tree.false)))
 
 pub returns : goal.returns
-returns c = c.loop-k.invariant
+returns c = (omega arith, all_to _ _ _ c.loop-k.auto.k-end (omega arith) c.loop-k.invariant)

@@ -13,7 +13,7 @@ returns-then-not-alike c = λ t. clash t refl
 
 pub loop-next-init : goal.loop-next-init
 unfolding all_below
-loop-next-init c = (omega arith, refl)
+loop-next-init c = refl
 
 pub neighbour_of-n-requires : goal.neighbour_of-n-requires
 neighbour_of-n-requires c = (omega (arith, c.tree_at-at.ensures), omega (arith, c.requires.5))
@@ -53,11 +53,9 @@ loop-next-preserved c =
     let if2 = c.if-trees-n in
     let tree-at2 = c.tree_at in
     let code_of_call = c.code_of in
-    let link-alike = c.link_alike in (
-      omega arith,
-      all_more _ _ loop.invariant.1
-          (alike_face _ _ _ tree-at.ensures _ _ alike.ensures (if1.false) pre.3 _ neighbour_of_call.ensures if2.false tree-at2.ensures code_of_call.ensures link-alike.ensures (c.if-not-link_alike-n.false)),
-    )
+    let link-alike = c.link_alike in
+    all_more _ _ loop.invariant
+    (alike_face _ _ _ tree-at.ensures _ _ alike.ensures (if1.false) pre.3 _ neighbour_of_call.ensures if2.false tree-at2.ensures code_of_call.ensures link-alike.ensures (c.if-not-link_alike-n.false))
 
 pub returns : goal.returns
 returns c =
@@ -66,4 +64,4 @@ returns c =
     let if1 = c.if-not-alike in
     let pre = c.requires in
     let loop = c.loop-next in
-    λ t. alike_tree _ _ _ tree-at.ensures _ _ alike.ensures (if1.false) pre.3 pre.2 pre.4 (all_to _ _ _ loop.invariant.0 (omega arith) loop.invariant.1)
+    λ t. alike_tree _ _ _ tree-at.ensures _ _ alike.ensures (if1.false) pre.3 pre.2 pre.4 (all_to _ _ _ loop.auto.next-end (omega arith) loop.invariant)

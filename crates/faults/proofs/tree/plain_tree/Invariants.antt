@@ -3,11 +3,7 @@ use Rattle.mesh.specs.Mesh.{mesh_core}
 use Rattle.encoding.specs.Below.{all_below}
 use mathlib.Core.Bool.{true}
 use mathlib.Core.Path.{◌≡◌}
-use Prim.Native.Nat.{◌≤◌, ◌-◌}
 use Rattle.faults.proofs.tree.plain_tree.Given as goal
 
 abbrev pub invariant-loop-next : goal.invariant-loop-next
-invariant-loop-next l = (l.next ≤ l.faces) × (all_below l.next (face_passes (mesh_core l.mesh) l.trees l.k) ≡ true)
-
-abbrev pub decreases-loop-next : goal.decreases-loop-next
-decreases-loop-next l = l.faces - l.next
+invariant-loop-next l = all_below l.next (face_passes (mesh_core l.mesh) l.trees l.k) ≡ true

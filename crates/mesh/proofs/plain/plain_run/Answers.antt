@@ -1,35 +1,21 @@
-use Rattle.mesh.proofs.Checking.{run_stays, run_next}
-use borrow.Author.Tests.{not-false}
+use Rattle.mesh.proofs.Checking.{run_stays, run_next, run_ends}
 use native.Mathlib.Omega.{arith}
 use Rattle.mesh.proofs.plain.plain_run.Goals as goal
 
 pub loop-next-init : goal.loop-next-init
-loop-next-init c = run_stays _ _ _ _ _ _ _ c.requires.1 c.requires.2 c.requires.3
+loop-next-init c = run_stays _ _ _ _ _ c.requires.1 c.requires.2 c.requires.3
 
-pub returns-then-not-seen : goal.returns-then-not-seen
-returns-then-not-seen c = c.loop-next.invariant
+pub returns-in_default : goal.returns-in_default
+returns-in_default c = c.loop-next.invariant
 
 pub overflow_add-ups : goal.overflow_add-ups
-overflow_add-ups c =
-    let loop = c.loop-next in
-    let plain-tree = c.plain_tree-seen in
-    let if1 = c.if-not-seen in
-    omega (arith, loop.invariant.few.0, loop.invariant.within, (plain-tree.ensures (not-false _ if1.false)).few.0)
+overflow_add-ups c = omega (arith, c.loop-next.invariant.few.0, c.loop-next.invariant.within, c.in-Some.ensures.1.few.0)
 
 pub overflow_add-downs : goal.overflow_add-downs
-overflow_add-downs c =
-    let loop = c.loop-next in
-    let plain-tree = c.plain_tree-seen in
-    let if1 = c.if-not-seen in
-    omega (arith, loop.invariant.few.1, loop.invariant.within, (plain-tree.ensures (not-false _ if1.false)).few.1)
+overflow_add-downs c = omega (arith, c.loop-next.invariant.few.1, c.loop-next.invariant.within, c.in-Some.ensures.1.few.1)
 
 pub loop-next-preserved : goal.loop-next-preserved
-loop-next-preserved c =
-    let loop = c.loop-next in
-    let plain-tree = c.plain_tree-seen in
-    let if1 = c.if-not-seen in
-    let loop-test = c.loop-next-test in
-    run_next _ _ _ _ _ loop.invariant (plain-tree.ensures (not-false _ if1.false)) (not-false _ if1.false) loop-test.true
+loop-next-preserved c = run_next _ _ _ _ _ c.loop-next.invariant c.in-Some.ensures c.loop-next-test.true
 
 pub returns : goal.returns
-returns c = c.loop-next.invariant
+returns c = run_ends _ _ _ _ _ (omega arith) c.loop-next.invariant

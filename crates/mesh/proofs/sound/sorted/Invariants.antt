@@ -1,4 +1,4 @@
-use Prim.Native.Nat.{◌≤◌, ◌-◌}
+use Prim.Native.Nat.{◌≤◌}
 use mathlib.Core.Path.{◌≡◌}
 use mathlib.Core.Bool.{true}
 use Rattle.encoding.specs.Below.{all_below, count_below}
@@ -8,10 +8,7 @@ use Rattle.mesh.proofs.sound.sorted.Given as goal
 
 abbrev pub invariant-loop-face : goal.invariant-loop-face
 invariant-loop-face l =
-    (l.face ≤ l.faces)
-    × ((all_below l.face (leads_inside (mesh_core l.mesh) l.trees l.k) ≡ true)
-    × (((l.ups ≡ count_below l.face (leads_up (mesh_core l.mesh) l.k)) × (l.ups ≤ l.face))
-    × (((l.downs ≡ count_below l.face (leads_down (mesh_core l.mesh) l.k)) × (l.downs ≤ l.face)) × (l.list ≡ packed l.face (listed_link (mesh_core l.mesh) l.k)))))
-
-abbrev pub decreases-loop-face : goal.decreases-loop-face
-decreases-loop-face l = l.faces - l.face
+    (all_below l.face (leads_inside (mesh_core l.mesh) l.trees l.k) ≡ true)
+    × ((l.ups ≡ count_below l.face (leads_up (mesh_core l.mesh) l.k)) × (l.ups ≤ l.face))
+    × ((l.downs ≡ count_below l.face (leads_down (mesh_core l.mesh) l.k)) × (l.downs ≤ l.face))
+    × (l.list ≡ packed l.face (listed_link (mesh_core l.mesh) l.k))

@@ -1,4 +1,3 @@
-use Prim.Native.Nat.{◌≤◌, ◌-◌}
 use mathlib.Core.Path.{◌≡◌}
 use mathlib.Core.Bool.{true}
 use Rattle.encoding.specs.Below.{all_below}
@@ -8,7 +7,4 @@ use Rattle.records.specs.Means.{face_form}
 use Rattle.records.proofs.form.faces_ok.Given as goal
 
 abbrev pub invariant-loop-face : goal.invariant-loop-face
-invariant-loop-face l = (l.face ≤ 6) × (all_below l.face (face_form l.own (piece l.bs l.at core_size)) ≡ true)
-
-abbrev pub decreases-loop-face : goal.decreases-loop-face
-decreases-loop-face l = 6 - l.face
+invariant-loop-face l = all_below l.face (face_form l.own (piece l.bs l.at core_size)) ≡ true

@@ -1,4 +1,4 @@
-use Prim.Native.Nat.{◌≤◌, ◌-◌}
+use Prim.Native.Nat.{◌≤◌}
 use mathlib.Core.Path.{◌≡◌}
 use mathlib.Core.Bool.{true}
 use Rattle.encoding.specs.Below.{all_below}
@@ -8,7 +8,4 @@ use Rattle.records.specs.Means.{unused_from}
 use Rattle.records.proofs.form.unused_from.Given as goal
 
 abbrev pub invariant-loop-face : goal.invariant-loop-face
-invariant-loop-face l = (l.faces ≤ l.face) × ((l.face ≤ 6) × (all_below l.face (unused_from l.faces (piece l.bs l.at core_size)) ≡ true))
-
-abbrev pub decreases-loop-face : goal.decreases-loop-face
-decreases-loop-face l = 6 - l.face
+invariant-loop-face l = (l.faces ≤ l.face) × (all_below l.face (unused_from l.faces (piece l.bs l.at core_size)) ≡ true)

@@ -3,4 +3,4 @@ use mathlib.Core.Path.{◌∙◌, sym}
 use Rattle.records.proofs.read.code_of.Goals as goal
 
 pub returns : goal.returns
-returns c = c.wide.ensures.0 ∙ sym (code_at _ _ _ c.requires.1)
+returns c = c.from.ensures ∙ sym (code_at _ _ _ c.requires.1)

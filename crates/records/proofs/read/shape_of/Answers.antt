@@ -3,4 +3,4 @@ use mathlib.Core.Path.{◌∙◌, sym}
 use Rattle.records.proofs.read.shape_of.Goals as goal
 
 pub returns : goal.returns
-returns c = c.wide.ensures.0 ∙ sym (shape_at _ _)
+returns c = c.from.ensures ∙ sym (shape_at _ _)

@@ -1,4 +1,4 @@
-use Rattle.records.proofs.Shapes.{count_none}
+use Rattle.records.proofs.Shapes.{count_five, count_none}
 use Rattle.records.specs.Shape.{face_count}
 use lib.Dec.{lit≤}
 use mathlib.Core.Path.{sym}
@@ -22,12 +22,7 @@ unfolding face_count
 returns-in-3 c = (rw c.in-3.is, lit≤ tt)
 
 pub returns-in-4 : goal.returns-in-4
-unfolding face_count
-returns-in-4 c = (rw c.in-4.is, lit≤ tt)
-
-pub returns-in-5 : goal.returns-in-5
-unfolding face_count
-returns-in-5 c = (rw c.in-5.is, lit≤ tt)
+returns-in-4 c = (count_five _ (omega arith) (omega arith), lit≤ tt)
 
 pub returns-in_default : goal.returns-in_default
 returns-in_default c = (sym (count_none _ (omega arith)), lit≤ tt)

@@ -7,6 +7,6 @@ pub returns-then-dimension-eq2 : goal.returns-then-dimension-eq2
 unfolding faces_in
 returns-then-dimension-eq2 c = (simp (eq-eqb _ _ c.if-dimension-eq2.true), (lit< tt, lit≤ tt))
 
-pub returns : goal.returns
+pub returns-else-dimension-eq2 : goal.returns-else-dimension-eq2
 unfolding faces_in
-returns c = (simp (ne_eqb _ _ c.if-dimension-eq2.false), (lit< tt, lit≤ tt))
+returns-else-dimension-eq2 c = (simp (ne_eqb _ _ c.if-dimension-eq2.false), (lit< tt, lit≤ tt))

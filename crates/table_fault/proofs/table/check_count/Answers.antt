@@ -1,5 +1,5 @@
 use Rattle.table_fault.proofs.Entries.{count_less, count_empty, count_right}
-use Rattle.table_fault.proofs.table.count_kind.Goals as goal
+use Rattle.table_fault.proofs.table.check_count.Goals as goal
 
 pub returns-then-end-first : goal.returns-then-end-first
 returns-then-end-first c = count_less _ _ c.first_of-first.ensures c.if-end-first.true

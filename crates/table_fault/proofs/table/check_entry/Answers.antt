@@ -1,6 +1,6 @@
 use Rattle.table_fault.proofs.Entries.{table_long, kind_first, kind_trees, kind_above, kind_last, kind_counted}
 use native.Mathlib.Omega.{arith}
-use Rattle.table_fault.proofs.table.entry_kind.Goals as goal
+use Rattle.table_fault.proofs.table.check_entry.Goals as goal
 
 pub entry-v-requires : goal.entry-v-requires
 entry-v-requires c = omega (arith, table_long _ c.requires.0)
@@ -52,4 +52,4 @@ returns c =
     let if4 = c.if-ranks-p in
     let entry2 = c.entry in
     let magnitude2 = c.magnitude-2 in
-    kind_counted _ _ entry.ensures pre.1 pre.2 if1.false tree-count-ok.ensures if2.false magnitude.ensures if3.false if4.false entry2.ensures magnitude2.ensures c.count_kind.ensures
+    kind_counted _ _ entry.ensures pre.1 pre.2 if1.false tree-count-ok.ensures if2.false magnitude.ensures if3.false if4.false entry2.ensures magnitude2.ensures c.check_count.ensures

@@ -1,5 +1,5 @@
 use Rattle.faults.proofs.Records.{boundary_wrong, boundary_right, marked, unmarked}
-use Rattle.faults.proofs.record.form_kind.Goals as goal
+use Rattle.faults.proofs.record.check_form.Goals as goal
 
 pub returns-then-n-own : goal.returns-then-n-own
 returns-then-n-own c =

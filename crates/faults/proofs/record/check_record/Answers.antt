@@ -1,5 +1,5 @@
 use Rattle.faults.proofs.Records.{number_wrong, shape_wrong, bytes_wrong, dimension_wrong, record_right}
-use Rattle.faults.proofs.record.record_kind.Goals as goal
+use Rattle.faults.proofs.record.check_record.Goals as goal
 
 pub returns-then-not-in_order : goal.returns-then-not-in_order
 returns-then-not-in_order c = number_wrong _ _ (c.if-not-in_order.true)
@@ -11,15 +11,15 @@ returns-then-not-shape_ok c =
     let shape-ok = c.shape_ok in
     shape_wrong _ _ (if1.false) shape_of.ensures shape-ok.ensures (c.if-not-shape_ok.true)
 
-pub returns-then-not-zeros_ok-region_of : goal.returns-then-not-zeros_ok-region_of
-returns-then-not-zeros_ok-region_of c =
+pub returns-then-not-zeros_ok-region_ok : goal.returns-then-not-zeros_ok-region_ok
+returns-then-not-zeros_ok-region_ok c =
     let if1 = c.if-not-in_order in
     let shape_of = c.shape_of-shape in
     let shape-ok = c.shape_ok in
     let if2 = c.if-not-shape_ok in
     let zeros-ok = c.zeros_ok in
-    let region-of = c.region_of in
-    bytes_wrong _ _ (if1.false) shape_of.ensures shape-ok.ensures (if2.false) zeros-ok.ensures region-of.ensures (c.if-not-zeros_ok-region_of.true)
+    let region-ok = c.region_ok in
+    bytes_wrong _ _ (if1.false) shape_of.ensures shape-ok.ensures (if2.false) zeros-ok.ensures region-ok.ensures (c.if-not-zeros_ok-region_ok.true)
 
 pub returns-then-dimension_of-dimension : goal.returns-then-dimension_of-dimension
 returns-then-dimension_of-dimension c =
@@ -28,10 +28,10 @@ returns-then-dimension_of-dimension c =
     let shape-ok = c.shape_ok in
     let if2 = c.if-not-shape_ok in
     let zeros-ok = c.zeros_ok in
-    let region-of = c.region_of in
-    let if3 = c.if-not-zeros_ok-region_of in
+    let region-ok = c.region_ok in
+    let if3 = c.if-not-zeros_ok-region_ok in
     let dimension_of_call = c.dimension_of in
-    dimension_wrong _ _ (if1.false) shape_of.ensures shape-ok.ensures (if2.false) zeros-ok.ensures region-of.ensures (if3.false) dimension_of_call.ensures c.if-dimension_of-dimension.true
+    dimension_wrong _ _ (if1.false) shape_of.ensures shape-ok.ensures (if2.false) zeros-ok.ensures region-ok.ensures (if3.false) dimension_of_call.ensures c.if-dimension_of-dimension.true
 
 pub returns : goal.returns
 returns c =
@@ -40,7 +40,7 @@ returns c =
     let shape-ok = c.shape_ok in
     let if2 = c.if-not-shape_ok in
     let zeros-ok = c.zeros_ok in
-    let region-of = c.region_of in
-    let if3 = c.if-not-zeros_ok-region_of in
+    let region-ok = c.region_ok in
+    let if3 = c.if-not-zeros_ok-region_ok in
     let dimension_of_call = c.dimension_of in
-    record_right _ _ (if1.false) shape_of.ensures shape-ok.ensures (if2.false) zeros-ok.ensures region-of.ensures (if3.false) dimension_of_call.ensures c.if-dimension_of-dimension.false
+    record_right _ _ (if1.false) shape_of.ensures shape-ok.ensures (if2.false) zeros-ok.ensures region-ok.ensures (if3.false) dimension_of_call.ensures c.if-dimension_of-dimension.false

@@ -1,6 +1,6 @@
 use Rattle.faults.specs.Record.{link_kind}
 use Rattle.encoding.specs.Refusal.{first_failed}
-use Rattle.faults.proofs.record.link_kind.Goals as goal
+use Rattle.faults.proofs.record.check_link.Goals as goal
 
 pub returns-then-not-orientation_ok : goal.returns-then-not-orientation_ok
 unfolding link_kind first_failed

@@ -2,3 +2,4 @@
 pub mod Calls
 pub mod Theorems
 pub mod Means
+pub mod MeansGrids

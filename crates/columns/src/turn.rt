@@ -3,7 +3,8 @@ ghost use Rattle.std.specs.Prelude.{◌≡◌, ◌+◌, ◌≤◌, ◌<◌, leng
 ghost use Rattle.encoding.specs.Pieces.{splice};
 ghost use Rattle.part.specs.Part.{part_count, part_ghost_count};
 ghost use Rattle.columns_read.specs.Columns.{part_columns, columns_part};
-ghost use Rattle.columns.specs.Means.{Line, Lines, line_of, band_of, Shuffled, Sides, Moved, Turnable};
+ghost use Rattle.columns.specs.Means.{Line, Lines, line_of, band_of, Shuffled, Moved, Turnable};
+ghost use Rattle.columns.specs.MeansGrids.{InGrid, Turns, Carried};
 
 use encoding::bytes::{read_u64, write_u64};
 
@@ -12,45 +13,38 @@ fn line(src: &[u8], from: usize, step: usize, dst: &mut [u8], to: usize, gap: us
     requires { Line src.now from step count × Line dst.old to gap count }
     ensures { dst.new ≡ line_of src.now from step dst.old to gap count }
 {
-    let mut i = 0;
-    while i < count {
+    for i in 0..count {
         dst[to + gap * i] = src[from + step * i];
-        i += 1;
     }
 }
 
-// Moves `width` lines, each `leap` behind the one before, to `to` and each `span` behind it.
-fn lines(
-    src: &[u8],
-    from: usize,
-    step: usize,
-    leap: usize,
-    dst: &mut [u8],
-    to: usize,
-    gap: usize,
-    span: usize,
-    count: usize,
-    width: usize,
-)
-    requires { Lines src.now from step leap count width × Lines dst.old to gap span count width × (0 < count) }
-    ensures { dst.new ≡ band_of src.now from step leap dst.old to gap span count width }
+// Where bytes stand: that of record i in column j at start + step i + leap j.
+#[derive(Clone, Copy)]
+pub struct Grid {
+    pub start: usize,
+    pub step: usize,
+    pub leap: usize,
+}
+
+// Moves `width` columns of `count` records, column by column.
+fn lines(src: &[u8], from: Grid, dst: &mut [u8], to: Grid, count: usize, width: usize)
+    requires { InGrid src.now from count width × InGrid dst.old to count width × (0 < count) }
+    ensures { dst.new ≡ band_of src.now from.start from.step from.leap dst.old to.start to.step to.leap count width }
 {
-    let mut j = 0;
-    while j < width {
+    for j in 0..width {
         line(
             src,
-            from + leap * j,
-            step,
+            from.start + from.leap * j,
+            from.step,
             &mut *dst,
-            to + span * j,
-            gap,
+            to.start + to.leap * j,
+            to.step,
             count,
         );
-        j += 1;
     }
 }
 
-// Moves 16 bytes, as words.
+// Moves 16 bytes, as words: with `copy_from_slice` a whole part takes 15 % longer.
 fn copy16(src: &[u8], from: usize, dst: &mut [u8], to: usize)
     requires { Line src.now from 1 16 × Line dst.old to 1 16 }
     ensures { dst.new ≡ line_of src.now from 1 dst.old to 1 16 }
@@ -61,15 +55,13 @@ fn copy16(src: &[u8], from: usize, dst: &mut [u8], to: usize)
     write_u64(&mut *dst, to + 8, high);
 }
 
-// Moves 16 rows of 16 bytes, each `leap` behind the one before, to `to` and each `span` behind it.
+// Moves 16 rows of 16 bytes, each `leap` behind the one before, to `to` and each `span` behind it: `lines` by words.
 fn rows(src: &[u8], from: usize, leap: usize, dst: &mut [u8], to: usize, span: usize)
     requires { Lines src.now from 1 leap 16 16 × Lines dst.old to 1 span 16 16 }
     ensures { dst.new ≡ band_of src.now from 1 leap dst.old to 1 span 16 16 }
 {
-    let mut j = 0;
-    while j < 16 {
+    for j in 0..16 {
         copy16(src, from + leap * j, &mut *dst, to + span * j);
-        j += 1;
     }
 }
 
@@ -78,11 +70,9 @@ fn shuffle(x: &[u8], y: &mut [u8])
     requires { (length x.now ≡ 256) × (length y.old ≡ 256) }
     ensures { Shuffled x.now y.new 128 }
 {
-    let mut i = 0;
-    while i < 128 {
+    for i in 0..128 {
         y[2 * i] = x[i];
         y[2 * i + 1] = x[i + 128];
-        i += 1;
     }
 }
 
@@ -101,132 +91,77 @@ fn square(src: &[u8], from: usize, leap: usize, dst: &mut [u8], to: usize, span:
     rows(&x, 0, 16, &mut *dst, to, span);
 }
 
-// Where the next 16 of `count` begin: at i, or earlier where fewer are left.
-fn next(i: usize, count: usize) -> usize
-    requires { (i < count) × (16 ≤ count) }
-    ensures { (result ≤ i) × (i < result + 16) × (result + 16 ≤ count) }
+// 16 columns, in squares of 16 records: the last one begins earlier where fewer are left. One of step and leap is 1 on either side, and not on both the same.
+fn strip(src: &[u8], from: Grid, dst: &mut [u8], to: Grid, count: usize)
+    requires { Turns from to × InGrid src.now from count 16 × InGrid dst.old to count 16 × (16 ≤ count) }
+    ensures { Carried src.now from dst.old dst.new to count 16 }
 {
-    if count - i < 16 {
-        return count - 16;
-    }
-    i
-}
-
-// 16 lines, in squares. One of step and leap is 1, and so is one of gap and span.
-fn strip(
-    src: &[u8],
-    from: usize,
-    step: usize,
-    leap: usize,
-    dst: &mut [u8],
-    to: usize,
-    gap: usize,
-    span: usize,
-    count: usize,
-)
-    requires { Sides step leap gap span × Lines src.now from step leap count 16 × Lines dst.old to gap span count 16 × (16 ≤ count) }
-    ensures { Moved src.now from step leap dst.old dst.new to gap span count 16 }
-{
-    let mut i = 0;
-    while i < count {
-        let k = next(i, count);
+    for i in (0..count).step_by(16) {
+        let k = i.min(count - 16);
         square(
             src,
-            from + step * k,
-            step * leap,
+            from.start + from.step * k,
+            from.step * from.leap,
             &mut *dst,
-            to + gap * k,
-            gap * span,
+            to.start + to.step * k,
+            to.step * to.leap,
         );
-        i = k + 16;
     }
 }
 
-// `width` lines, 16 at a time.
-fn band(
-    src: &[u8],
-    from: usize,
-    step: usize,
-    leap: usize,
-    dst: &mut [u8],
-    to: usize,
-    gap: usize,
-    span: usize,
-    count: usize,
-    width: usize,
-)
-    requires { Sides step leap gap span × Lines src.now from step leap count width × Lines dst.old to gap span count width × (16 ≤ count) × (16 ≤ width) }
-    ensures { Moved src.now from step leap dst.old dst.new to gap span count width }
+// `width` columns, 16 at a time. As `strip` along the other side: as one loop in another, their invariants would nest.
+fn band(src: &[u8], from: Grid, dst: &mut [u8], to: Grid, count: usize, width: usize)
+    requires { Turns from to × InGrid src.now from count width × InGrid dst.old to count width × (16 ≤ count) × (16 ≤ width) }
+    ensures { Carried src.now from dst.old dst.new to count width }
 {
-    let mut j = 0;
-    while j < width {
-        let k = next(j, width);
-        strip(
-            src,
-            from + leap * k,
-            step,
-            leap,
-            &mut *dst,
-            to + span * k,
-            gap,
-            span,
-            count,
-        );
-        j = k + 16;
+    for j in (0..width).step_by(16) {
+        let k = j.min(width - 16);
+        let source = Grid {
+            start: from.start + from.leap * k,
+            ..from
+        };
+        let target = Grid {
+            start: to.start + to.leap * k,
+            ..to
+        };
+        strip(src, source, &mut *dst, target, count);
     }
 }
 
-// How many of the records that are left go together.
-fn together(left: usize) -> usize
-    requires { 16 ≤ left }
-    ensures { (16 ≤ result) × (result ≤ left) }
-{
-    if 2048 < left {
-        return 2048;
-    }
-    left
-}
-
-// Byte j of record i stands at at + leap j + step i, and goes to at + span j + gap i.
-fn turn(
-    src: &[u8],
-    at: usize,
-    step: usize,
-    leap: usize,
-    dst: &mut [u8],
-    gap: usize,
-    span: usize,
-    count: usize,
-    width: usize,
-)
-    requires { Sides step leap gap span × Lines src.now at step leap count width × Lines dst.old at gap span count width × (16 ≤ width) }
-    ensures { Moved src.now at step leap dst.old dst.new at gap span count width }
+// All records, up to 2,048 at a time.
+fn turn(src: &[u8], from: Grid, dst: &mut [u8], to: Grid, count: usize, width: usize)
+    requires { Turns from to × InGrid src.now from count width × InGrid dst.old to count width × (16 ≤ width) }
+    ensures { Carried src.now from dst.old dst.new to count width }
 {
     if count == 0 {
         return;
     }
     if count < 16 {
-        lines(src, at, step, leap, &mut *dst, at, gap, span, count, width);
+        lines(src, from, &mut *dst, to, count, width);
         return;
     }
     let mut i = 0;
+    // a `while`: up to 2,048 records a turn, and the last 16 may overlap those before
     while i < count {
-        let k = next(i, count);
-        let some = together(count - k);
-        band(
-            src,
-            at + step * k,
-            step,
-            leap,
-            &mut *dst,
-            at + gap * k,
-            gap,
-            span,
-            some,
-            width,
-        );
+        let k = i.min(count - 16);
+        let some = (count - k).min(2048);
+        let source = Grid {
+            start: from.start + from.step * k,
+            ..from
+        };
+        let target = Grid {
+            start: to.start + to.step * k,
+            ..to
+        };
+        band(src, source, &mut *dst, target, some, width);
         i = k + some;
     }
+}
+
+fn spread(start: usize, step: usize, leap: usize) -> Grid
+    ensures { result ≡ record { start = start; step = step; leap = leap } }
+{
+    Grid { start, step, leap }
 }
 
 // Writes the column file of a part of its length.
@@ -236,9 +171,12 @@ pub fn write_columns(part: &[u8], out: &mut [u8])
 {
     let n = part::layout::tree_count(part) as usize;
     let g = part::layout::ghost_count(part) as usize;
+    let ghosts = 32 + 64 * n;
     line(part, 0, 1, &mut *out, 0, 1, 32);
-    turn(part, 32, 64, 1, &mut *out, 1, n, n, 64);
-    turn(part, 32 + 64 * n, 40, 1, &mut *out, 1, g, g, 40);
+    let to = spread(32, 1, n);
+    turn(part, spread(32, 64, 1), &mut *out, to, n, 64);
+    let to = spread(ghosts, 1, g);
+    turn(part, spread(ghosts, 40, 1), &mut *out, to, g, 40);
 }
 
 // Writes the part of a column file of its length.
@@ -248,7 +186,10 @@ pub fn write_part(file: &[u8], out: &mut [u8])
 {
     let n = part::layout::tree_count(file) as usize;
     let g = part::layout::ghost_count(file) as usize;
+    let ghosts = 32 + 64 * n;
     line(file, 0, 1, &mut *out, 0, 1, 32);
-    turn(file, 32, 1, n, &mut *out, 64, 1, n, 64);
-    turn(file, 32 + 64 * n, 1, g, &mut *out, 40, 1, g, 40);
+    let from = spread(32, 1, n);
+    turn(file, from, &mut *out, spread(32, 64, 1), n, 64);
+    let from = spread(ghosts, 1, g);
+    turn(file, from, &mut *out, spread(ghosts, 40, 1), g, 40);
 }

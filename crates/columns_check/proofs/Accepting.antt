@@ -1,11 +1,11 @@
 -- Where a column file is that of a sound part.
-use Prim.Native.Nat.{ℕ, ◌+◌, ◌*◌, ◌≤◌, ◌<◌}
+use Prim.Native.Nat.{ℕ, ◌+◌, ◌≤◌}
 use native.Mathlib.Omega.{arith}
-use mathlib.Core.Path.{◌≡◌, refl, sym, ap, ap₂, ◌∙◌}
-use mathlib.Core.Bool.{Bool, true, false, ◌&&◌, and-false}
+use mathlib.Core.Path.{◌≡◌, refl, sym, ap₂, ◌∙◌}
+use mathlib.Core.Bool.{Bool, true, false, ◌&&◌}
 use mathlib.Core.List.{List}
 use lib.Dec.{eqb}
-use lib.ListN.{length, get_or}
+use lib.ListN.{length}
 use borrow.Author.Tests.{eqb-true, eq-eqb}
 use Rattle.encoding.specs.Pieces.{Bytes}
 use Rattle.encoding.specs.Numbers.{u32_at}
@@ -14,9 +14,8 @@ use Rattle.mesh.specs.Means.{link_by_dimension}
 use Rattle.part.specs.Layout.{part_size}
 use Rattle.part.specs.Means.{RankKnown, ghost_core}
 use Rattle.part.specs.Part.{part_dimension, part_k, part_first, part_count, part_ghost_count, stored_tree, part_header_sound, part_sound}
-use Rattle.part_check.specs.Means.{records_sound}
 use Rattle.part_check.proofs.Checking.{sound_read}
-use Rattle.columns_read.specs.Columns.{part_columns, columns_part, columns_sound}
+use Rattle.columns_read.specs.Columns.{columns_part, columns_sound}
 use Rattle.columns_read.specs.Means.{tree_column, ghost_column}
 use Rattle.columns_check.specs.Means.{columns_found}
 use Rattle.columns_check.proofs.Judging.{found_is, records_same}

@@ -9,7 +9,7 @@ use lib.ListN.{length, get_or}
 use borrow.Author.Tests.{lt-ltb, le-ltb, eq-eqb, ne_eqb, eqb-true, ltb-true}
 use Rattle.encoding.specs.Below.{all_below, any_below, least_below}
 use Rattle.encoding.specs.Numbers.{u32_at}
-use Rattle.encoding.proofs.Below.{tests, either, clash, iff_eq, and_fst, and_snd, and_intro, all_at, all_intro, least_lt}
+use Rattle.encoding.proofs.Below.{either, clash, iff_eq, and_fst, and_snd, and_intro, all_at, all_intro, least_lt}
 use Rattle.records.specs.Shape.{face_count}
 use Rattle.records.specs.Record.{unused, core_size, number_of, shape_of, neighbour_of, code_of, unused_ok, boundary_ok}
 use Rattle.records.specs.Means.{face_form}
@@ -22,7 +22,8 @@ use Rattle.ghost_links.proofs.Checking.{not_leb}
 use Rattle.part_check.specs.Means.{tree_to, tree_face, tree_up, tree_down, tree_numbered, ghost_behind, ghost_numbered, numbers_sound, PartLaid}
 use Rattle.columns_read.specs.Columns.{spaced}
 use Rattle.columns_read.specs.Means.{tree_column, ghost_column, head_ok, side_ok, side_has, tree_head, tree_side, tree_side_up, tree_side_down}
-use Rattle.columns_check.specs.Means.{side_low, ghost_head, ghost_side_low, ghost_side_up, ghost_side_down, ghost_side_listed, links_sound, columns_found, FileNumbered, TargetAs}
+use Rattle.columns_check.specs.Means.{side_low, ghost_head, ghost_side_low, ghost_side_up, ghost_side_down, ghost_side_listed, links_sound, columns_found, FileNumbered, HeldAs}
+use Rattle.columns_check.specs.declared.sound.Target.{Target}
 
 or_fst : (a b : Bool) → (a || b) ≡ false → a ≡ false
 or_fst true b e = e
@@ -72,50 +73,47 @@ module _ (file : List ℕ) (D first n g K i f : ℕ) where
         unfolding tree_side side_ok tree_column shape_of tree_up neighbour_of
         side_up h = rw (← form, ok, ← s, ← c, lt-ltb f faces used, ← m, h)
 
-        module _ (down : (ltb i j && ltb j n) ≡ false) {held : Bool} {back to gap : ℕ} (there : TargetAs file n g i j held back to gap) where
-          pub side_past : held ≡ false → false ≡ side
+        module _ (down : (ltb i j && ltb j n) ≡ false) where
+          pub side_past : (ltb j n || ltb (j - n) g) ≡ false → false ≡ side
           unfolding tree_side side_ok tree_column shape_of tree_up tree_face tree_to neighbour_of
-          side_past h =
-              let none : (ltb j n || ltb (j - n) g) ≡ false = sym there.is ∙ h in
+          side_past none =
               let out : ltb j n ≡ false = or_fst (ltb j n) (ltb (j - n) g) none in
               let past : ltb (j - n) g ≡ false = or_snd (ltb j n) (ltb (j - n) g) none in
               rw (← form, ok, ← s, ← c, lt-ltb f faces used, ← m, down, out, past)
 
-          pub side_held : {t : Bool} → held ≡ true → t ≡ link_by_dimension D back core f (spaced file to gap core_size) → t ≡ side
+          pub side_held : {there : Target} {t : Bool} → HeldAs file n g i j there → t ≡ link_by_dimension D there.back core f (spaced file there.to there.gap core_size) → t ≡ side
           unfolding tree_side side_ok tree_column ghost_column shape_of tree_up tree_face tree_to neighbour_of number_of
-          side_held h p =
-              let some : (ltb j n || ltb (j - n) g) ≡ true = sym there.is ∙ h in
-              let at_back = there.leads h in
-              let at_place = there.place h in
-              let at_gap = there.apart h in
+          side_held {there} held p =
+              let at_back = held.leads in
+              let at_place = held.place in
+              let at_gap = held.apart in
+              let some = held.is in
               either (ltb j n)
               (λ e.
-              let b : back ≡ i = rw e at at_back in
-              let t : to ≡ 32 + j = rw e at at_place in
-              let w : gap ≡ n = rw e at at_gap in
+              let b : there.back ≡ i = rw e at at_back in
+              let t : there.to ≡ 32 + j = rw e at at_place in
+              let w : there.gap ≡ n = rw e at at_gap in
               rw (← form, ok, ← s, ← c, lt-ltb f faces used, ← m, down, e) (rw (b, t, w) at p))
               (λ e.
-              let b : back ≡ u32_at core 0 = rw e at at_back in
-              let t : to ≡ 32 + 64 * n + (j - n) = rw e at at_place in
-              let w : gap ≡ g = rw e at at_gap in
+              let b : there.back ≡ u32_at core 0 = rw e at at_back in
+              let t : there.to ≡ 32 + 64 * n + (j - n) = rw e at at_place in
+              let w : there.gap ≡ g = rw e at at_gap in
               let inside : ltb (j - n) g ≡ true = rw e at some in
               rw (← form, ok, ← s, ← c, lt-ltb f faces used, ← m, down, e, inside) (rw (b, t, w) at p))
 
 -- what stands at a local index
 module _ (file : List ℕ) (n g i j : ℕ) (long : length file ≡ part_size n g) where
-  pub target_tree : j < n → TargetAs file n g i j true i (32 + j) n
-  target_tree h = let e : ltb j n ≡ true = lt-ltb j n h in record { is = rw e; leads = λ t. rw e; place = λ t. rw e; apart = λ t. rw e; fits = λ t. omega arith }
+  pub target_tree : j < n → HeldAs file n g i j (record { back = i; to = 32 + j; gap = n })
+  target_tree h = let e : ltb j n ≡ true = lt-ltb j n h in record { is = rw e; leads = rw e; place = rw e; apart = rw e; fits = omega arith }
 
   module _ (out : n ≤ j) where
-    pub target_ghost : {v : ℕ} → j - n < g → v ≡ u32_at (spaced file (32 + i) n core_size) 0 → TargetAs file n g i j true v (32 + 64 * n + (j - n)) g
+    pub target_ghost : {v : ℕ} → j - n < g → v ≡ u32_at (spaced file (32 + i) n core_size) 0 → HeldAs file n g i j (record { back = v; to = 32 + 64 * n + (j - n); gap = g })
     target_ghost h r =
         let e : ltb j n ≡ false = le-ltb j n out in
-        record { is = rw (e, lt-ltb (j - n) g h); leads = λ t. rw e r; place = λ t. rw e; apart = λ t. rw e; fits = λ t. omega arith }
+        record { is = rw (e, lt-ltb (j - n) g h); leads = rw e r; place = rw e; apart = rw e; fits = omega arith }
 
-    pub target_none : g ≤ j - n → TargetAs file n g i j false 0 0 0
-    target_none h =
-        let e : ltb j n ≡ false = le-ltb j n out in
-        record { is = rw (e, le-ltb (j - n) g h); leads = λ t. clash t refl; place = λ t. clash t refl; apart = λ t. clash t refl; fits = λ t. clash t refl }
+    pub target_none : g ≤ j - n → (ltb j n || ltb (j - n) g) ≡ false
+    target_none h = rw (le-ltb j n out, le-ltb (j - n) g h)
 
 -- a tree's link, and where it leads
 module _ (file : List ℕ) (n i f : ℕ) {shape faces j : ℕ} (s : shape ≡ get_or (spaced file (32 + i) n core_size) 4 0) (c : faces ≡ face_count shape) (m : j ≡ u32_at (spaced file (32 + i) n core_size) (8 + 4 * f)) where

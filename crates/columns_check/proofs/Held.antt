@@ -1,13 +1,13 @@
 -- The ghosts of a column file by their numbers: the laws of the index of records, over the cores one behind the other.
-use Prim.Native.Nat.{ℕ, ◌+◌, ◌*◌, ◌≤◌, ◌<◌}
+use Prim.Native.Nat.{ℕ, zero, suc, ◌-◌, ◌+◌, ◌*◌, ◌≤◌, ◌<◌}
 use native.Mathlib.Omega.{arith}
 use mathlib.Core.Path.{◌≡◌, sym, ap, ◌∙◌}
 use mathlib.Core.List.{List}
-use lib.Dec.{eqb}
+use lib.Dec.{eqb, ltb}
 use lib.ListN.{length, get_or}
 use Rattle.encoding.specs.Below.{any_below, least_below}
 use Rattle.encoding.specs.Numbers.{u32_at}
-use Rattle.encoding.proofs.Below.{any_same, least_same}
+use Rattle.encoding.proofs.Below.{tests, either, any_same, least_same}
 use Rattle.encoding.proofs.Numbers.{four_bytes}
 use Rattle.bits.specs.Bits.{in_set}
 use Rattle.records.specs.Record.{core_size, number_of}
@@ -15,14 +15,28 @@ use Rattle.part.specs.Means.{number_at, ghost_has}
 use Rattle.positions.specs.Means.{has_number, some_has, position_of, member_position, Markable, Numbered, Indexed}
 use Rattle.positions.proofs.Positions.{index_position}
 use Rattle.part_check.proofs.Judging.{ghosts_ascend, ghost_below}
-use Rattle.columns_read.specs.Columns.{spaced, rows}
+use Rattle.columns_read.specs.Columns.{spaced}
 use Rattle.columns_read.specs.Means.{tree_column, ghost_column}
 use Rattle.columns_read.proofs.Spaced.{spaced_length, spaced_at}
 use Rattle.columns_read.proofs.Reading.{word_read}
 use Rattle.columns_check.specs.Means.{ghost_rows, FileNumbered}
 use Rattle.columns_check.proofs.Turned.{columns_length, columns_at, rows_are}
 
+-- ascending numbers are no lower than their places
+at_least : (f : ℕ → ℕ) (g : ℕ) → ((i j : ℕ) → i < j → j < g → f i < f j) → (i : ℕ) → i < g → i ≤ f i
+at_least f g up zero h = omega arith
+at_least f g up (suc i) h = omega (arith, at_least f g up i (omega arith), up i (suc i) (omega arith) h)
+
 module _ (file : List ℕ) (n g : ℕ) where
+  -- so there are no more than numbers
+  pub ghosts_few : (first K : ℕ) → FileNumbered file first n g K → g ≤ K
+  ghosts_few first K known =
+      either (ltb 0 g)
+      (λ p.
+      let last : g - 1 < g = omega tests in
+      omega (arith, at_least (λ i. number_of (ghost_column file n g i)) g (ghosts_ascend first n g K (tree_column file n) (ghost_column file n g) known.numbers) (g - 1) last, ghost_below first n g K (tree_column file n) (ghost_column file n g) known.numbers (g - 1) last))
+      (λ p. omega tests)
+
   rows_length : length (ghost_rows file n g) ≡ 40 * g
   unfolding ghost_rows
   rows_length = ap length (rows_are file (32 + 64 * n) core_size g g) ∙ columns_length file (32 + 64 * n) g core_size g

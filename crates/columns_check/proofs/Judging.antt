@@ -2,7 +2,7 @@
 use Prim.Native.Nat.{ℕ, ◌+◌, ◌-◌, ◌≤◌, ◌<◌}
 use native.Mathlib.Omega.{arith}
 use mathlib.Core.Path.{◌≡◌, refl, sym, ap, ap₂, ◌∙◌}
-use mathlib.Core.Bool.{Bool, true, false, cond, not, ◌&&◌, and-true, and-false, and_assoc}
+use mathlib.Core.Bool.{Bool, true, false, cond, ◌&&◌, and-true, and-false, and_assoc}
 use mathlib.Core.List.{List}
 use lib.Dec.{leb, ltb, eqb}
 use borrow.Author.Tests.{ltb-true, leb-true, lt-ltb}
@@ -13,7 +13,6 @@ use Rattle.records.specs.Record.{shape_of, neighbour_of, zeros_ok, region_ok, un
 use Rattle.records.specs.Means.{face_form, unused_from}
 use Rattle.records.proofs.Shapes.{count_six}
 use Rattle.mesh.specs.Means.{link_by_dimension}
-use Rattle.mesh.specs.Link.{orientation_ok}
 use Rattle.part.specs.Means.{in_range, neighbour_in, ghost_has}
 use Rattle.ghost_links.specs.Means.{form_alone, ghost_up, ghost_down, ghost_ups, ghost_downs, ghost_low, ghost_face_down, ghost_from_one_end}
 use Rattle.ghost_links.proofs.FromOneEnd.{boundary_other}

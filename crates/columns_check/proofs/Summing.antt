@@ -1,23 +1,25 @@
 -- Loops over the records of a column file that also count: how many links lead up and down.
 use Prim.Native.Nat.{ℕ, ◌+◌, ◌*◌, ◌≤◌, ◌<◌}
 use native.Mathlib.Omega.{arith}
-use mathlib.Core.Path.{◌≡◌, refl, sym, ap₂, ◌∙◌}
-use mathlib.Core.Bool.{Bool, true, false, ◌&&◌}
+use mathlib.Core.Path.{◌≡◌, refl, sym, ◌∙◌}
+use mathlib.Core.Bool.{Bool, true, false, and-false}
 use mathlib.Core.List.{List}
 use lib.Dec.{eqb}
 use Rattle.encoding.specs.Below.{all_below, count_below, sum_below}
 use Rattle.encoding.proofs.Below.{either, clash, and_fst, and_snd, and_intro, all_at, all_add, all_intro, all_fails, all_to, count_add}
-use Rattle.mesh.specs.Means.{link_by_dimension}
-use Rattle.ghost_links.specs.Means.{ghost_answered, SummedAs}
-use Rattle.columns_read.specs.Means.{tree_column, ghost_column, tree_side, tree_side_up, tree_side_down}
+use Rattle.std.specs.Prelude.{Some}
+use Rattle.mesh.specs.Means.{SeenAs}
+use Rattle.mesh.specs.declared.sound.Counts.{Counts}
+use Rattle.ghost_links.specs.Means.{ghost_answered}
+use Rattle.columns_read.specs.Means.{tree_side, tree_side_up, tree_side_down}
 use Rattle.columns_check.specs.Means.{from, ghost_side, ghost_side_low, ghost_side_up, ghost_side_down, ghost_side_listed, ghost_side_linked, faces_sound, faces_up, faces_down, links_sound}
 
 -- a loop that has come to its end
-pub counted_all : {ups downs : ℕ} (n i : ℕ) (f p q : ℕ → Bool) → i ≤ n → n ≤ i → all_below i f ≡ true → (ups ≡ count_below i p) × (ups ≤ 6 * i) → (downs ≡ count_below i q) × (downs ≤ 6 * i)
-    → SummedAs (all_below n f) (count_below n p) (count_below n q) (6 * n) true ups downs
-counted_all n i f p q h k a u v =
+pub counted_all : {seen : Counts} (n i : ℕ) (f p q : ℕ → Bool) → i ≤ n → n ≤ i → n < 4294967296 → all_below i f ≡ true → (seen.ups ≡ count_below i p) × (seen.ups ≤ 6 * i) → (seen.downs ≡ count_below i q) × (seen.downs ≤ 6 * i)
+    → SeenAs (all_below n f) (count_below n p) (count_below n q) 25769803776 (Some seen)
+counted_all n i f p q h k few a u v =
     let e : i ≡ n = omega arith in
-    record { tested = sym (all_to n f i h k a); upward = λ t. rw (← e) u.0; downward = λ t. rw (← e) v.0; few = (omega (arith, u.1), omega (arith, v.1)) }
+    (all_to n f i h k a, record { upward = rw (← e) u.0; downward = rw (← e) v.0; few = (omega (arith, u.1), omega (arith, v.1)) })
 
 -- ---- from a record on
 
@@ -69,19 +71,23 @@ module _ (link : ℕ → List ℕ → ℕ → List ℕ → Bool) (first n g : �
 
 module _ (link : ℕ → List ℕ → ℕ → List ℕ → Bool) (first n g : ℕ) (tree ghostly : ℕ → List ℕ) (D K : ℕ) where
   -- what the loops over trees and over ghosts found of a face
-  module _ (f : ℕ) {a b : Bool} {most more ups downs ups' downs' : ℕ} (trees : SummedAs (all_below n (tree_side link first n g tree ghostly D K f)) (count_below n (tree_side_up n tree f)) (count_below n (tree_side_down n tree f)) most a ups downs)
-      (ghosts : SummedAs (all_below g (ghost_side link first n g tree ghostly D K f)) (count_below g (ghost_side_up first n g ghostly f)) (count_below g (ghost_side_down g ghostly f)) more b ups' downs') where
-    pub faces_both : faces_sound link first n g tree ghostly D K f ≡ (a && b)
+  module _ (f : ℕ) where
+    pub face_trees : all_below n (tree_side link first n g tree ghostly D K f) ≡ false → faces_sound link first n g tree ghostly D K f ≡ false
     unfolding faces_sound
-    faces_both = rw (trees.tested, ghosts.tested)
+    face_trees e = rw e
 
-    pub up_both : (a && b) ≡ true → ups + ups' ≡ faces_up link first n g tree ghostly D K f
-    unfolding faces_up
-    up_both e = rw (trees.upward (and_fst a b e), ghosts.upward (and_snd a b e))
+    pub face_ghosts : all_below g (ghost_side link first n g tree ghostly D K f) ≡ false → faces_sound link first n g tree ghostly D K f ≡ false
+    unfolding faces_sound
+    face_ghosts e = rw (e, and-false)
 
-    pub down_both : (a && b) ≡ true → downs + downs' ≡ faces_down link first n g tree ghostly D K f
-    unfolding faces_down
-    down_both e = rw (trees.downward (and_fst a b e), ghosts.downward (and_snd a b e))
+    pub face_both : {own others : Counts} → SeenAs (all_below n (tree_side link first n g tree ghostly D K f)) (count_below n (tree_side_up n tree f)) (count_below n (tree_side_down n tree f)) 25769803776 (Some own)
+        → SeenAs (all_below g (ghost_side link first n g tree ghostly D K f)) (count_below g (ghost_side_up first n g ghostly f)) (count_below g (ghost_side_down g ghostly f)) 25769803776 (Some others)
+        → SeenAs (faces_sound link first n g tree ghostly D K f) (faces_up link first n g tree ghostly D K f) (faces_down link first n g tree ghostly D K f) 51539607552 (Some (record { ups = own.ups + others.ups; downs = own.downs + others.downs }))
+    unfolding faces_sound faces_up faces_down
+    face_both trees ghosts =
+        let u = trees.1 in
+        let v = ghosts.1 in
+        (rw (trees.0, ghosts.0), record { upward = rw (u.upward, v.upward); downward = rw (u.downward, v.downward); few = (omega (arith, u.few.0, v.few.0), omega (arith, u.few.1, v.few.1)) })
 
   pub links_fail : (f : ℕ) → f < 6 → faces_sound link first n g tree ghostly D K f ≡ false → false ≡ links_sound link first n g tree ghostly D K
   unfolding links_sound

@@ -3,11 +3,10 @@ use Prim.Native.Nat.{ℕ, zero, suc, ◌+◌, ◌-◌, ◌*◌, ◌/◌, ◌%◌
 use native.Mathlib.Nat.{mul-suc, mul-zero, mul_comm, mul-le-mul_left, div-add-mod', mod-lt, div-lt_iff_lt-mul}
 use native.Mathlib.Omega.{arith}
 use mathlib.Core.Path.{◌≡◌, refl, sym, ap, ap₂, ◌∙◌}
-use mathlib.Core.List.{List, [], ◌∷◌, ◌++◌}
+use mathlib.Core.List.{List, ◌++◌}
 use lib.Dec.{ltb}
 use lib.ListN.{length, get_or, length-append, get_or-append, get_or-eq_default}
 use lib.Seq.{get_or-append-add, ext_get_or}
-use borrow.Author.Tests.{ltb-true}
 use Rattle.encoding.specs.Pieces.{piece, Bytes}
 use Rattle.encoding.proofs.Below.{either, tests, below_suc}
 use Rattle.encoding.proofs.Pieces.{piece_length, piece_at}
@@ -16,7 +15,7 @@ use Rattle.records.specs.Record.{core_size, tree_size}
 use Rattle.records.proofs.Forms.{at_agree}
 use Rattle.part.specs.Layout.{part_header, tree_place, ghost_place, part_size}
 use Rattle.part.specs.Means.{ghost_core}
-use Rattle.part.specs.Part.{part_dimension, part_k, part_first, part_count, part_ghost_count, stored_tree}
+use Rattle.part.specs.Part.{part_count, part_ghost_count, stored_tree}
 use Rattle.columns_read.specs.Columns.{spaced, columns, rows, part_columns, columns_part}
 use Rattle.columns_read.specs.Means.{tree_column, ghost_column}
 use Rattle.columns_read.proofs.Spaced.{spaced_length, spaced_at}

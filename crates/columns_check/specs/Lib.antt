@@ -1,2 +1,3 @@
 -- Document 02, C-23: parts stored by columns.
 pub mod Means
+pub mod MeansFiles

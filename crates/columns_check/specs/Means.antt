@@ -1,5 +1,7 @@
 -- Means, no part of what is promised: a column file as the code checks it, face by face, and each link from one end.
-use Rattle.std.specs.Prelude.{ℕ, ◌+◌, ◌-◌, ◌*◌, ◌≤◌, ◌<◌, Bool, true, cond, ◌&&◌, ◌||◌, ◌≡◌, List, ltb, eqb, length}
+use Rattle.std.specs.Prelude.{ℕ, ◌+◌, ◌-◌, ◌*◌, ◌≤◌, ◌<◌, Bool, true, false, cond, ◌&&◌, ◌||◌, ◌≡◌, List, ltb, eqb, length}
+use Rattle.std.specs.Prelude.{Some, None}
+use Rattle.std.specs.declared.option.Option.{Option}
 use Rattle.encoding.specs.Below.{all_below, any_below, count_below, sum_below}
 use Rattle.encoding.specs.Numbers.{u32_at}
 use Rattle.records.specs.Shape.{face_count}
@@ -9,6 +11,7 @@ use Rattle.positions.specs.Means.{Indexed}
 use Rattle.ghost_links.specs.Means.{ghost_up, ghost_down, ghost_listed, ghost_low, ghost_answered}
 use Rattle.part_check.specs.Means.{ghost_numbered, numbers_sound, PartLaid}
 use Rattle.columns_read.specs.Columns.{spaced, rows}
+use Rattle.columns_check.specs.declared.sound.Target.{Target}
 use Rattle.columns_read.specs.Means.{tree_column, ghost_column, head_ok, side_has, tree_side_up, tree_side_down, tree_head, tree_side}
 
 -- the cores of all g ghosts, one behind the other
@@ -79,10 +82,15 @@ pub record FileIndexed (file : List ℕ) (first n g K : ℕ) (marks behind : Lis
   pub room : K ≤ 64 * length marks
   pub indexed : Indexed (ghost_rows file n g) 0 g marks behind
 
--- what stands at local index j for tree i of n: whether it is held, what its link back leads to, where it begins and how far its bytes are apart
-pub record TargetAs (file : List ℕ) (n g i j : ℕ) (held : Bool) (back to gap : ℕ) : Type 0 where
-  pub is : held ≡ (ltb j n || ltb (j - n) g)
-  pub leads : held ≡ true → back ≡ cond (ltb j n) i (u32_at (spaced file (32 + i) n core_size) 0)
-  pub place : held ≡ true → to ≡ cond (ltb j n) (32 + j) (32 + 64 * n + (j - n))
-  pub apart : held ≡ true → gap ≡ cond (ltb j n) n g
-  pub fits : held ≡ true → to + gap * 39 < length file
+-- what stands at local index j for tree i of n: what its link back leads to, where it begins and how far its bytes are apart
+pub record HeldAs (file : List ℕ) (n g i j : ℕ) (there : Target) : Type 0 where
+  pub is : (ltb j n || ltb (j - n) g) ≡ true
+  pub leads : there.back ≡ cond (ltb j n) i (u32_at (spaced file (32 + i) n core_size) 0)
+  pub place : there.to ≡ cond (ltb j n) (32 + j) (32 + 64 * n + (j - n))
+  pub apart : there.gap ≡ cond (ltb j n) n g
+  pub fits : there.to + there.gap * 39 < length file
+
+-- the same, where it is held
+abbrev pub TargetAs : List ℕ → ℕ → ℕ → ℕ → ℕ → Option Target → Type 0
+TargetAs file n g i j None = (ltb j n || ltb (j - n) g) ≡ false
+TargetAs file n g i j (Some there) = HeldAs file n g i j there

@@ -2,19 +2,22 @@
 ghost use Rattle.std.specs.Prelude.{◌≡◌, true, cond, ◌+◌, ◌*◌, ◌≤◌, ◌<◌, length};
 ghost use Rattle.encoding.specs.Below.{all_below, any_below, count_below};
 ghost use Rattle.records.specs.Record.{core_size};
-ghost use Rattle.mesh.specs.Means.{link_by_dimension, packed, SeenAs};
+ghost use Rattle.mesh.specs.Means.{link_by_dimension, packed, SeenAs, SortedAs};
 ghost use Rattle.part.specs.Layout.{part_size};
 ghost use Rattle.part.specs.Means.{neighbour_in, RankKnown};
-ghost use Rattle.positions.specs.Means.{some_has, Added, Blank, Indexed};
-ghost use Rattle.ghost_links.specs.Means.{ghost_answered, SummedAs};
-ghost use Rattle.part_check.specs.Means.{tree_numbered, ghost_numbered, PartLaid};
+ghost use Rattle.positions.specs.Means.{some_has, Added, Blank, Indexed as IsIndexed};
+ghost use Rattle.ghost_links.specs.Means.{ghost_answered};
+ghost use Rattle.part_check.specs.Means.{tree_numbered, ghost_numbered};
 ghost use Rattle.columns_read.specs.Columns.{spaced, columns_sound};
-ghost use Rattle.columns_read.specs.Means.{tree_column, ghost_column, tree_head, tree_side, tree_side_up, tree_side_down};
-ghost use Rattle.columns_check.specs.Means.{from, ghost_head, ghost_side, ghost_side_low, ghost_side_up, ghost_side_down, ghost_side_listed, ghost_side_linked, links_sound, columns_found, FileNumbered, FileIndexed, ghost_rows, TargetAs};
+ghost use Rattle.columns_read.specs.Means.{tree_side_up, tree_side_down};
+ghost use Rattle.columns_read.specs.MeansFiles.{Laid, tree_of, ghost_of, head_of, side_of};
+ghost use Rattle.columns_check.specs.Means.{from, columns_found, ghost_rows, TargetAs};
+ghost use Rattle.columns_check.specs.MeansFiles.{Numbered, HasIndex, ghost_head_of, ghost_side_of, low_of, up_of, down_of, listed_of, linked_of, face_of, ups_of, downs_of, links_of};
 
 use columns_read::alike::{heads_on, sides_on};
+use columns_read::file::Columns;
 use columns_read::read::{byte, face_ok, head_ok, link_ok, orientation_ok, word};
-use mesh::sound::{Links, Seen, one, pushed, refused};
+use mesh::sound::{Counts, Links, pushed};
 use part::layout::{dimension, first_tree, ghost_count, tree_count, trees};
 use part::range::{in_range, within};
 use records::index::{GlobalIndex, LocalIndex, to_local};
@@ -23,32 +26,35 @@ use records::shape::face_count;
 // ---- trees
 
 // Whether the local index of the tree's number is its own.
-fn tree_numbered(file: &[u8], first: GlobalIndex, count: u32, tree: LocalIndex) -> bool
-    requires { 32 + tree.0 + count * 39 < length file.now }
-    ensures { result ≡ tree_numbered first.0 (tree_column file.now count) tree.0 }
+fn tree_numbered(columns: &Columns, tree: LocalIndex) -> bool
+    requires { 32 + tree.0 + columns.now.count * 39 < length columns.now.file.now }
+    ensures { result ≡ tree_numbered columns.now.first (tree_of columns.now) tree.0 }
 {
     let i = tree.0;
-    let number = word(file, 32 + (i as usize), count, 0);
-    if number < first.0 {
+    let first = columns.first;
+    let number = word(columns.file, 32 + (i as usize), columns.count, 0);
+    if number < first {
         return false;
     }
-    let local = to_local(GlobalIndex(number), first);
+    let local = to_local(GlobalIndex(number), GlobalIndex(first));
     local.0 == i
 }
 
 // The trees, their faces apart.
-fn tree_heads(file: &[u8], first: u32, count: u32, ghosts: u32, dimension: u32, trees: u32) -> bool
-    requires { PartLaid file.now first count ghosts trees }
-    ensures { result ≡ all_below count (tree_head (link_by_dimension dimension) first count ghosts (tree_column file.now count) (ghost_column file.now count ghosts) dimension trees) }
+fn tree_heads(columns: &Columns) -> bool
+    requires { Laid columns.now }
+    ensures { result ≡ all_below columns.now.count (head_of columns.now) }
 {
+    let count = columns.count;
     let mut i = 0;
+    // a `while`: trees like one another are passed over together
     while i < count {
-        if !(tree_numbered(file, GlobalIndex(first), count, LocalIndex(i))
-            & head_ok(file, 32 + (i as usize), count, dimension))
+        if !(tree_numbered(columns, LocalIndex(i))
+            & head_ok(columns.file, 32 + (i as usize), count, columns.dimension))
         {
             return false;
         }
-        i += heads_on(file, first, count, ghosts, dimension, trees, i) + 1;
+        i += heads_on(columns, i) + 1;
     }
     true
 }
@@ -56,54 +62,41 @@ fn tree_heads(file: &[u8], first: u32, count: u32, ghosts: u32, dimension: u32, 
 // Where the record with a local index stands, and what its link back leads to: a tree's to the local index, a ghost's to the global number.
 #[derive(Clone, Copy)]
 pub struct Target {
-    pub held: bool,
     pub back: u32,
     pub to: usize,
     pub gap: u32,
 }
 
-fn target_of(file: &[u8], count: u32, ghosts: u32, i: u32, j: u32) -> Target
-    requires { (length file.now ≡ part_size count ghosts) × (i < count) }
-    ensures { TargetAs file.now count ghosts i j result.held result.back result.to result.gap }
+fn target_of(columns: &Columns, i: u32, j: u32) -> Option<Target>
+    requires { (length columns.now.file.now ≡ part_size columns.now.count columns.now.ghosts) × (i < columns.now.count) }
+    ensures { TargetAs columns.now.file.now columns.now.count columns.now.ghosts i j result }
 {
+    let count = columns.count;
+    let ghosts = columns.ghosts;
     if j < count {
-        return Target {
-            held: true,
+        return Some(Target {
             back: i,
             to: 32 + (j as usize),
             gap: count,
-        };
+        });
     }
     if j - count < ghosts {
-        return Target {
-            held: true,
-            back: word(file, 32 + (i as usize), count, 0),
+        return Some(Target {
+            back: word(columns.file, 32 + (i as usize), count, 0),
             to: 32 + 64 * (count as usize) + ((j - count) as usize),
             gap: ghosts,
-        };
+        });
     }
-    Target {
-        held: false,
-        back: 0,
-        to: 0,
-        gap: 0,
-    }
+    None
 }
 
 // A link to a higher tree isn't followed. The rule of a link is called once: so it costs no call.
-fn tree_side(
-    file: &[u8],
-    first: u32,
-    count: u32,
-    ghosts: u32,
-    dimension: u32,
-    trees: u32,
-    i: u32,
-    face: u32,
-) -> bool
-    requires { PartLaid file.now first count ghosts trees × (i < count) × (face < 6) }
-    ensures { result ≡ tree_side (link_by_dimension dimension) first count ghosts (tree_column file.now count) (ghost_column file.now count ghosts) dimension trees face i }
+fn tree_side(columns: &Columns, i: u32, face: u32) -> bool
+    requires { Laid columns.now × (i < columns.now.count) × (face < 6) }
+    ensures { result ≡ side_of columns.now face i }
 {
+    let file = columns.file;
+    let count = columns.count;
     let at = 32 + (i as usize);
     if !face_ok(file, at, count, i, face) {
         return false;
@@ -115,104 +108,99 @@ fn tree_side(
     if (i < j) & (j < count) {
         return true;
     }
-    let there = target_of(file, count, ghosts, i, j);
-    if !there.held {
+    let Some(there) = target_of(columns, i, j) else {
         return false;
-    }
+    };
     link_ok(
-        file, dimension, there.back, at, count, face, there.to, there.gap,
+        file,
+        columns.dimension,
+        there.back,
+        at,
+        count,
+        face,
+        there.to,
+        there.gap,
     )
 }
 
 // Whether a tree has the face and its link leads to a higher tree.
-fn leads_up(file: &[u8], count: u32, i: u32, face: u32) -> bool
-    requires { (32 + i + count * 39 < length file.now) × (face < 6) }
-    ensures { result ≡ tree_side_up count (tree_column file.now count) face i }
+fn leads_up(columns: &Columns, i: u32, face: u32) -> bool
+    requires { (32 + i + columns.now.count * 39 < length columns.now.file.now) × (face < 6) }
+    ensures { result ≡ tree_side_up columns.now.count (tree_of columns.now) face i }
 {
+    let count = columns.count;
     let at = 32 + (i as usize);
-    let j = word(file, at, count, 8 + 4 * face);
-    (face < face_count(byte(file, at, count, 4))) & ((i < j) & (j < count))
+    let j = word(columns.file, at, count, 8 + 4 * face);
+    (face < face_count(byte(columns.file, at, count, 4))) & ((i < j) & (j < count))
 }
 
 // Whether it leads to a lower tree or to a ghost.
-fn leads_down(file: &[u8], count: u32, i: u32, face: u32) -> bool
-    requires { (32 + i + count * 39 < length file.now) × (face < 6) }
-    ensures { result ≡ tree_side_down count (tree_column file.now count) face i }
+fn leads_down(columns: &Columns, i: u32, face: u32) -> bool
+    requires { (32 + i + columns.now.count * 39 < length columns.now.file.now) × (face < 6) }
+    ensures { result ≡ tree_side_down columns.now.count (tree_of columns.now) face i }
 {
+    let count = columns.count;
     let at = 32 + (i as usize);
-    let j = word(file, at, count, 8 + 4 * face);
-    (face < face_count(byte(file, at, count, 4))) & (!((i < j) & (j < count)) & !(j == i))
+    let j = word(columns.file, at, count, 8 + 4 * face);
+    (face < face_count(byte(columns.file, at, count, 4))) & (!((i < j) & (j < count)) & !(j == i))
 }
 
 // So many, where they count.
 fn times(counts: bool, many: u32) -> u64
     ensures { (result ≡ cond counts many 0) × (result ≤ many) }
 {
-    if counts {
-        return many as u64;
-    }
-    0
+    if counts { many as u64 } else { 0 }
 }
 
-fn tree_sides(
-    file: &[u8],
-    first: u32,
-    count: u32,
-    ghosts: u32,
-    dimension: u32,
-    trees: u32,
-    face: u32,
-) -> Seen
-    requires { PartLaid file.now first count ghosts trees × (face < 6) }
-    ensures { SummedAs (all_below count (tree_side (link_by_dimension dimension) first count ghosts (tree_column file.now count) (ghost_column file.now count ghosts) dimension trees face)) (count_below count (tree_side_up count (tree_column file.now count) face)) (count_below count (tree_side_down count (tree_column file.now count) face)) (6 * count) result.ok result.ups result.downs }
+fn tree_sides(columns: &Columns, face: u32) -> Option<Counts>
+    requires { Laid columns.now × (face < 6) }
+    ensures { SeenAs (all_below columns.now.count (side_of columns.now face)) (count_below columns.now.count (tree_side_up columns.now.count (tree_of columns.now) face)) (count_below columns.now.count (tree_side_down columns.now.count (tree_of columns.now) face)) 25769803776 result }
 {
+    let count = columns.count;
     let mut i = 0;
     let mut ups = 0;
     let mut downs = 0;
+    // a `while`: trees like one another are passed over together
     while i < count {
-        if !tree_side(file, first, count, ghosts, dimension, trees, i, face) {
-            return refused();
+        if !tree_side(columns, i, face) {
+            return None;
         }
-        let many = sides_on(file, first, count, ghosts, dimension, trees, i, face) + 1;
-        ups += times(leads_up(file, count, i, face), many);
-        downs += times(leads_down(file, count, i, face), many);
+        let many = sides_on(columns, i, face) + 1;
+        ups += times(leads_up(columns, i, face), many);
+        downs += times(leads_down(columns, i, face), many);
         i += many;
     }
-    Seen {
-        ok: true,
-        ups,
-        downs,
-    }
+    Some(Counts { ups, downs })
 }
 
 // ---- ghosts
 
 // Whether a ghost has a number below K, outside the range, and above that of the ghost before it.
-fn ghost_numbered(file: &[u8], first: u32, count: u32, ghosts: u32, trees: u32, j: u32) -> bool
-    requires { PartLaid file.now first count ghosts trees × (j < ghosts) }
-    ensures { result ≡ ghost_numbered first count (ghost_column file.now count ghosts) trees j }
+fn ghost_numbered(columns: &Columns, j: u32) -> bool
+    requires { Laid columns.now × (j < columns.now.ghosts) }
+    ensures { result ≡ ghost_numbered columns.now.first columns.now.count (ghost_of columns.now) columns.now.trees j }
 {
-    let base = 32 + 64 * (count as usize);
-    let number = word(file, base + (j as usize), ghosts, 0);
-    if !((number < trees) & !in_range(first, first + count, GlobalIndex(number))) {
+    let file = columns.file;
+    let first = columns.first;
+    let base = 32 + 64 * (columns.count as usize);
+    let number = word(file, base + (j as usize), columns.ghosts, 0);
+    if !((number < columns.trees) & !in_range(first, first + columns.count, GlobalIndex(number))) {
         return false;
     }
     if j == 0 {
         return true;
     }
-    word(file, base + ((j - 1) as usize), ghosts, 0) < number
+    word(file, base + ((j - 1) as usize), columns.ghosts, 0) < number
 }
 
-fn ghost_numbers(file: &[u8], first: u32, count: u32, ghosts: u32, trees: u32) -> bool
-    requires { PartLaid file.now first count ghosts trees }
-    ensures { result ≡ all_below ghosts (ghost_numbered first count (ghost_column file.now count ghosts) trees) }
+fn ghost_numbers(columns: &Columns) -> bool
+    requires { Laid columns.now }
+    ensures { result ≡ all_below columns.now.ghosts (ghost_numbered columns.now.first columns.now.count (ghost_of columns.now) columns.now.trees) }
 {
-    let mut j = 0;
-    while j < ghosts {
-        if !ghost_numbered(file, first, count, ghosts, trees, j) {
+    for j in 0..columns.ghosts {
+        if !ghost_numbered(columns, j) {
             return false;
         }
-        j += 1;
     }
     true
 }
@@ -222,76 +210,77 @@ fn beside(file: &[u8], at: usize, step: u32, faces: u32, first: u32, end: u32) -
     requires { (at + step * 39 < length file.now) × (faces ≤ 6) }
     ensures { result ≡ any_below faces (neighbour_in first end (spaced file.now at step core_size)) }
 {
-    let mut face = 0;
     let mut met = false;
-    while face < faces {
-        met = met | in_range(first, end, GlobalIndex(word(file, at, step, 8 + 4 * face)));
-        face += 1;
+    for face in 0..faces {
+        met |= in_range(first, end, GlobalIndex(word(file, at, step, 8 + 4 * face)));
     }
     met
 }
 
 // The ghosts, their numbers and their faces apart.
-fn ghost_heads(file: &[u8], first: u32, count: u32, ghosts: u32, dimension: u32, trees: u32) -> bool
-    requires { PartLaid file.now first count ghosts trees }
-    ensures { result ≡ all_below ghosts (ghost_head (link_by_dimension dimension) first count ghosts (tree_column file.now count) (ghost_column file.now count ghosts) dimension trees) }
+fn ghost_heads(columns: &Columns) -> bool
+    requires { Laid columns.now }
+    ensures { result ≡ all_below columns.now.ghosts (ghost_head_of columns.now) }
 {
-    let mut j = 0;
-    while j < ghosts {
-        let at = 32 + 64 * (count as usize) + (j as usize);
+    let file = columns.file;
+    let first = columns.first;
+    let ghosts = columns.ghosts;
+    let base = 32 + 64 * (columns.count as usize);
+    for j in 0..ghosts {
+        let at = base + (j as usize);
         let faces = face_count(byte(file, at, ghosts, 4));
-        if !(head_ok(file, at, ghosts, dimension)
-            & beside(file, at, ghosts, faces, first, first + count))
+        if !(head_ok(file, at, ghosts, columns.dimension)
+            & beside(file, at, ghosts, faces, first, first + columns.count))
         {
             return false;
         }
-        j += 1;
     }
     true
 }
 
 // Makes the ghosts' numbers members.
-fn mark_ghosts(file: &[u8], first: u32, count: u32, ghosts: u32, trees: u32, marks: &mut [u64])
-    requires { FileNumbered file.now first count ghosts trees × (trees ≤ 64 * length marks.old) }
-    ensures { Added marks.old (some_has (ghost_rows file.now count ghosts) 0 ghosts) marks.new }
+fn mark_ghosts(columns: &Columns, marks: &mut [u64])
+    requires { Numbered columns.now × (columns.now.trees ≤ 64 * length marks.old) }
+    ensures { Added marks.old (some_has (ghost_rows columns.now.file.now columns.now.count columns.now.ghosts) 0 columns.now.ghosts) marks.new }
 {
-    let mut j = 0;
-    while j < ghosts {
-        let k = word(file, 32 + 64 * (count as usize) + (j as usize), ghosts, 0);
+    let base = 32 + 64 * (columns.count as usize);
+    for j in 0..columns.ghosts {
+        let k = word(columns.file, base + (j as usize), columns.ghosts, 0);
         bits::set::add_member(&mut *marks, k);
-        j += 1;
     }
 }
 
 // Makes the index of the ghosts' positions by their numbers.
-fn index_ghosts(
-    file: &[u8],
-    first: u32,
-    count: u32,
-    ghosts: u32,
-    trees: u32,
-    marks: &mut [u64],
-    behind: &mut [u32],
-)
-    requires { FileNumbered file.now first count ghosts trees × (trees ≤ 64 * length marks.old) × Blank marks.old behind.old }
-    ensures { Indexed (ghost_rows file.now count ghosts) 0 ghosts marks.new behind.new }
+fn index_ghosts(columns: &Columns, marks: &mut [u64], behind: &mut [u32])
+    requires { Numbered columns.now × (columns.now.trees ≤ 64 * length marks.old) × Blank marks.old behind.old }
+    ensures { IsIndexed (ghost_rows columns.now.file.now columns.now.count columns.now.ghosts) 0 columns.now.ghosts marks.new behind.new }
 {
-    mark_ghosts(file, first, count, ghosts, trees, &mut *marks);
-    let words = ((trees + 63) / 64) as usize;
+    mark_ghosts(columns, &mut *marks);
+    let words = columns.trees.div_ceil(64) as usize;
     positions::index::count_behind(&*marks, words, &mut *behind);
 }
 
+// A file with the index of its ghosts by their numbers.
+#[derive(Clone, Copy)]
+pub struct Indexed<'a> {
+    pub columns: Columns<'a>,
+    pub marks: &'a [u64],
+    pub behind: &'a [u32],
+}
+
 // What a ghost's face shows without its neighbour.
-fn ghost_low(file: &[u8], count: u32, ghosts: u32, trees: u32, j: u32, face: u32) -> bool
-    requires { (32 + 64 * count + j + ghosts * 39 < length file.now) × (face < 6) }
-    ensures { result ≡ ghost_side_low trees (ghost_column file.now count ghosts) face j }
+fn ghost_low(columns: &Columns, j: u32, face: u32) -> bool
+    requires { (32 + 64 * columns.now.count + j + columns.now.ghosts * 39 < length columns.now.file.now) × (face < 6) }
+    ensures { result ≡ low_of columns.now face j }
 {
-    let at = 32 + 64 * (count as usize) + (j as usize);
+    let file = columns.file;
+    let ghosts = columns.ghosts;
+    let at = 32 + 64 * (columns.count as usize) + (j as usize);
     let k = word(file, at, ghosts, 8 + 4 * face);
     if face_count(byte(file, at, ghosts, 4)) <= face {
         return (k == records::form::UNUSED) & (byte(file, at, ghosts, 32 + face) == 0);
     }
-    (k < trees) & orientation_ok(file, at, ghosts, face)
+    (k < columns.trees) & orientation_ok(file, at, ghosts, face)
 }
 
 // Where a ghost's link leads.
@@ -302,20 +291,15 @@ pub struct Way {
     pub down: bool,
 }
 
-fn ghost_way(
-    file: &[u8],
-    first: u32,
-    count: u32,
-    ghosts: u32,
-    trees: u32,
-    marks: &[u64],
-    behind: &[u32],
-    j: u32,
-    face: u32,
-) -> Way
-    requires { FileIndexed file.now first count ghosts trees marks.now behind.now × (j < ghosts) × (face < 6) × (ghost_side_low trees (ghost_column file.now count ghosts) face j ≡ true) }
-    ensures { (result.listed ≡ ghost_side_listed ghosts (ghost_column file.now count ghosts) face j) × (result.up ≡ ghost_side_up first count ghosts (ghost_column file.now count ghosts) face j) × (result.down ≡ ghost_side_down ghosts (ghost_column file.now count ghosts) face j) }
+fn ghost_way(indexed: &Indexed, j: u32, face: u32) -> Way
+    requires { HasIndex indexed.now × (j < indexed.now.columns.ghosts) × (face < 6) × (low_of indexed.now.columns face j ≡ true) }
+    ensures { (result.listed ≡ listed_of indexed.now.columns face j) × (result.up ≡ up_of indexed.now.columns face j) × (result.down ≡ down_of indexed.now.columns face j) }
 {
+    let columns = indexed.columns;
+    let file = columns.file;
+    let first = columns.first;
+    let count = columns.count;
+    let ghosts = columns.ghosts;
     let at = 32 + 64 * (count as usize) + (j as usize);
     if face_count(byte(file, at, ghosts, 4)) <= face {
         return Way {
@@ -327,7 +311,7 @@ fn ghost_way(
     let k = word(file, at, ghosts, 8 + 4 * face);
     let own = word(file, at, ghosts, 0);
     let inside = within(first, first + count, k);
-    let held = bits::set::in_set(marks, k);
+    let held = bits::set::in_set(indexed.marks, k);
     let low = k <= own;
     Way {
         listed: held & low,
@@ -337,85 +321,46 @@ fn ghost_way(
 }
 
 // The links of a face of up to six ghosts, sorted: those to follow as digits to base 8, and how many lead up and down. No branch hangs on where a link leads: with random links it would be guessed wrong every second time.
-fn sorted(
-    file: &[u8],
-    first: u32,
-    count: u32,
-    ghosts: u32,
-    trees: u32,
-    marks: &[u64],
-    behind: &[u32],
-    start: u32,
-    many: u32,
-    face: u32,
-) -> Links
-    requires { FileIndexed file.now first count ghosts trees marks.now behind.now × (start + many ≤ ghosts) × (many ≤ 6) × (face < 6) }
-    ensures { (SeenAs (all_below many (from (ghost_side_low trees (ghost_column file.now count ghosts) face) start)) (count_below many (from (ghost_side_up first count ghosts (ghost_column file.now count ghosts) face) start)) (count_below many (from (ghost_side_down ghosts (ghost_column file.now count ghosts) face) start)) result.ok result.ups result.downs) × (result.ok ≡ true → result.list ≡ packed many (from (ghost_side_listed ghosts (ghost_column file.now count ghosts) face) start)) }
+fn sorted(indexed: &Indexed, start: u32, many: u32, face: u32) -> Option<Links>
+    requires { HasIndex indexed.now × (start + many ≤ indexed.now.columns.ghosts) × (many ≤ 6) × (face < 6) }
+    ensures { SortedAs (all_below many (from (low_of indexed.now.columns face) start)) (count_below many (from (up_of indexed.now.columns face) start)) (count_below many (from (down_of indexed.now.columns face) start)) (packed many (from (listed_of indexed.now.columns face) start)) result }
 {
-    let mut m = 0;
     let mut list = 0;
     let mut ups = 0;
     let mut downs = 0;
-    while m < many {
-        if !ghost_low(file, count, ghosts, trees, start + m, face) {
-            return Links {
-                ok: false,
-                list: 0,
-                ups: 0,
-                downs: 0,
-            };
+    for m in 0..many {
+        if !ghost_low(&indexed.columns, start + m, face) {
+            return None;
         }
-        let way = ghost_way(
-            file,
-            first,
-            count,
-            ghosts,
-            trees,
-            marks,
-            behind,
-            start + m,
-            face,
-        );
+        let way = ghost_way(indexed, start + m, face);
         list = pushed(list, m, way.listed);
-        ups += one(way.up);
-        downs += one(way.down);
-        m += 1;
+        ups += u64::from(way.up);
+        downs += u64::from(way.down);
     }
-    Links {
-        ok: true,
+    Some(Links {
         list,
-        ups,
-        downs,
-    }
+        counts: Counts { ups, downs },
+    })
 }
 
 // A link to a ghost that isn't higher.
-fn ghost_linked(
-    file: &[u8],
-    first: u32,
-    count: u32,
-    ghosts: u32,
-    dimension: u32,
-    trees: u32,
-    marks: &[u64],
-    behind: &[u32],
-    j: u32,
-    face: u32,
-) -> bool
-    requires { FileIndexed file.now first count ghosts trees marks.now behind.now × (j < ghosts) × (face < 6) × (ghost_side_listed ghosts (ghost_column file.now count ghosts) face j ≡ true) }
-    ensures { result ≡ ghost_answered (link_by_dimension dimension) ghosts (ghost_column file.now count ghosts) j face }
+fn ghost_linked(indexed: &Indexed, j: u32, face: u32) -> bool
+    requires { HasIndex indexed.now × (j < indexed.now.columns.ghosts) × (face < 6) × (listed_of indexed.now.columns face j ≡ true) }
+    ensures { result ≡ ghost_answered (link_by_dimension indexed.now.columns.dimension) indexed.now.columns.ghosts (ghost_of indexed.now.columns) j face }
 {
-    let base = 32 + 64 * (count as usize);
+    let file = indexed.columns.file;
+    let ghosts = indexed.columns.ghosts;
+    let base = 32 + 64 * (indexed.columns.count as usize);
     let at = base + (j as usize);
     let number = word(file, at, ghosts, 0);
     if !face_ok(file, at, ghosts, number, face) {
         return false;
     }
     let k = word(file, at, ghosts, 8 + 4 * face);
-    let position = positions::index::find(marks, behind, ghosts, GlobalIndex(k));
+    let position = positions::index::find(indexed.marks, indexed.behind, ghosts, GlobalIndex(k));
     link_ok(
         file,
-        dimension,
+        indexed.columns.dimension,
         number,
         at,
         ghosts,
@@ -426,37 +371,14 @@ fn ghost_linked(
 }
 
 // Those of a list, the last first.
-fn listed_linked(
-    file: &[u8],
-    first: u32,
-    count: u32,
-    ghosts: u32,
-    dimension: u32,
-    trees: u32,
-    marks: &[u64],
-    behind: &[u32],
-    start: u32,
-    many: u32,
-    face: u32,
-    list: u32,
-) -> bool
-    requires { FileIndexed file.now first count ghosts trees marks.now behind.now × (start + many ≤ ghosts) × (many ≤ 6) × (face < 6) × (list ≡ packed many (from (ghost_side_listed ghosts (ghost_column file.now count ghosts) face) start)) }
-    ensures { result ≡ all_below many (from (ghost_side_linked (link_by_dimension dimension) first count ghosts (tree_column file.now count) (ghost_column file.now count ghosts) dimension trees face) start) }
+fn listed_linked(indexed: &Indexed, start: u32, many: u32, face: u32, list: u32) -> bool
+    requires { HasIndex indexed.now × (start + many ≤ indexed.now.columns.ghosts) × (many ≤ 6) × (face < 6) × (list ≡ packed many (from (listed_of indexed.now.columns face) start)) }
+    ensures { result ≡ all_below many (from (linked_of indexed.now.columns face) start) }
 {
     let mut left = list;
+    // the digits of the list, the last first: no index is counted
     while 0 < left {
-        if !ghost_linked(
-            file,
-            first,
-            count,
-            ghosts,
-            dimension,
-            trees,
-            marks,
-            behind,
-            start + (left % 8 - 1),
-            face,
-        ) {
+        if !ghost_linked(indexed, start + (left % 8 - 1), face) {
             return false;
         }
         left = left / 8;
@@ -464,153 +386,92 @@ fn listed_linked(
     true
 }
 
-// How many ghosts are looked at together: six, or those that are left.
-fn together(left: u32) -> u32
-    requires { 0 < left }
-    ensures { (result ≤ 6) × (result ≤ left) × (0 < result) }
+// Six ghosts are looked at together, or those that are left.
+fn ghost_sides(indexed: &Indexed, face: u32) -> Option<Counts>
+    requires { HasIndex indexed.now × (face < 6) }
+    ensures { SeenAs (all_below indexed.now.columns.ghosts (ghost_side_of indexed.now.columns face)) (count_below indexed.now.columns.ghosts (up_of indexed.now.columns face)) (count_below indexed.now.columns.ghosts (down_of indexed.now.columns face)) 25769803776 result }
 {
-    if left < 6 {
-        return left;
-    }
-    6
-}
-
-fn ghost_sides(
-    file: &[u8],
-    first: u32,
-    count: u32,
-    ghosts: u32,
-    dimension: u32,
-    trees: u32,
-    marks: &[u64],
-    behind: &[u32],
-    face: u32,
-) -> Seen
-    requires { FileIndexed file.now first count ghosts trees marks.now behind.now × (face < 6) }
-    ensures { SummedAs (all_below ghosts (ghost_side (link_by_dimension dimension) first count ghosts (tree_column file.now count) (ghost_column file.now count ghosts) dimension trees face)) (count_below ghosts (ghost_side_up first count ghosts (ghost_column file.now count ghosts) face)) (count_below ghosts (ghost_side_down ghosts (ghost_column file.now count ghosts) face)) (6 * ghosts) result.ok result.ups result.downs }
-{
-    let mut j = 0;
+    let ghosts = indexed.columns.ghosts;
     let mut ups = 0;
     let mut downs = 0;
-    while j < ghosts {
-        let many = together(ghosts - j);
-        let links = sorted(
-            file, first, count, ghosts, trees, marks, behind, j, many, face,
-        );
-        if !links.ok {
-            return refused();
+    for j in (0..ghosts).step_by(6) {
+        let many = (ghosts - j).min(6);
+        let links = sorted(indexed, j, many, face)?;
+        if !listed_linked(indexed, j, many, face, links.list) {
+            return None;
         }
-        if !listed_linked(
-            file, first, count, ghosts, dimension, trees, marks, behind, j, many, face, links.list,
-        ) {
-            return refused();
-        }
-        ups += links.ups;
-        downs += links.downs;
-        j += many;
+        ups += links.counts.ups;
+        downs += links.counts.downs;
     }
-    Seen {
-        ok: true,
-        ups,
-        downs,
-    }
+    Some(Counts { ups, downs })
 }
 
 // ---- the whole
 
-// Every face, and as many links lead up as down.
-fn links_sound(
-    file: &[u8],
-    first: u32,
-    count: u32,
-    ghosts: u32,
-    dimension: u32,
-    trees: u32,
-    marks: &[u64],
-    behind: &[u32],
-) -> bool
-    requires { FileIndexed file.now first count ghosts trees marks.now behind.now }
-    ensures { result ≡ links_sound (link_by_dimension dimension) first count ghosts (tree_column file.now count) (ghost_column file.now count ghosts) dimension trees }
+// A face of all records.
+fn face_sound(indexed: &Indexed, face: u32) -> Option<Counts>
+    requires { HasIndex indexed.now × (face < 6) }
+    ensures { SeenAs (face_of indexed.now.columns face) (ups_of indexed.now.columns face) (downs_of indexed.now.columns face) 51539607552 result }
 {
-    let mut face = 0;
+    let own = tree_sides(&indexed.columns, face)?;
+    let others = ghost_sides(indexed, face)?;
+    Some(Counts {
+        ups: own.ups + others.ups,
+        downs: own.downs + others.downs,
+    })
+}
+
+// Every face, and as many links lead up as down.
+fn links_sound(indexed: &Indexed) -> bool
+    requires { HasIndex indexed.now }
+    ensures { result ≡ links_of indexed.now.columns }
+{
     let mut ups = 0;
     let mut downs = 0;
-    while face < 6 {
-        let own = tree_sides(file, first, count, ghosts, dimension, trees, face);
-        let others = ghost_sides(
-            file, first, count, ghosts, dimension, trees, marks, behind, face,
-        );
-        if !(own.ok & others.ok) {
+    for face in 0..6 {
+        let Some(seen) = face_sound(indexed, face) else {
             return false;
-        }
-        ups += own.ups + others.ups;
-        downs += own.downs + others.downs;
-        face += 1;
+        };
+        ups += seen.ups;
+        downs += seen.downs;
     }
     ups == downs
 }
 
-// The same, with an index for as many trees as there can be.
-fn links_of_many(
-    file: &[u8],
-    first: u32,
-    count: u32,
-    ghosts: u32,
-    dimension: u32,
-    trees: u32,
-) -> bool
-    requires { FileNumbered file.now first count ghosts trees }
-    ensures { result ≡ links_sound (link_by_dimension dimension) first count ghosts (tree_column file.now count) (ghost_column file.now count ghosts) dimension trees }
+// The same, by an index of so many words.
+fn links_with<const WORDS: usize>(columns: &Columns) -> bool
+    requires { Numbered columns.now × (columns.now.trees ≤ 64 * WORDS) × (WORDS ≤ 1048576) }
+    ensures { result ≡ links_of columns.now }
 {
-    let mut marks = [0u64; 16384];
-    let mut behind = [0u32; 16384];
-    index_ghosts(file, first, count, ghosts, trees, &mut marks, &mut behind);
-    links_sound(
-        file, first, count, ghosts, dimension, trees, &marks, &behind,
-    )
+    let mut marks = [0u64; WORDS];
+    let mut behind = [0u32; WORDS];
+    index_ghosts(columns, &mut marks, &mut behind);
+    links_sound(&Indexed {
+        columns: *columns,
+        marks: &marks,
+        behind: &behind,
+    })
 }
 
 // The same. To clear the words for all trees takes longer than to check a small part: up to 65,536 trees have fewer words.
-fn all_links_sound(
-    file: &[u8],
-    first: u32,
-    count: u32,
-    ghosts: u32,
-    dimension: u32,
-    trees: u32,
-) -> bool
-    requires { FileNumbered file.now first count ghosts trees }
-    ensures { result ≡ links_sound (link_by_dimension dimension) first count ghosts (tree_column file.now count) (ghost_column file.now count ghosts) dimension trees }
+fn all_links_sound(columns: &Columns) -> bool
+    requires { Numbered columns.now }
+    ensures { result ≡ links_of columns.now }
 {
-    if trees <= 65536 {
-        let mut marks = [0u64; 1024];
-        let mut behind = [0u32; 1024];
-        index_ghosts(file, first, count, ghosts, trees, &mut marks, &mut behind);
-        return links_sound(
-            file, first, count, ghosts, dimension, trees, &marks, &behind,
-        );
+    if columns.trees <= 65536 {
+        return links_with::<1024>(columns);
     }
-    links_of_many(file, first, count, ghosts, dimension, trees)
+    links_with::<16384>(columns)
 }
 
-fn records_sound(
-    file: &[u8],
-    first: u32,
-    count: u32,
-    ghosts: u32,
-    dimension: u32,
-    trees: u32,
-) -> bool
-    requires { PartLaid file.now first count ghosts trees }
-    ensures { result ≡ columns_found (link_by_dimension dimension) first count ghosts (tree_column file.now count) (ghost_column file.now count ghosts) dimension trees }
+fn records_sound(columns: &Columns) -> bool
+    requires { Laid columns.now }
+    ensures { result ≡ columns_found (link_by_dimension columns.now.dimension) columns.now.first columns.now.count columns.now.ghosts (tree_of columns.now) (ghost_of columns.now) columns.now.dimension columns.now.trees }
 {
-    if !(ghost_numbers(file, first, count, ghosts, trees)
-        & tree_heads(file, first, count, ghosts, dimension, trees))
-    {
+    if !(ghost_numbers(columns) & tree_heads(columns)) {
         return false;
     }
-    ghost_heads(file, first, count, ghosts, dimension, trees)
-        & all_links_sound(file, first, count, ghosts, dimension, trees)
+    ghost_heads(columns) & all_links_sound(columns)
 }
 
 // Whether the file is that of a sound part for a valid table and a rank of it.
@@ -621,12 +482,12 @@ pub fn columns_sound(file: &[u8], table: &[u8], rank: u32) -> bool
     if !part_check::sound::header_sound(file, table, rank) {
         return false;
     }
-    records_sound(
+    records_sound(&Columns {
         file,
-        first_tree(file).0,
-        tree_count(file),
-        ghost_count(file),
-        dimension(file),
-        trees(file),
-    )
+        first: first_tree(file).0,
+        count: tree_count(file),
+        ghosts: ghost_count(file),
+        dimension: dimension(file),
+        trees: trees(file),
+    })
 }

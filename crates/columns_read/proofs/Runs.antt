@@ -23,18 +23,23 @@ module _ {test : ℕ → Bool} {low : ℕ} where
   pub run_start : {some : ℕ} → some ≤ 64 → low + some < 256 → Run test low some 0
   run_start h l = record { few = h; room = λ k p q. omega arith; like = λ k p q s. absurd (omega arith) }
 
-  pub run_more : {some i u v : ℕ} {ok : Bool} → Run test low some i → ok ≡ test (i + 1) → u ≡ cond ok 64 i → v ≤ some → v ≤ u → Run test low v (i + 1)
-  run_more {some} {i} {u} {v} {ok} so_far found e a b =
+  pub run_alike : {some i v : ℕ} → Run test low some i → test (i + 1) ≡ true → v ≤ some → Run test low v (i + 1)
+  run_alike {some} {i} so_far found a =
       record {
         few = omega (arith, so_far.few);
         room = λ k p q. so_far.room k p (omega arith);
         like = λ k p q s.
             either (ltb i k)
-            (λ t. let last : k ≡ i + 1 = omega tests in
-            either ok
-            (λ y. rw last (sym found ∙ y))
-            (λ y. let short : u ≡ i = rw y at e in absurd (omega arith)))
+            (λ t. let last : k ≡ i + 1 = omega tests in rw last found)
             (λ t. so_far.like k p (omega tests) (omega arith));
+      }
+
+  pub run_other : {some i v : ℕ} → Run test low some i → v ≤ some → v ≤ i → Run test low v (i + 1)
+  run_other so_far a b =
+      record {
+        few = omega (arith, so_far.few);
+        room = λ k p q. so_far.room k p (omega arith);
+        like = λ k p q s. so_far.like k p (omega arith) (omega arith);
       }
 
   pub run_whole : {some i : ℕ} → Run test low some i → 64 ≤ i → Run test low some 64

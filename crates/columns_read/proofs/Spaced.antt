@@ -1,5 +1,5 @@
 -- Laws of bytes that stand apart.
-use Rattle.std.proofs.Common.{◌≡◌, ℕ, zero, suc, ◌+◌, ◌*◌, ◌<◌, ◌≤◌, List, [], ◌∷◌, ◌++◌, length, get_or, sym, refl, ap, ◌∙◌, mul-le-mul_left, add-one, arith, length-append}
+use Rattle.std.proofs.Common.{◌≡◌, ℕ, zero, suc, ◌+◌, ◌*◌, ◌<◌, List, [], ◌∷◌, length, get_or, refl, ◌∙◌, mul-le-mul_left, add-one, arith, length-append}
 use lib.ListN.{get_or-append}
 use lib.Seq.{get_or_at}
 use Rattle.encoding.proofs.Below.{below_suc}

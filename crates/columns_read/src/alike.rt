@@ -1,11 +1,11 @@
 // Trees behind each other that are alike, as in the rows of a brick: the same shape, code and so on, and numbers that count up. What is found of one then holds of all. Bytes of a column stand side by side, so that these tests are made for many trees at once.
-ghost use Rattle.std.specs.Prelude.{◌≡◌, ℕ, ◌+◌, ◌*◌, ◌<◌, ◌≤◌, length, if◌then◌else◌, slice_index};
+ghost use Rattle.std.specs.Prelude.{Bool, ◌≡◌, ℕ, ◌+◌, ◌*◌, ◌<◌, ◌≤◌, length, if◌then◌else◌, slice_index};
 ghost use Rattle.records.specs.Record.{core_size};
-ghost use Rattle.mesh.specs.Means.{link_by_dimension};
-ghost use Rattle.part_check.specs.Means.{PartLaid};
 ghost use Rattle.columns_read.specs.Columns.{spaced};
-ghost use Rattle.columns_read.specs.Means.{tree_column, ghost_column, tree_head, same_byte, counts_on, side_run, head_run, Run, SidesAlike};
+ghost use Rattle.columns_read.specs.Means.{same_byte, counts_on, side_run, head_run, Run};
+ghost use Rattle.columns_read.specs.MeansFiles.{Laid, head_of, Alike};
 
+use crate::file::Columns;
 use crate::read::{bare, byte, word};
 use mesh::link::parted;
 use records::shape::face_count;
@@ -50,35 +50,26 @@ fn head_like(bs: &[u8], at: usize, step: u32, k: usize) -> bool
                         & (same_byte(bs, at, step, 38, k) & same_byte(bs, at, step, 39, k))))))
 }
 
-fn lesser(a: u8, b: u8) -> u8
-    ensures { (result ≤ a) × (result ≤ b) }
-{
-    if a < b {
-        return a;
-    }
-    b
-}
-
-fn unless(like: bool, k: u8) -> u8
-    ensures { result ≡ (if like then 64 else k) }
-{
-    if like {
-        return 64;
-    }
-    k
-}
-
 // How many of up to 64 records can count on from a lowest byte.
 fn room(low: u8) -> u8
     ensures { (result ≤ 64) × (low + result < 256) }
 {
-    if 191 < low {
-        return 255 - low;
-    }
-    64
+    (255 - low).min(64)
 }
 
-// How many of the 64 records behind the one at `at` are like it in a face. The loop has no exit, so that the compiler makes the tests of many records at once.
+// How many of the 64 records behind one are like it, where `like` says whether record k behind is, and the number that counts on has the lowest byte `low`. The loop has no exit, so that the compiler makes the tests of many records at once.
+fn alike<F: Fn(usize) -> bool>(low: u8, like: F) -> u8
+    requires { (k : ℕ) → 0 < k → k ≤ 64 → F.pre like k }
+    ensures { (test : ℕ → Bool) → ((k : ℕ) (b : Bool) → F.post like k b → b ≡ test k) → Run test low result 64 }
+{
+    let mut some = room(low);
+    for i in 0..64 {
+        let most = if like(i + 1) { 64 } else { i as u8 };
+        some = some.min(most);
+    }
+    some
+}
+
 fn sides_like(bs: &[u8], at: usize, step: u32, face: u32) -> u8
     requires { (at + 64 + step * 39 < length bs.now) × (face < 6) }
     ensures { Run (side_run bs.now at step face) (slice_index (spaced bs.now at step core_size) (8 + 4 * face)) result 64 }
@@ -86,42 +77,26 @@ fn sides_like(bs: &[u8], at: usize, step: u32, face: u32) -> u8
     if !side_like(bs, at, step, face, 1) {
         return 0;
     }
-    let mut some = room(bare(bs, at, step, 8 + 4 * face));
-    let mut i = 0;
-    while i < 64 {
-        some = lesser(some, unless(side_like(bs, at, step, face, i + 1), i as u8));
-        i += 1;
-    }
-    some
+    alike(
+        bare(bs, at, step, 8 + 4 * face),
+        |k| side_like(bs, at, step, face, k),
+    )
 }
 
 fn heads_like(bs: &[u8], at: usize, step: u32) -> u8
     requires { at + 64 + step * 39 < length bs.now }
     ensures { Run (head_run bs.now at step) (slice_index (spaced bs.now at step core_size) 0) result 64 }
 {
-    let mut some = room(bare(bs, at, step, 0));
-    let mut i = 0;
-    while i < 64 {
-        some = lesser(some, unless(head_like(bs, at, step, i + 1), i as u8));
-        i += 1;
-    }
-    some
+    alike(bare(bs, at, step, 0), |k| head_like(bs, at, step, k))
 }
 
 // How many trees behind tree i are like it in a face, and so are their neighbours, if its link is followed.
-pub fn sides_on(
-    file: &[u8],
-    first: u32,
-    count: u32,
-    ghosts: u32,
-    dimension: u32,
-    trees: u32,
-    i: u32,
-    face: u32,
-) -> u32
-    requires { PartLaid file.now first count ghosts trees × (i < count) × (face < 6) }
-    ensures { SidesAlike (link_by_dimension dimension) first count ghosts (tree_column file.now count) (ghost_column file.now count ghosts) dimension trees face i result }
+pub fn sides_on(columns: &Columns, i: u32, face: u32) -> u32
+    requires { Laid columns.now × (i < columns.now.count) × (face < 6) }
+    ensures { Alike columns.now face i result }
 {
+    let file = columns.file;
+    let count = columns.count;
     if count - i <= 64 {
         return 0;
     }
@@ -140,27 +115,19 @@ pub fn sides_on(
     if i < j {
         return own as u32;
     }
-    let across = parted(dimension, byte(file, at, count, 32 + face));
+    let across = parted(columns.dimension, byte(file, at, count, 32 + face));
     let there = across.face;
     let others = sides_like(file, 32 + (j as usize), count, there);
-    lesser(own, others) as u32
+    own.min(others) as u32
 }
 
 // How many trees behind tree i are in form, their faces apart, where it is.
-pub fn heads_on(
-    file: &[u8],
-    first: u32,
-    count: u32,
-    ghosts: u32,
-    dimension: u32,
-    trees: u32,
-    i: u32,
-) -> u32
-    requires { PartLaid file.now first count ghosts trees × (i < count) }
-    ensures { (i + result < count) × ((k : ℕ) → k ≤ result → tree_head (link_by_dimension dimension) first count ghosts (tree_column file.now count) (ghost_column file.now count ghosts) dimension trees (i + k) ≡ tree_head (link_by_dimension dimension) first count ghosts (tree_column file.now count) (ghost_column file.now count ghosts) dimension trees i) }
+pub fn heads_on(columns: &Columns, i: u32) -> u32
+    requires { Laid columns.now × (i < columns.now.count) }
+    ensures { (i + result < columns.now.count) × ((k : ℕ) → k ≤ result → head_of columns.now (i + k) ≡ head_of columns.now i) }
 {
-    if count - i <= 64 {
+    if columns.count - i <= 64 {
         return 0;
     }
-    heads_like(file, 32 + (i as usize), count) as u32
+    heads_like(columns.file, 32 + (i as usize), columns.count) as u32
 }

@@ -2,4 +2,5 @@
 #![tactic(auto)]
 
 pub mod alike;
+pub mod file;
 pub mod read;

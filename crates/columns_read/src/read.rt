@@ -10,12 +10,6 @@ ghost use Rattle.columns_read.specs.Means.{head_ok};
 
 use mesh::link::{corners_fit, parted};
 
-fn wide(x: u8) -> u32
-    ensures { (result ≡ x) × (result < 256) }
-{
-    x as u32
-}
-
 // Byte j of the core.
 pub fn bare(bs: &[u8], at: usize, step: u32, j: u32) -> u8
     requires { (at + step * 39 < length bs.now) × (j < 40) }
@@ -28,7 +22,7 @@ pub fn byte(bs: &[u8], at: usize, step: u32, j: u32) -> u32
     requires { (at + step * 39 < length bs.now) × (j < 40) }
     ensures { (result ≡ slice_index (spaced bs.now at step core_size) j) × (result < 256) }
 {
-    wide(bare(bs, at, step, j))
+    u32::from(bare(bs, at, step, j))
 }
 
 // The number of 32 bits at byte j.

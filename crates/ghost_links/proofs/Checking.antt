@@ -7,19 +7,21 @@ use mathlib.Core.Bool.{Bool, true, false, not, ◌&&◌, ◌||◌, and-false}
 use mathlib.Core.List.{List}
 use lib.Dec.{leb, ltb, eqb}
 use borrow.Author.Tests.{ltb-true, lt-ltb, le-ltb}
+use Rattle.std.specs.Prelude.{Some}
+use Rattle.mesh.specs.declared.sound.Counts.{Counts}
 use Rattle.encoding.specs.Below.{all_below, any_below, count_below, least_below, sum_below}
 use Rattle.encoding.specs.Pieces.{piece}
-use Rattle.encoding.proofs.Below.{tests, either, clash, all_fails, all_to, and_fst, any_same, least_lt, least_same}
+use Rattle.encoding.proofs.Below.{tests, either, all_fails, all_to, and_fst, any_same, least_lt, least_same}
 use Rattle.bits.specs.Bits.{in_set}
 use Rattle.records.specs.Shape.{face_count}
-use Rattle.records.specs.Record.{core_size, number_of, shape_of, neighbour_of, boundary_ok, in_form}
+use Rattle.records.specs.Record.{core_size, number_of, shape_of, neighbour_of, boundary_ok}
 use Rattle.records.proofs.Forms.{number_at_lem}
 use Rattle.mesh.specs.Link.{orientation_ok}
 use Rattle.mesh.specs.Means.{link_by_dimension, SeenAs}
 use Rattle.part.specs.Means.{in_range, neighbour_in, number_at, ghost_has}
 use Rattle.positions.specs.Means.{has_number, some_has, position_of, member_position, Indexed}
 use Rattle.positions.proofs.Positions.{index_position}
-use Rattle.ghost_links.specs.Means.{core_from, form_alone, ghost_up, ghost_down, ghost_listed, ghost_ups, ghost_downs, ghost_low, ghost_answered, ghost_face_down, ghost_from_one_end, Formed, SummedAs}
+use Rattle.ghost_links.specs.Means.{core_from, form_alone, ghost_up, ghost_down, ghost_listed, ghost_ups, ghost_downs, ghost_low, ghost_answered, ghost_face_down, ghost_from_one_end}
 
 -- no more, or less
 pub not_leb : (a b : ℕ) → not (leb a b) ≡ ltb b a
@@ -42,11 +44,6 @@ module _ (bs : List ℕ) (at : ℕ) {g : ℕ} {ws behind : List ℕ} (x : Indexe
   pub position_is : {p : ℕ} → p ≡ member_position ws g k → p ≡ least_below g (ghost_has (core_from bs at) k)
   unfolding position_of has_number ghost_has
   position_is e = e ∙ index_position x k ∙ least_same g (has_number bs at k) (ghost_has (core_from bs at) k) (λ i h. ap (λ (m : ℕ). eqb m k) (number_there bs at i))
-
--- the form of a ghost, where all are known to be in form
-pub formed_there : (bs : List ℕ) (at : ℕ) {g : ℕ} → Formed bs at g → (j : ℕ) → j < g → in_form (number_of (piece bs (at + core_size * j) core_size)) (piece bs (at + core_size * j) core_size) ≡ true
-unfolding core_from
-formed_there bs at f j h = f j h
 
 -- ---- the links of a ghost
 
@@ -116,13 +113,18 @@ low_under k K o e h = omega (arith, ltb-true k K (and_fst (ltb k K) o e))
 
 -- ---- what is seen of a ghost
 
--- the loop over the faces of a ghost has come to its end
-pub seen_met : {ups downs : ℕ} {met : Bool} (n face : ℕ) (f m p q : ℕ → Bool) → face ≤ n → n ≤ face → n ≤ 6 → all_below face f ≡ true → met ≡ any_below face m → (ups ≡ count_below face p) × (ups ≤ face) → (downs ≡ count_below face q) × (downs ≤ face)
-    → SeenAs (all_below n f && any_below n m) (count_below n p) (count_below n q) met ups downs
-seen_met n face f m p q h k six a e u v =
-    let same : face ≡ n = omega arith in
-    let all : all_below n f ≡ true = all_to n f face h k a in
-    record { tested = rw (all, ← same) e; upward = λ t. rw (← same) u.0; downward = λ t. rw (← same) v.0; few = (omega (arith, u.1), omega (arith, v.1)) }
+-- the loop over the faces of a ghost has come to its end: none leads into the range, or one does
+pub seen_unmet : {met : Bool} (n face : ℕ) (f m : ℕ → Bool) → face ≤ n → n ≤ face → met ≡ any_below face m → met ≡ false → (all_below n f && any_below n m) ≡ false
+seen_unmet n face f m h k e q =
+    let same : n ≡ face = omega arith in
+    rw (same, ← e, q, and-false)
+
+pub seen_met : {seen : Counts} {met : Bool} (n face : ℕ) (f m p q : ℕ → Bool) → face ≤ n → n ≤ face → n ≤ 6 → all_below face f ≡ true → met ≡ any_below face m → met ≡ true → (seen.ups ≡ count_below face p) × (seen.ups ≤ face) → (seen.downs ≡ count_below face q) × (seen.downs ≤ face)
+    → SeenAs (all_below n f && any_below n m) (count_below n p) (count_below n q) 6 (Some seen)
+seen_met n face f m p q h k six a e passes u v =
+    let same : n ≡ face = omega arith in
+    let few : face ≤ 6 = omega arith in
+    rw same ((rw (a, ← e, passes), record { upward = u.0; downward = v.0; few = (omega (arith, u.1), omega (arith, v.1)) }))
 
 module _ (bs : List ℕ) (at D first n g K j : ℕ) where
   pub ghost_off : {a : Bool} → a ≡ form_alone D (piece bs (at + core_size * j) core_size) → a ≡ false → ghost_from_one_end (link_by_dimension D) g (core_from bs at) first n D K j ≡ false
@@ -147,22 +149,18 @@ module _ (bs : List ℕ) (at D first n g K j : ℕ) where
     unfolding ghost_from_one_end
     ghost_unanswered h = rw (faces-here, h, and-false)
 
-    pub ghost_seen_lem : {a ok : Bool} {ups downs : ℕ} → a ≡ form_alone D (piece bs (at + core_size * j) core_size) → a ≡ true → all_below faces (ghost_face_down (link_by_dimension D) g (core_from bs at) j) ≡ true
-        → SeenAs (all_below faces (ghost_low (core_from bs at) K j) && any_below faces (neighbour_in first (first + n) (core_from bs at j))) (count_below faces (ghost_up first n g (core_from bs at) j)) (count_below faces (ghost_down g (core_from bs at) j)) ok ups downs
-        → ok ≡ true → SeenAs (ghost_from_one_end (link_by_dimension D) g (core_from bs at) first n D K j) (ghost_ups first n g (core_from bs at) j) (ghost_downs g (core_from bs at) j) true ups downs
+    pub ghost_seen_lem : {a : Bool} {seen : Counts} → a ≡ form_alone D (piece bs (at + core_size * j) core_size) → a ≡ true → all_below faces (ghost_face_down (link_by_dimension D) g (core_from bs at) j) ≡ true
+        → SeenAs (all_below faces (ghost_low (core_from bs at) K j) && any_below faces (neighbour_in first (first + n) (core_from bs at j))) (count_below faces (ghost_up first n g (core_from bs at) j)) (count_below faces (ghost_down g (core_from bs at) j)) 6 (Some seen)
+        → SeenAs (ghost_from_one_end (link_by_dimension D) g (core_from bs at) first n D K j) (ghost_ups first n g (core_from bs at) j) (ghost_downs g (core_from bs at) j) 6 (Some seen)
     unfolding ghost_from_one_end ghost_ups ghost_downs
-    ghost_seen_lem e h l s passes =
+    ghost_seen_lem e h l s =
         let x : form_alone D (core_from bs at j) ≡ true = alone-here e ∙ h in
-        let y : (all_below faces (ghost_low (core_from bs at) K j) && any_below faces (neighbour_in first (first + n) (core_from bs at j))) ≡ true = sym s.tested ∙ passes in
-        rw (faces-here, x, y, l) (record { tested = refl; upward = λ q. s.upward passes; downward = λ q. s.downward passes; few = s.few })
+        rw (faces-here, x, s.0, l) (refl, s.1)
 
 -- ---- over all records
 
-pub summed_refused : {test : Bool} {up down most : ℕ} {ok : Bool} {ups downs : ℕ} → test ≡ false → (ok ≡ false) × ((ups ≡ 0) × (downs ≡ 0)) → SummedAs test up down most ok ups downs
-summed_refused e r = record { tested = r.0 ∙ sym e; upward = λ t. clash t r.0; downward = λ t. clash t r.0; few = (omega (arith, r.1.0), omega (arith, r.1.1)) }
-
-pub summed_all : {ups downs : ℕ} (n i : ℕ) (f : ℕ → Bool) (p q : ℕ → ℕ) → i ≤ n → n ≤ i → all_below i f ≡ true → (ups ≡ sum_below i p) × (ups ≤ 6 * i) → (downs ≡ sum_below i q) × (downs ≤ 6 * i)
-    → SummedAs (all_below n f) (sum_below n p) (sum_below n q) (6 * n) true ups downs
+pub summed_all : {seen : Counts} (n i : ℕ) (f : ℕ → Bool) (p q : ℕ → ℕ) → i ≤ n → n ≤ i → all_below i f ≡ true → (seen.ups ≡ sum_below i p) × (seen.ups ≤ 6 * i) → (seen.downs ≡ sum_below i q) × (seen.downs ≤ 6 * i)
+    → SeenAs (all_below n f) (sum_below n p) (sum_below n q) (6 * n) (Some seen)
 summed_all n i f p q h k a u v =
     let e : i ≡ n = omega arith in
-    record { tested = sym (all_to n f i h k a); upward = λ t. rw (← e) u.0; downward = λ t. rw (← e) v.0; few = (omega (arith, u.1), omega (arith, v.1)) }
+    (all_to n f i h k a, record { upward = rw (← e) u.0; downward = rw (← e) v.0; few = (omega (arith, u.1), omega (arith, v.1)) })

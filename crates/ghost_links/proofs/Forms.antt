@@ -6,7 +6,7 @@ use mathlib.Core.List.{List}
 use lib.Dec.{ltb, eqb}
 use borrow.Author.Tests.{le-ltb, eqb-true}
 use Rattle.encoding.specs.Below.{all_below}
-use Rattle.encoding.proofs.Below.{tests, either, iff_eq, and_fst, and_snd, and_intro, all_at, all_intro}
+use Rattle.encoding.proofs.Below.{tests, either, and_fst, and_snd, and_intro, all_at, all_intro}
 use Rattle.records.specs.Shape.{dimension_of, face_count, shape_ok}
 use Rattle.records.specs.Record.{shape_of, region_ok, zeros_ok, unused_ok, boundary_ok, in_form}
 use Rattle.records.specs.Means.{unused_from}
@@ -68,19 +68,11 @@ module _ (own : ℕ) (r : List ℕ) where
     alone_form e b =
         and_intro (in_form own r) shaped (form-to (and_intro (plain && rest) edges (and_fst (plain && rest) shaped e) (all_intro faces (boundary_ok own r) b))) (and_snd (plain && rest) shaped e)
 
-    alone-shaped : form_alone D r ≡ true → shaped ≡ true
-    unfolding form_alone
-    alone-shaped e = and_snd (plain && rest) shaped e
-
     pub alone_fits : form_alone D r ≡ true → Fits D r
     unfolding form_alone
     alone_fits e =
         let first_three : plain ≡ true = and_fst plain rest (and_fst (plain && rest) shaped e) in
         (and_fst (shape_ok (shape_of r)) (zeros_ok r) (and_fst (shape_ok (shape_of r) && zeros_ok r) (region_ok r) first_three), eqb-true _ _ (and_snd (plain && rest) shaped e))
-
-    -- of a record in form only the dimension is asked
-    pub formed_alone : {shape dimension : ℕ} → shape ≡ shape_of r → dimension ≡ dimension_of shape → in_form own r ≡ true → eqb dimension D ≡ form_alone D r
-    formed_alone p q e = rw (q, p) (iff_eq shaped (form_alone D r) (alone_from e) alone-shaped)
 
 -- what the function reads
 pub alone_read : {a z b u : Bool} {shape faces dimension : ℕ} (D : ℕ) (r : List ℕ) → shape ≡ shape_of r → a ≡ shape_ok shape → z ≡ zeros_ok r → b ≡ region_ok r → faces ≡ face_count shape → u ≡ all_below 6 (unused_from faces r) → dimension ≡ dimension_of shape

@@ -1,10 +1,10 @@
 -- Means, no part of what is promised: the links of ghosts as the code looks at them, from one end. Ghosts are below all trees; among ghosts the numbers decide. `ghostly` are the ghosts, g of them; the trees are those from first on, n of them; K numbers in all.
-use Rattle.std.specs.Prelude.{ℕ, ◌+◌, ◌*◌, ◌≤◌, ◌<◌, Bool, true, cond, ◌&&◌, ◌||◌, ◌≡◌, List, leb, ltb, eqb, length}
+use Rattle.std.specs.Prelude.{ℕ, ◌+◌, ◌*◌, ◌≤◌, Bool, true, cond, ◌&&◌, ◌||◌, List, leb, ltb, eqb, length}
 use Rattle.encoding.specs.Below.{all_below, any_below, count_below, least_below}
 use Rattle.encoding.specs.Pieces.{piece}
 use Rattle.offsets.specs.Limits.{max_trees}
 use Rattle.records.specs.Shape.{dimension_of, face_count, shape_ok}
-use Rattle.records.specs.Record.{core_size, number_of, shape_of, neighbour_of, region_ok, zeros_ok, boundary_ok, in_form}
+use Rattle.records.specs.Record.{core_size, number_of, shape_of, neighbour_of, region_ok, zeros_ok, boundary_ok}
 use Rattle.records.specs.Means.{unused_from}
 use Rattle.mesh.specs.Link.{orientation_ok}
 use Rattle.part.specs.Means.{in_range, neighbour_in, ghost_has}
@@ -64,14 +64,3 @@ pub record GhostsMarked (bs : List ℕ) (at g first n K : ℕ) (marks behind : L
   pub low : first + n ≤ max_trees
   pub room : K ≤ 64 * length marks
   pub indexed : Indexed bs at g marks behind
-
--- they are known to be in form
-abbrev pub Formed : List ℕ → ℕ → ℕ → Type 0
-Formed bs at g = (j : ℕ) → j < g → in_form (number_of (core_from bs at j)) (core_from bs at j) ≡ true
-
--- what a loop over records answers: the test, and where it passes the links up and down, each no more than most
-pub record SummedAs (test : Bool) (up down most : ℕ) (ok : Bool) (ups downs : ℕ) : Type 0 where
-  pub tested : ok ≡ test
-  pub upward : ok ≡ true → ups ≡ up
-  pub downward : ok ≡ true → downs ≡ down
-  pub few : (ups ≤ most) × (downs ≤ most)

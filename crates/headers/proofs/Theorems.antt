@@ -9,7 +9,7 @@ use lib.ListN.{length}
 use borrow.Author.Tests.{leb-false, eq-eqb, not-true}
 use Rattle.encoding.specs.Numbers.{u32_at}
 use Rattle.encoding.specs.Refusal.{first_failed}
-use Rattle.encoding.proofs.Below.{either, clash, and_fst, and_snd}
+use Rattle.encoding.proofs.Below.{either, and_fst, and_snd}
 use Rattle.offsets.specs.Limits.{tree_count_ok}
 use Rattle.offsets.specs.Table.{ranks, ranks_ok, valid, trees, first_tree, tree_count}
 use Rattle.records.specs.Record.{tree_size}
@@ -17,7 +17,6 @@ use Rattle.mesh.specs.Mesh.{mesh_header, mesh_dimension, mesh_trees, dimension_o
 use Rattle.mesh.proofs.Checking.{header_short}
 use Rattle.part.specs.Layout.{part_header, part_size}
 use Rattle.part.specs.Part.{part_dimension, part_k, part_first, part_count, part_ghost_count, part_header_sound, part_sound}
-use Rattle.part.specs.View.{records_hold}
 use Rattle.part.specs.Checks.{rank_checks}
 use Rattle.part_check.specs.Calls.{part_refusal}
 use Rattle.part_check.proofs.Checking.{head_short}

@@ -1,39 +1,53 @@
-// The fields of a header, from the last to the first: each is given the first wrong one of those after it.
+// The checks of the fields of a header, from the first to the last.
 ghost use Rattle.std.specs.Prelude.{◌≡◌};
 ghost use Rattle.part.specs.Means.{RankKnown};
-ghost use Rattle.headers.specs.Answer.{wrong_or, first_wrong, one_of, exactly as exactly_due};
+ghost use Rattle.headers.specs.Answer.{first_wrong, one_of, exactly as exactly_due};
+ghost use Rattle.headers.specs.Answers.{field_number};
 ghost use Rattle.headers.specs.Fields.{part_fields, mesh_fields};
+ghost use Rattle.headers.specs.Means.{checked_of, Checked};
 
-use crate::answer::{WrongField, refused, wrong};
+use crate::answer::{Field, Wrong};
 
 // A field in which one number is right.
-fn exactly(field: u32, due: u64, found: u64, rest: WrongField) -> WrongField
-    ensures { result ≡ wrong_or (exactly_due field due found) rest }
+fn exactly(field: Field, due: u64, found: u64) -> Result<(), Wrong>
+    ensures { Checked (exactly_due (field_number field) due found) result }
 {
-    if found != due {
-        return wrong(field, due, found);
+    if found == due {
+        return Ok(());
     }
-    rest
+    Err(Wrong {
+        field,
+        due: Some(due),
+        found,
+    })
 }
 
 // A field in which several numbers are right.
-fn one_of(field: u32, right: bool, found: u32, rest: WrongField) -> WrongField
-    ensures { result ≡ wrong_or (one_of field right found) rest }
+fn one_of(field: Field, right: bool, found: u32) -> Result<(), Wrong>
+    ensures { Checked (one_of (field_number field) right found) result }
 {
-    if !right {
-        return wrong(field, 0, found as u64);
+    if right {
+        return Ok(());
     }
-    rest
+    Err(Wrong {
+        field,
+        due: None,
+        found: u64::from(found),
+    })
 }
 
-// The first wrong field of a part, for a valid table and a rank of it.
-pub fn part_wrong(part: &[u8], table: &[u8], rank: u32) -> WrongField
+// A part, for a valid table and a rank of it.
+pub fn check_part(part: &[u8], table: &[u8], rank: u32) -> Result<(), Wrong>
     requires { RankKnown table.now rank }
-    ensures { result ≡ first_wrong (part_fields part.now table.now rank) }
+    ensures { checked_of result ≡ first_wrong (part_fields part.now table.now rank) }
 {
     let length = part.len() as u64;
     if length < 32 {
-        return wrong(1, 32, length);
+        return Err(Wrong {
+            field: Field::Short,
+            due: Some(32),
+            found: length,
+        });
     }
     let dimension = part::layout::dimension(part);
     let trees = part::layout::trees(part) as u64;
@@ -47,28 +61,35 @@ pub fn part_wrong(part: &[u8], table: &[u8], rank: u32) -> WrongField
     let trees_due = offsets::table::entry(table, ranks_due);
     let first_due = offsets::table::first_tree(table, rank as usize);
     let count_due = offsets::table::end_tree(table, rank as usize) - first_due;
-    let from = exactly(9, size, length, refused(0));
-    let from = exactly(8, 0, last, from);
-    let from = exactly(7, count_due, count as u64, from);
-    let from = exactly(6, first_due, first, from);
-    let from = exactly(5, rank as u64, own, from);
-    let from = exactly(4, ranks_due as u64, ranks, from);
-    let from = exactly(3, trees_due, trees, from);
-    one_of(2, mesh::layout::dimension_ok(dimension), dimension, from)
+    let dimension_ok = mesh::layout::dimension_ok(dimension);
+    one_of(Field::Dimension, dimension_ok, dimension)?;
+    exactly(Field::Trees, trees_due, trees)?;
+    exactly(Field::Ranks, ranks_due as u64, ranks)?;
+    exactly(Field::Rank, rank as u64, own)?;
+    exactly(Field::First, first_due, first)?;
+    exactly(Field::Count, count_due, count as u64)?;
+    exactly(Field::Zero, 0, last)?;
+    exactly(Field::Length, size, length)
 }
 
-// The first wrong field of a whole mesh.
-pub fn mesh_wrong(mesh: &[u8]) -> WrongField
-    ensures { result ≡ first_wrong (mesh_fields mesh.now) }
+// A whole mesh.
+pub fn check_mesh(mesh: &[u8]) -> Result<(), Wrong>
+    ensures { checked_of result ≡ first_wrong (mesh_fields mesh.now) }
 {
     let length = mesh.len() as u64;
     if length < 8 {
-        return wrong(1, 8, length);
+        return Err(Wrong {
+            field: Field::Short,
+            due: Some(8),
+            found: length,
+        });
     }
     let dimension = mesh::layout::dimension(mesh);
     let trees = mesh::layout::trees(mesh);
     let size = mesh::layout::tree_at(trees) as u64;
-    let from = exactly(9, size, length, refused(0));
-    let from = one_of(3, offsets::table::tree_count_ok(trees as u64), trees, from);
-    one_of(2, mesh::layout::dimension_ok(dimension), dimension, from)
+    let dimension_ok = mesh::layout::dimension_ok(dimension);
+    let trees_ok = offsets::table::tree_count_ok(trees as u64);
+    one_of(Field::Dimension, dimension_ok, dimension)?;
+    one_of(Field::Trees, trees_ok, trees)?;
+    exactly(Field::Length, size, length)
 }

@@ -2,27 +2,26 @@
 #![tactic(auto)]
 
 ghost use Rattle.std.specs.Prelude.{◌≡◌};
+ghost use Rattle.headers.specs.Answers.{wrong_of, answer_of};
 ghost use Rattle.headers.specs.Calls.{part_header_of, mesh_header_of};
 
-use answer::WrongField;
+use answer::Wrong;
+use encoding::refusal::Refusal;
 
 pub mod answer;
 mod fields;
 
 // The first wrong field of a part for a table and a rank (2, 3, 5).
-pub fn part_header(part: &[u8], table: &[u8], rank: u32) -> WrongField
-    ensures { result ≡ part_header_of part.now table.now rank }
+pub fn part_header(part: &[u8], table: &[u8], rank: u32) -> Result<Option<Wrong>, Refusal>
+    ensures { answer_of result ≡ part_header_of part.now table.now rank }
 {
-    let refusal = part::range::rank_refusal(table, rank);
-    if refusal != 0 {
-        return answer::refused(refusal);
-    }
-    fields::part_wrong(part, table, rank)
+    part::range::check_rank(table, rank)?;
+    Ok(fields::check_part(part, table, rank).err())
 }
 
 // The first wrong field of a whole mesh (no refusal).
-pub fn mesh_header(mesh: &[u8]) -> WrongField
-    ensures { result ≡ mesh_header_of mesh.now }
+pub fn mesh_header(mesh: &[u8]) -> Option<Wrong>
+    ensures { wrong_of result ≡ mesh_header_of mesh.now }
 {
-    fields::mesh_wrong(mesh)
+    fields::check_mesh(mesh).err()
 }

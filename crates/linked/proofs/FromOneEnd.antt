@@ -12,10 +12,13 @@ use Rattle.encoding.proofs.Below.{tests, either, clash, and_fst, and_snd, and_in
 use Rattle.records.specs.Shape.{dimension_of, face_count}
 use Rattle.records.specs.Record.{number_of, shape_of, neighbour_of, boundary_ok, in_form}
 use Rattle.records.proofs.Forms.{form_used}
-use Rattle.mesh.specs.Means.{link_by_dimension}
+use Rattle.std.specs.Prelude.{Some}
+use Rattle.std.specs.declared.option.Option.{Option}
+use Rattle.mesh.specs.declared.sound.Counts.{Counts}
+use Rattle.mesh.specs.Means.{link_by_dimension, SeenAs}
 use Rattle.mesh.proofs.ByDimension.{Fits, fits_form}
 use Rattle.part.specs.Means.{in_range, ghost_has}
-use Rattle.ghost_links.specs.Means.{core_from, form_alone, ghost_ups, ghost_downs, ghost_from_one_end, SummedAs}
+use Rattle.ghost_links.specs.Means.{core_from, form_alone, ghost_ups, ghost_downs, ghost_from_one_end}
 use Rattle.ghost_links.proofs.Forms.{alone_from, alone_form, alone_fits}
 use Rattle.ghost_links.proofs.FromOneEnd.{tree_rule_to, tree_rule, up_tree, down_tree, ghost_rule_to, ghost_rule, ghost_whole as ghost_by_rule, Numbers, range_tree, range_both, position, there_number, boundary_other, rules_even, ghost_passes, tree_obeys, ghost_whole_lem}
 use Rattle.linked.specs.declared.layout.Records.{Records}
@@ -331,18 +334,18 @@ module _ (bs : List ℕ) (x : Records) (N : Numbered bs x) where
   unfolding records_seen
   ghosts_fail e = sym (sym from_one_end ∙ rw (e, and-false trees_test))
 
-  pub links_counted : {ok : Bool} {ups downs most : ℕ} → SummedAs trees_test (sum_below x.count (tree_ups bs x)) (sum_below x.count (tree_downs bs x)) most ok ups downs → ok ≡ true
-      → {ok' : Bool} {ups' downs' most' : ℕ} → SummedAs ghosts_test (sum_below x.ghosts (ghost_ups x.first.0 x.count x.ghosts (ghost_of bs x))) (sum_below x.ghosts (ghost_downs x.ghosts (ghost_of bs x))) most' ok' ups' downs' → ok' ≡ true
-      → eqb (ups + ups') (downs + downs') ≡ records_linked bs x
+  pub links_counted : {most : ℕ} {seen : Counts} → SeenAs trees_test (sum_below x.count (tree_ups bs x)) (sum_below x.count (tree_downs bs x)) most (Some seen)
+      → {most' : ℕ} {seen' : Counts} → SeenAs ghosts_test (sum_below x.ghosts (ghost_ups x.first.0 x.count x.ghosts (ghost_of bs x))) (sum_below x.ghosts (ghost_downs x.ghosts (ghost_of bs x))) most' (Some seen')
+      → eqb (seen.ups + seen'.ups) (seen.downs + seen'.downs) ≡ records_linked bs x
   unfolding records_seen
-  links_counted t p s q = rw (t.upward p, t.downward p, s.upward q, s.downward q) (sym (sym from_one_end ∙ rw (sym t.tested ∙ p, sym s.tested ∙ q)))
+  links_counted t s = rw (t.1.upward, t.1.downward, s.1.upward, s.1.downward) (sym (sym from_one_end ∙ rw (t.0, s.0)))
 
 -- the ghosts as they are looked at
-pub ghosts_read : (bs : List ℕ) (x : Records) {most : ℕ} {ok : Bool} {ups downs : ℕ}
-    → SummedAs (all_below x.ghosts (ghost_from_one_end (link_by_dimension x.dimension) x.ghosts (core_from bs x.tail) x.first.0 x.count x.dimension x.trees)) (sum_below x.ghosts (ghost_ups x.first.0 x.count x.ghosts (core_from bs x.tail))) (sum_below x.ghosts (ghost_downs x.ghosts (core_from bs x.tail))) most ok ups downs
-    → SummedAs (all_below x.ghosts (ghost_seen bs x)) (sum_below x.ghosts (ghost_ups x.first.0 x.count x.ghosts (ghost_of bs x))) (sum_below x.ghosts (ghost_downs x.ghosts (ghost_of bs x))) most ok ups downs
+pub ghosts_read : (bs : List ℕ) (x : Records) (most : ℕ) (seen : Option Counts)
+    → SeenAs (all_below x.ghosts (ghost_from_one_end (link_by_dimension x.dimension) x.ghosts (core_from bs x.tail) x.first.0 x.count x.dimension x.trees)) (sum_below x.ghosts (ghost_ups x.first.0 x.count x.ghosts (core_from bs x.tail))) (sum_below x.ghosts (ghost_downs x.ghosts (core_from bs x.tail))) most seen
+    → SeenAs (all_below x.ghosts (ghost_seen bs x)) (sum_below x.ghosts (ghost_ups x.first.0 x.count x.ghosts (ghost_of bs x))) (sum_below x.ghosts (ghost_downs x.ghosts (ghost_of bs x))) most seen
 unfolding ghost_seen ghost_of
-ghosts_read bs x s = s
+ghosts_read bs x most seen s = s
 
 -- the numbers of the ghosts come first
 module _ (bs : List ℕ) (x : Records) where

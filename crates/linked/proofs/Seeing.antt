@@ -12,6 +12,8 @@ use Rattle.encoding.proofs.Below.{tests, either, and_fst, and_snd, and_intro, if
 use Rattle.records.specs.Shape.{shape_ok, dimension_of, face_count}
 use Rattle.records.specs.Record.{core_size, tree_size, number_of, shape_of, neighbour_of, code_of, zeros_ok, region_ok, boundary_ok}
 use Rattle.records.proofs.Forms.{unused_first}
+use Rattle.std.specs.Prelude.{Some}
+use Rattle.mesh.specs.declared.sound.Counts.{Counts}
 use Rattle.mesh.specs.Means.{link_by_dimension, SeenAs}
 use Rattle.mesh.proofs.PlainTrees.{plain_edge}
 use Rattle.part.specs.Means.{in_range}
@@ -56,12 +58,12 @@ module _ (bs : List ℕ) (x : Records) (i : ℕ) where
       unfolding tree_seen
       seen_unlisted h = rw (faces-are, h, and-false)
 
-      pub seen_linked : {b a : Bool} {ups downs : ℕ} → b ≡ tree_numbered bs x i → b ≡ true → a ≡ form_alone x.dimension (piece bs at core_size) → a ≡ true → all_below faces (tree_face bs x i) ≡ true → faces ≤ 6
-          → (ups ≡ count_below faces (tree_up bs x i)) × (ups ≤ faces) → (downs ≡ count_below faces (tree_down bs x i)) × (downs ≤ faces) → SeenAs (tree_seen bs x i) (tree_ups bs x i) (tree_downs bs x i) true ups downs
+      pub seen_linked : {b a : Bool} {seen : Counts} → b ≡ tree_numbered bs x i → b ≡ true → a ≡ form_alone x.dimension (piece bs at core_size) → a ≡ true → all_below faces (tree_face bs x i) ≡ true → faces ≤ 6
+          → (seen.ups ≡ count_below faces (tree_up bs x i)) × (seen.ups ≤ faces) → (seen.downs ≡ count_below faces (tree_down bs x i)) × (seen.downs ≤ faces) → SeenAs (tree_seen bs x i) (tree_ups bs x i) (tree_downs bs x i) 6 (Some seen)
       unfolding tree_seen tree_ups tree_downs
       seen_linked n t a q l six u d =
           let alone : form_alone x.dimension (tree_of bs x i) ≡ true = alone-is a ∙ q in
-          rw (faces-are, ← n, t, alone, l) (record { tested = refl; upward = λ w. u.0; downward = λ w. d.0; few = (omega (arith, u.1), omega (arith, d.1)) })
+          rw (faces-are, ← n, t, alone, l) (refl, record { upward = u.0; downward = d.0; few = (omega (arith, u.1), omega (arith, d.1)) })
 
 -- ---- local indices of trees
 
@@ -261,7 +263,7 @@ module _ (bs : List ℕ) (x : Records) (i : ℕ) {at : ℕ} (here : at ≡ x.hea
         let g' : region_ok (tree_of bs x i) ≡ true = rw own_is (sym region ∙ and_snd (b && eqb d 3 && eqb s 2 && z) g all) in
         ap (λ (d : ℕ). form_alone d (tree_of bs x i)) plain_space ∙ hexahedron_alone (tree_of bs x i) plain_shape z' g'
 
-    pub plain_seen : {ok : Bool} {ups downs : ℕ} → SeenAs (all_below 6 (tree_face bs x i)) (count_below 6 (tree_up bs x i)) (count_below 6 (tree_down bs x i)) ok ups downs → SeenAs (tree_seen bs x i) (tree_ups bs x i) (tree_downs bs x i) ok ups downs
+    pub plain_seen : {seen : Counts} → SeenAs (all_below 6 (tree_face bs x i)) (count_below 6 (tree_up bs x i)) (count_below 6 (tree_down bs x i)) 6 (Some seen) → SeenAs (tree_seen bs x i) (tree_ups bs x i) (tree_downs bs x i) 6 (Some seen)
     unfolding tree_seen tree_ups tree_downs face_count
     plain_seen s =
         let numbered : tree_numbered bs x i ≡ true = sym number ∙ and_fst b (eqb d 3) two in

@@ -6,7 +6,7 @@ ghost use Rattle.linked.specs.Means.{ghost_after, ghost_numbered, records_linked
 
 use crate::layout::Records;
 use crate::trees::trees_linked;
-use ghost_links::check::ghosts_linked;
+use ghost_links::check::{Ghosts, ghosts_linked};
 use part::range::in_range;
 use records::index::GlobalIndex;
 use records::read::number_of;
@@ -37,12 +37,10 @@ fn ghosts_numbered(bs: &[u8], x: Records) -> bool
     ensures { result ≡ all_below x.ghosts (ghost_numbered bs.now x) }
 {
     let ghosts = x.ghosts;
-    let mut j = 0;
-    while j < ghosts {
+    for j in 0..ghosts {
         if !ghost_numbered(bs, x, j) {
             return false;
         }
-        j += 1;
     }
     true
 }
@@ -52,52 +50,44 @@ pub fn linked_by(bs: &[u8], x: Records, marks: &[u64], behind: &[u32]) -> bool
     requires { Marked bs.now x marks.now behind.now × Numbered bs.now x × (x.trees ≤ 64 * length marks.now) }
     ensures { result ≡ records_linked bs.now x }
 {
-    let of_trees = trees_linked(bs, x, marks, behind);
-    if !of_trees.ok {
+    let Some(of_trees) = trees_linked(bs, x, marks, behind) else {
         return false;
-    }
+    };
     let first = x.first;
-    let of_ghosts = ghosts_linked(
-        bs,
-        x.tail,
-        x.ghosts,
-        first.0,
-        x.count,
-        x.dimension,
-        x.trees,
-        false,
-        marks,
-        behind,
-    );
-    if !of_ghosts.ok {
+    let ghosts = Ghosts {
+        at: x.tail,
+        ghosts: x.ghosts,
+        first: first.0,
+        count: x.count,
+        dimension: x.dimension,
+        trees: x.trees,
+    };
+    let Some(of_ghosts) = ghosts_linked(bs, ghosts, marks, behind) else {
         return false;
-    }
+    };
     of_trees.ups + of_ghosts.ups == of_trees.downs + of_ghosts.downs
 }
 
-// With an index for as many trees as there can be.
-fn linked_of_many(bs: &[u8], x: Records) -> bool
-    requires { Laid bs.now x × Numbered bs.now x }
+// With an index of so many words, which has its own stack frame.
+fn linked_with<const WORDS: usize>(bs: &[u8], x: Records) -> bool
+    requires { Laid bs.now x × Numbered bs.now x × (x.trees ≤ 64 * WORDS) × (WORDS ≤ 16384) }
     ensures { result ≡ records_linked bs.now x }
 {
-    let mut marks = [0u64; 16384];
-    let mut behind = [0u32; 16384];
+    let mut marks = [0u64; WORDS];
+    let mut behind = [0u32; WORDS];
     positions::index::make(bs, x.tail, x.ghosts, x.trees, &mut marks, &mut behind);
     linked_by(bs, x, &marks, &behind)
 }
 
-// The same. To clear the words for all trees takes longer than to check a few records: up to 65,536 trees have fewer words.
+// To clear the words for all trees that there can be takes longer than to check a few records: up to 65,536 trees have fewer words.
 pub fn linked_of_all(bs: &[u8], x: Records) -> bool
     requires { Laid bs.now x × Numbered bs.now x }
     ensures { result ≡ records_linked bs.now x }
 {
     if x.trees <= 65536 {
-        let mut marks = [0u64; 1024];
-        let mut behind = [0u32; 1024];
-        positions::index::make(bs, x.tail, x.ghosts, x.trees, &mut marks, &mut behind);
-        return linked_by(bs, x, &marks, &behind);
+        return linked_with::<1024>(bs, x);
     }
-    linked_of_many(bs, x)
+    linked_with::<16384>(bs, x)
 }
 
 // First every ghost's number, by which links are then looked up.

@@ -1,5 +1,5 @@
 // Plain trees: hexahedra whose neighbours are trees and hexahedra, as in a brick. All their faces are alike, so that their links need fewer tests. These tests answer in one direction: a tree that doesn't pass them is looked at by the general ones.
-ghost use Rattle.std.specs.Prelude.{◌≡◌, true, ◌+◌, ◌*◌, ◌≤◌, ◌<◌};
+ghost use Rattle.std.specs.Prelude.{◌≡◌, true, Some, IfSome, ◌+◌, ◌*◌, ◌≤◌, ◌<◌};
 ghost use Rattle.encoding.specs.Pieces.{piece};
 ghost use Rattle.records.specs.Record.{core_size, tree_size, shape_of};
 ghost use Rattle.mesh.specs.Means.{link_by_dimension, SeenAs, RunAs};
@@ -8,7 +8,7 @@ ghost use Rattle.linked.specs.Means.{tree_of, named, name_of, tree_place, tree_f
 use crate::layout::{Records, tree_at};
 use crate::trees::numbered;
 use mesh::plain::link_alike;
-use mesh::sound::{Run, Seen, one, refused};
+use mesh::sound::{Counts, Run};
 use records::form::{region_ok, zeros_ok};
 use records::index::{GlobalIndex, LocalIndex, to_local};
 use records::read::{code_of, neighbour_of, number_of, shape_of};
@@ -50,9 +50,9 @@ fn plain_face(bs: &[u8], x: Records, tree: LocalIndex, face: u32, place: LocalIn
 }
 
 // A hexahedron; a link that leads up is only counted.
-fn plain_tree(bs: &[u8], x: Records, tree: LocalIndex) -> Seen
+fn plain_tree(bs: &[u8], x: Records, tree: LocalIndex) -> Option<Counts>
     requires { Laid bs.now x × (tree.0 < x.count) }
-    ensures { result.ok ≡ true → SeenAs (tree_seen bs.now x tree.0) (tree_ups bs.now x tree.0) (tree_downs bs.now x tree.0) result.ok result.ups result.downs }
+    ensures { IfSome result (λ seen. SeenAs (tree_seen bs.now x tree.0) (tree_ups bs.now x tree.0) (tree_downs bs.now x tree.0) 6 (Some seen)) }
 {
     let at = tree_at(x, tree);
     if !(numbered(bs, x, tree)
@@ -61,53 +61,49 @@ fn plain_tree(bs: &[u8], x: Records, tree: LocalIndex) -> Seen
         & zeros_ok(bs, at)
         & region_ok(bs, at))
     {
-        return refused();
+        return None;
     }
     let i = tree.0;
-    let mut next = 0;
     let mut ups = 0;
     let mut downs = 0;
-    while next < 6 {
-        let face = next;
-        next += 1;
+    for face in 0..6 {
         let place = tree_of(x, neighbour_of(bs, at, face));
         let j = place.0;
         if i < j {
             if x.count <= j {
-                return refused();
+                return None;
             }
             ups += 1;
         } else {
             if !plain_face(bs, x, tree, face, place) {
-                return refused();
+                return None;
             }
-            downs += one(j < i);
+            downs += u64::from(j < i);
         }
     }
-    Seen {
-        ok: true,
-        ups,
-        downs,
-    }
+    Some(Counts { ups, downs })
 }
 
 // Goes on with a run as far as the trees are plain. By itself, so that few values are at hand in this loop, and all in registers.
 pub fn plain_run(bs: &[u8], x: Records, begun: Run) -> Run
-    requires { Laid bs.now x × (begun.next ≤ x.count) × (begun.ups ≤ 6 * begun.next) × (begun.downs ≤ 6 * begun.next) }
-    ensures { RunAs (tree_seen bs.now x) (tree_ups bs.now x) (tree_downs bs.now x) x.count begun.next begun.ups begun.downs result.next result.ups result.downs }
+    requires { Laid bs.now x × (begun.next ≤ x.count) × (begun.seen.ups ≤ 6 * begun.next) × (begun.seen.downs ≤ 6 * begun.next) }
+    ensures { RunAs (tree_seen bs.now x) (tree_ups bs.now x) (tree_downs bs.now x) x.count begun result }
 {
     let count = x.count;
-    let mut next = begun.next;
-    let mut ups = begun.ups;
-    let mut downs = begun.downs;
-    while next < count {
-        let seen = plain_tree(bs, x, LocalIndex(next));
-        if !seen.ok {
-            return Run { next, ups, downs };
-        }
+    let mut ups = begun.seen.ups;
+    let mut downs = begun.seen.downs;
+    for next in begun.next..count {
+        let Some(seen) = plain_tree(bs, x, LocalIndex(next)) else {
+            return Run {
+                next,
+                seen: Counts { ups, downs },
+            };
+        };
         ups += seen.ups;
         downs += seen.downs;
-        next += 1;
     }
-    Run { next, ups, downs }
+    Run {
+        next: count,
+        seen: Counts { ups, downs },
+    }
 }

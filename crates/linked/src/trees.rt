@@ -3,14 +3,13 @@ ghost use Rattle.std.specs.Prelude.{◌≡◌, true, cond, ◌&&◌, ◌+◌, �
 ghost use Rattle.encoding.specs.Below.{all_below, count_below, sum_below};
 ghost use Rattle.records.specs.Record.{neighbour_of, boundary_ok};
 ghost use Rattle.mesh.specs.Means.{packed, SeenAs};
-ghost use Rattle.ghost_links.specs.Means.{SummedAs};
 ghost use Rattle.linked.specs.Means.{tree_of, named, name_of, place_of, tree_numbered, tree_to, tree_up, tree_down, tree_listed, tree_fits, tree_face, tree_seen, tree_ups, tree_downs, Laid, Marked, TreeKnown};
 
 use crate::layout::{Records, record_at, tree_at};
 use crate::plain::plain_run;
 use ghost_links::check::alone;
 use mesh::link::link_ok;
-use mesh::sound::{Run, Seen, one, pushed, refused};
+use mesh::sound::{Counts, Links, Run, pushed};
 use part::range::in_range;
 use records::form::boundary_ok;
 use records::index::{GlobalIndex, LocalIndex, ghost_index, to_local};
@@ -121,34 +120,27 @@ fn face_ok(
     held_ok(bs, x, tree, face, place)
 }
 
-// The links of a tree, sorted: those that don't lead up as digits to base 8, and how many lead up and down.
-#[derive(Clone, Copy)]
-pub struct TreeLinks {
-    pub list: u32,
-    pub ups: u64,
-    pub downs: u64,
-}
-
-// No branch hangs on where a link leads: with random links it would be guessed wrong every second time.
-fn sorted(bs: &[u8], x: Records, tree: LocalIndex, faces: u32) -> TreeLinks
+// The links of a tree, sorted. No branch hangs on where a link leads: with random links it would be guessed wrong every second time.
+fn sorted(bs: &[u8], x: Records, tree: LocalIndex, faces: u32) -> Links
     requires { Laid bs.now x × TreeKnown bs.now x tree.0 × (faces ≤ 6) }
-    ensures { (result.list ≡ packed faces (tree_listed bs.now x tree.0)) × ((result.ups ≡ count_below faces (tree_up bs.now x tree.0)) × (result.ups ≤ faces)) × ((result.downs ≡ count_below faces (tree_down bs.now x tree.0)) × (result.downs ≤ faces)) }
+    ensures { (result.list ≡ packed faces (tree_listed bs.now x tree.0)) × ((result.counts.ups ≡ count_below faces (tree_up bs.now x tree.0)) × (result.counts.ups ≤ faces)) × ((result.counts.downs ≡ count_below faces (tree_down bs.now x tree.0)) × (result.counts.downs ≤ faces)) }
 {
     let at = tree_at(x, tree);
-    let mut face = 0;
     let mut list = 0;
     let mut ups = 0;
     let mut downs = 0;
-    while face < faces {
+    for face in 0..faces {
         let n = neighbour_of(bs, at, face);
         let up = leads_up(bs, x, tree, n);
         let back = leads_back(bs, x, tree, n);
         list = pushed(list, face, !up);
-        ups += one(up);
-        downs += one(!up & !back);
-        face += 1;
+        ups += u64::from(up);
+        downs += u64::from(!up & !back);
     }
-    TreeLinks { list, ups, downs }
+    Links {
+        list,
+        counts: Counts { ups, downs },
+    }
 }
 
 // The faces of a list, the last first.
@@ -165,6 +157,7 @@ fn listed_ok(
     ensures { result ≡ all_below faces (tree_face bs.now x tree.0) }
 {
     let mut left = list;
+    // the digits of the list, the last first: no index is counted
     while 0 < left {
         if !face_ok(bs, x, marks, behind, tree, left % 8 - 1) {
             return false;
@@ -174,27 +167,29 @@ fn listed_ok(
     true
 }
 
-fn tree_linked(bs: &[u8], x: Records, marks: &[u64], behind: &[u32], tree: LocalIndex) -> Seen
+fn tree_linked(
+    bs: &[u8],
+    x: Records,
+    marks: &[u64],
+    behind: &[u32],
+    tree: LocalIndex,
+) -> Option<Counts>
     requires { Marked bs.now x marks.now behind.now × (tree.0 < x.count) }
-    ensures { SeenAs (tree_seen bs.now x tree.0) (tree_ups bs.now x tree.0) (tree_downs bs.now x tree.0) result.ok result.ups result.downs }
+    ensures { SeenAs (tree_seen bs.now x tree.0) (tree_ups bs.now x tree.0) (tree_downs bs.now x tree.0) 6 result }
 {
     if !numbered(bs, x, tree) {
-        return refused();
+        return None;
     }
     let at = tree_at(x, tree);
     if !alone(bs, x.dimension, at) {
-        return refused();
+        return None;
     }
     let faces = records::shape::face_count(shape_of(bs, at));
     let links = sorted(bs, x, tree, faces);
     if !listed_ok(bs, x, marks, behind, tree, faces, links.list) {
-        return refused();
+        return None;
     }
-    Seen {
-        ok: true,
-        ups: links.ups,
-        downs: links.downs,
-    }
+    Some(links.counts)
 }
 
 // Whether a tree is there and a hexahedron.
@@ -208,37 +203,32 @@ fn hexahedron(bs: &[u8], x: Records, tree: LocalIndex) -> bool
 }
 
 // All trees: their numbers, their form and their links.
-pub fn trees_linked(bs: &[u8], x: Records, marks: &[u64], behind: &[u32]) -> Seen
+pub fn trees_linked(bs: &[u8], x: Records, marks: &[u64], behind: &[u32]) -> Option<Counts>
     requires { Marked bs.now x marks.now behind.now }
-    ensures { SummedAs (all_below x.count (tree_seen bs.now x)) (sum_below x.count (tree_ups bs.now x)) (sum_below x.count (tree_downs bs.now x)) (6 * x.count) result.ok result.ups result.downs }
+    ensures { SeenAs (all_below x.count (tree_seen bs.now x)) (sum_below x.count (tree_ups bs.now x)) (sum_below x.count (tree_downs bs.now x)) (6 * x.count) result }
 {
     let mut run = plain_run(
         bs,
         x,
         Run {
             next: 0,
-            ups: 0,
-            downs: 0,
+            seen: Counts { ups: 0, downs: 0 },
         },
     );
+    // a run may pass over many trees
     while run.next < x.count {
         let tree = run.next;
-        let seen = tree_linked(bs, x, marks, behind, LocalIndex(tree));
-        if !seen.ok {
-            return refused();
-        }
+        let seen = tree_linked(bs, x, marks, behind, LocalIndex(tree))?;
         run = Run {
             next: tree + 1,
-            ups: run.ups + seen.ups,
-            downs: run.downs + seen.downs,
+            seen: Counts {
+                ups: run.seen.ups + seen.ups,
+                downs: run.seen.downs + seen.downs,
+            },
         };
         if hexahedron(bs, x, LocalIndex(tree + 1)) {
             run = plain_run(bs, x, run);
         }
     }
-    Seen {
-        ok: true,
-        ups: run.ups,
-        downs: run.downs,
-    }
+    Some(run.seen)
 }

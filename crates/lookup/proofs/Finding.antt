@@ -33,30 +33,20 @@ module _ (size : ℕ) (bs : List ℕ) where
     first_found h a e n = sym (least_is (length bs / size) (has_number size bs number) i h (eq-eqb _ _ (sym e ∙ n)) (any_false i (has_number size bs number) a))
 
     -- none has it
-    pub none_found : i ≤ length bs / size → length bs / size ≤ i → any_below i (has_number size bs number) ≡ false → length bs / size ≡ least_below (length bs / size) (has_number size bs number)
+    pub none_found : i ≤ length bs / size → length bs / size ≤ i → any_below i (has_number size bs number) ≡ false → found size bs number ≡ false
+    unfolding found
     none_found h l a =
         let e : i ≡ length bs / size = omega arith in
-        sym (least_none (length bs / size) (has_number size bs number) (rw e at a))
+        rw e at a
 
-    module _ (least : i ≡ least_below (length bs / size) (has_number size bs number)) where
-      -- an index below the number of records is one that was found
-      pub some_there : i < length bs / size → found size bs number ≡ true
-      unfolding found
-      some_there h =
-          either (any_below (length bs / size) (has_number size bs number)) (λ p. p)
-          (λ p. absurd (omega (arith, least_none (length bs / size) (has_number size bs number) p)))
-
-      pub none_there : length bs / size ≤ i → found size bs number ≡ false
-      unfolding found
-      none_there h =
-          either (any_below (length bs / size) (has_number size bs number))
-          (λ p. absurd (omega (arith, least_lt (length bs / size) (has_number size bs number) p)))
-          (λ p. p)
-
-      -- where it is
-      pub place_there : size * i ≡ first_place size bs number
-      unfolding first_place
-      place_there = rw (← least)
+    -- an index below the number of records is one that was found, and where it is
+    pub some_there : i < length bs / size → i ≡ least_below (length bs / size) (has_number size bs number) → (found size bs number ≡ true) × (size * i ≡ first_place size bs number)
+    unfolding found first_place
+    some_there h least =
+        let there : any_below (length bs / size) (has_number size bs number) ≡ true =
+        either (any_below (length bs / size) (has_number size bs number)) (λ p. p)
+        (λ p. absurd (omega (arith, least_none (length bs / size) (has_number size bs number) p))) in
+        (there, rw (← least))
 
   -- the first with the number is a whole record of the slice
   pub first_inside : (number : ℕ) → found size bs number ≡ true → first_place size bs number + size ≤ length bs
@@ -64,22 +54,21 @@ module _ (size : ℕ) (bs : List ℕ) where
   first_inside number h = whole_fits _ (least_lt (length bs / size) (has_number size bs number) h)
 
 module _ (trees ghosts : List ℕ) (number : ℕ) where
-  module _ (i : ℕ) (least : i ≡ least_below (length trees / tree_size) (has_number tree_size trees number)) where
-    -- a tree has the number
-    pub tree_place_lem : i < length trees / tree_size → found_at 1 (tree_size * i) ≡ found_record trees ghosts number
+  -- a tree has the number
+  pub tree_place_lem : {at : ℕ} → found tree_size trees number ≡ true → at ≡ first_place tree_size trees number → found_at 1 at ≡ found_record trees ghosts number
+  unfolding found_record
+  tree_place_lem t e = rw (t, e)
+
+  module _ (past : found tree_size trees number ≡ false) where
+    -- no tree, and a ghost
+    pub ghost_place_lem : {at : ℕ} → found core_size ghosts number ≡ true → at ≡ first_place core_size ghosts number → found_at 2 at ≡ found_record trees ghosts number
     unfolding found_record
-    tree_place_lem h = rw (some_there tree_size trees number i least h, place_there tree_size trees number i least)
+    ghost_place_lem t e = rw (past, t, e)
 
-    module _ (past : length trees / tree_size ≤ i) (j : ℕ) (first : j ≡ least_below (length ghosts / core_size) (has_number core_size ghosts number)) where
-      -- no tree, and a ghost
-      pub ghost_place_lem : j < length ghosts / core_size → found_at 2 (core_size * j) ≡ found_record trees ghosts number
-      unfolding found_record
-      ghost_place_lem h = rw (none_there tree_size trees number i least past, some_there core_size ghosts number j first h, place_there core_size ghosts number j first)
-
-      -- neither
-      pub none_place : length ghosts / core_size ≤ j → found_at 0 0 ≡ found_record trees ghosts number
-      unfolding found_record
-      none_place h = rw (none_there tree_size trees number i least past, none_there core_size ghosts number j first h)
+    -- neither
+    pub none_place : found core_size ghosts number ≡ false → found_at 0 0 ≡ found_record trees ghosts number
+    unfolding found_record
+    none_place t = rw (past, t)
 
   -- the record that the lookup lends is the piece that the place names
   pub found_is : found_piece trees ghosts (found_record trees ghosts number) ≡ lookup_record trees ghosts number

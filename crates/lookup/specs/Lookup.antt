@@ -1,10 +1,13 @@
 -- Finding a record by its global number.
-use Rattle.std.specs.Prelude.{ℕ, ◌*◌, ◌/◌, Bool, cond, List, [], eqb, length}
+use Rattle.std.specs.Prelude.{ℕ, ◌*◌, ◌/◌, Bool, cond, List, [], eqb, length, Some, None}
+use Rattle.std.specs.Borrow.{Bor}
+use Rattle.std.specs.declared.option.Option.{Option}
 use Rattle.encoding.specs.Below.{any_below, least_below}
 use Rattle.encoding.specs.Numbers.{u32_at}
 use Rattle.encoding.specs.Pieces.{piece}
 use Rattle.records.specs.Record.{core_size, tree_size}
 use Rattle.lookup.specs.declared.Found.{Found}
+use Rattle.lookup.specs.declared.Place.{Place}
 
 -- record i of the slice has the number
 unfoldable pub has_number : ℕ → List ℕ → ℕ → ℕ → Bool
@@ -40,3 +43,14 @@ found_record trees ghosts number =
 unfoldable pub found_piece : List ℕ → List ℕ → Found → List ℕ
 found_piece trees ghosts r =
     cond (eqb r.which 1) (piece trees r.offset tree_size) (cond (eqb r.which 2) (piece ghosts r.offset core_size) [])
+
+-- a place as C gets it
+abbrev pub found_of : Option Place → Found
+found_of None = found_at 0 0
+found_of (Some (Place.Tree at)) = found_at 1 at
+found_of (Some (Place.Ghost at)) = found_at 2 at
+
+-- a record that is lent as bytes, none where there is none
+abbrev pub bytes_of : Option (Bor (List ℕ)) → List ℕ
+bytes_of None = []
+bytes_of (Some r) = r.now

@@ -1,37 +1,18 @@
 -- The checks of a table and a rank, in their order, and the calls that begin with them.
-use Prim.Native.Nat.{ℕ, ◌+◌, ◌*◌, ◌≤◌, ◌<◌}
+use Prim.Native.Nat.{ℕ, ◌+◌, ◌*◌, ◌≤◌}
 use native.Mathlib.Omega.{arith}
 use mathlib.Core.Path.{◌≡◌, refl, sym, ◌∙◌}
 use mathlib.Core.Bool.{Bool, true, false, cond}
 use mathlib.Core.List.{List, ◌++◌}
 use lib.Dec.{ltb}
 use lib.ListN.{length}
-use borrow.Author.Tests.{lt-ltb, le-ltb, ltb-true}
+use borrow.Author.Tests.{lt-ltb, ltb-true}
 use Rattle.encoding.specs.Pieces.{Bytes}
 use Rattle.encoding.specs.Refusal.{Check, first_failed}
 use Rattle.offsets.specs.Table.{ranks, ranks_ok, valid, first_tree, end_tree}
 use Rattle.offsets.proofs.Tables.{first_le_end, size}
 use Rattle.part.specs.Means.{RankKnown}
 use Rattle.part.specs.Checks.{rank_checks}
-
-module _ (table : List ℕ) (rank : ℕ) {a : Bool} (is-a : a ≡ ranks_ok table) where
-  pub fails_ranks : a ≡ false → 2 ≡ first_failed (rank_checks table rank)
-  unfolding first_failed rank_checks
-  fails_ranks h = rw (← is-a, h)
-
-  module _ (ok-a : a ≡ true) {b : Bool} (is_b : b ≡ valid table) where
-    pub fails_valid : b ≡ false → 3 ≡ first_failed (rank_checks table rank)
-    unfolding first_failed rank_checks
-    fails_valid h = rw (← is-a, ok-a, ← is_b, h)
-
-    module _ (ok-b : b ≡ true) {P : ℕ} (is_p : P ≡ ranks table) where
-      pub fails_rank : P ≤ rank → 5 ≡ first_failed (rank_checks table rank)
-      unfolding first_failed rank_checks
-      fails_rank h = rw (← is-a, ok-a, ← is_b, ok-b, ← is_p, le-ltb rank P h)
-
-      pub ranks_pass : rank < P → 0 ≡ first_failed (rank_checks table rank)
-      unfolding first_failed rank_checks
-      ranks_pass h = rw (← is-a, ok-a, ← is_b, ok-b, ← is_p, lt-ltb rank P h)
 
 -- three checks that pass
 three_pass : (a b d : Bool) → cond {A = ℕ} a (cond b (cond d 0 5) 3) 2 ≡ 0 → (a ≡ true) × (b ≡ true) × (d ≡ true)

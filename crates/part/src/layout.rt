@@ -74,5 +74,5 @@ pub fn ghost_count(part: &[u8]) -> u32
 pub fn place_near(j: u32, own: u32, number: u32) -> u32
     ensures { result ≡ (j + number + (4294967296 - own)) % 4294967296 }
 {
-    (((j as u64) + (number as u64) + (4294967296 - (own as u64))) % 4294967296) as u32
+    j.wrapping_add(number).wrapping_sub(own)
 }

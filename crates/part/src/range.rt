@@ -3,27 +3,24 @@ ghost use Rattle.std.specs.Prelude.{◌≡◌, ◌+◌, ◌≤◌, length};
 ghost use Rattle.encoding.specs.Below.{any_below};
 ghost use Rattle.encoding.specs.Pieces.{piece};
 ghost use Rattle.encoding.specs.Refusal.{first_failed};
+ghost use Rattle.encoding.specs.Refusals.{refusal_of};
 ghost use Rattle.records.specs.Record.{core_size};
 ghost use Rattle.part.specs.Means.{in_range, neighbour_in, Ascending, smaller};
 ghost use Rattle.part.specs.Checks.{rank_checks};
 
+use encoding::refusal::Refusal;
 use records::index::GlobalIndex;
 
-// The checks of a table and a rank (2, 3, 5): 0 or the refusal.
-pub fn rank_refusal(table: &[u8], rank: u32) -> u32
-    ensures { result ≡ first_failed (rank_checks table.now rank) }
+// Check a table and a rank (2, 3, 5).
+pub fn check_rank(table: &[u8], rank: u32) -> Result<(), Refusal>
+    ensures { refusal_of result ≡ first_failed (rank_checks table.now rank) }
 {
-    if !offsets::table::ranks_ok(table) {
-        return 2;
-    }
-    if !offsets::table::valid(table) {
-        return 3;
-    }
+    offsets::check_table(table)?;
     let ranks = offsets::table::ranks(table);
     if ranks <= rank as usize {
-        return 5;
+        return Err(Refusal::Index);
     }
-    0
+    Ok(())
 }
 
 // Whether a tree is in a range, from its first tree to before its end.
@@ -39,7 +36,7 @@ pub fn within(first: u32, end: u32, k: u32) -> bool
     requires { first ≤ end }
     ensures { result ≡ in_range first end k }
 {
-    ((((k as u64) + (4294967296 - (first as u64))) % 4294967296) as u32) < end - first
+    k.wrapping_sub(first) < end - first
 }
 
 // Whether the record at byte `at` has a face neighbour in the range.
@@ -47,8 +44,7 @@ pub fn beside(bs: &[u8], at: usize, faces: u32, first: u32, end: u32) -> bool
     requires { (at + core_size ≤ length bs.now) × (faces ≤ 6) }
     ensures { result ≡ any_below faces (neighbour_in first end (piece bs.now at core_size)) }
 {
-    let mut face = 0;
-    while face < faces {
+    for face in 0..faces {
         if in_range(
             first,
             end,
@@ -56,7 +52,6 @@ pub fn beside(bs: &[u8], at: usize, faces: u32, first: u32, end: u32) -> bool
         ) {
             return true;
         }
-        face += 1;
     }
     false
 }

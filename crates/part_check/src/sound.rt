@@ -1,5 +1,5 @@
 // Whether a part is sound: its header, and its records as `linked` looks at them (proofs/OneLoop.antt). Its tree records hold local indices, its ghosts global numbers.
-ghost use Rattle.std.specs.Prelude.{◌≡◌, cond, ◌&&◌, ◌+◌, ◌≤◌, ◌<◌, ltb, eqb, length};
+ghost use Rattle.std.specs.Prelude.{◌≡◌, cond, ◌&&◌, ◌+◌, ◌≤◌, ◌<◌, ltb, eqb, length, IfSome, unwrap_or};
 ghost use Rattle.encoding.specs.Below.{least_below};
 ghost use Rattle.offsets.specs.Limits.{max_trees};
 ghost use Rattle.records.specs.Record.{core_size};
@@ -85,20 +85,20 @@ pub fn back_of(first: u32, count: u32, i: u32, j: u32) -> u32
 
 // ---- ghosts
 
-// The position of the ghost with the number, or how many ghosts there are, by halves: for a part whose ghosts are not indexed.
-pub fn ghost_with(part: &[u8], count: u32, ghosts: u32, number: GlobalIndex) -> u32
+// The position of the ghost with the number, by halves: for a part whose ghosts are not indexed.
+pub fn ghost_with(part: &[u8], count: u32, ghosts: u32, number: GlobalIndex) -> Option<u32>
     requires { Ascending part.now (ghost_place count 0) ghosts }
-    ensures { result ≡ least_below ghosts (ghost_has (ghost_core part.now count) number.0) }
+    ensures { (unwrap_or result ghosts ≡ least_below ghosts (ghost_has (ghost_core part.now count) number.0)) × IfSome result (λ position. position < ghosts) }
 {
     let wanted = number.0;
     let position = find_ghost(part, ghost_at(count, 0), ghosts, number);
     if ghosts <= position {
-        return ghosts;
+        return None;
     }
     if records::read::number_of(part, ghost_at(count, position)) != wanted {
-        return ghosts;
+        return None;
     }
-    position
+    Some(position)
 }
 
 // ---- the whole

@@ -9,14 +9,10 @@ use Rattle.offsets.specs.Table.{trees}
 use Rattle.mesh.specs.Mesh.{mesh_trees, mesh_sound}
 use Rattle.part.specs.Checks.{rank_checks}
 use Rattle.part_cut.specs.Calls.{cut_checks}
-use Rattle.part.proofs.Checks.{rank_fails, rank_passes}
+use Rattle.part.proofs.Checks.{rank_passes}
 
 module _ (table : List ℕ) (rank : ℕ) {r : ℕ} (checked : r ≡ first_failed (rank_checks table rank)) where
   module _ (mesh : List ℕ) where
-    pub cut_rank : (r ≡ 0 → ⊥) → r ≡ first_failed (cut_checks mesh table rank)
-    unfolding cut_checks
-    cut_rank h = rank_fails table rank checked _ h
-
     module _ (ok : r ≡ 0) {d : Bool} (is-d : d ≡ mesh_sound mesh) where
       pub fails_sound : d ≡ false → 7 ≡ first_failed (cut_checks mesh table rank)
       unfolding first_failed cut_checks

@@ -1,5 +1,5 @@
 -- Laws of the set of a range's ghosts.
-use Prim.Native.Nat.{ℕ, ◌+◌, ◌-◌, ◌*◌, ◌/◌, ◌^◌, ◌≤◌, ◌<◌}
+use Prim.Native.Nat.{ℕ, ◌+◌, ◌-◌, ◌*◌, ◌≤◌, ◌<◌}
 use native.Mathlib.Numerals.{add-one}
 use native.Mathlib.Omega.{arith}
 use mathlib.Core.Path.{◌≡◌, refl, sym, ap, ◌∙◌}
@@ -8,12 +8,12 @@ use mathlib.Core.List.{List}
 use lib.Dec.{leb, ltb, eqb}
 use lib.ListN.{length, replicate, length-replicate}
 use borrow.Author.Tests.{ltb-true, leb-true, lt-ltb, le-leb, eqb-true, eq-eqb, ne_eqb}
+use Rattle.std.specs.Int.{div_ceil}
 use Rattle.encoding.specs.Below.{any_below, count_below}
 use Rattle.encoding.specs.Pieces.{piece, Bytes}
 use Rattle.encoding.specs.Refusal.{first_failed}
 use Rattle.encoding.proofs.Below.{either, tests, and_fst, and_snd, and_intro, iff_eq, any_at, any_intro, any_none, count_same}
 use Rattle.bits.specs.Bits.{in_set, with_member}
-use Rattle.offsets.specs.Limits.{max_trees}
 use Rattle.offsets.specs.Table.{first_tree, end_tree, tree_count}
 use Rattle.records.specs.Shape.{face_count}
 use Rattle.records.specs.Record.{core_size, tree_size, shape_of, neighbour_of}
@@ -24,7 +24,7 @@ use Rattle.positions.specs.Means.{Added, Countable, Counted}
 use Rattle.positions.proofs.Positions.{added_none, added_one, added_then, blank}
 use Rattle.positions.proofs.Members.{count_gap}
 use Rattle.part_cut.specs.Calls.{cut_checks}
-use Rattle.part_cut.specs.Means.{out_faces, out_trees, FacesFit, TreesFit, CutSpace, GhostSet, Measured}
+use Rattle.part_cut.specs.Means.{out_faces, out_trees, FacesFit, TreesFit, CutSpace, CutRoom, GhostSet, Measured}
 use Rattle.part_cut.proofs.Cutting.{Cuttable, CutFits, all_hold, cut_fits}
 
 -- ---- one record
@@ -179,7 +179,7 @@ module _ {mesh table : List ℕ} {rank : ℕ} {ws₀ behind₀ : List ℕ} (spac
           room = space.room;
         }
 
-    module _ {ws : List ℕ} (marked : Added ws₀ (out_trees (mesh_core mesh) first end (end - first)) ws) {K words : ℕ} (is-K : K ≡ mesh_trees mesh) (enough : words ≡ (K + 63) / 64) where
+    module _ {ws : List ℕ} (marked : Added ws₀ (out_trees (mesh_core mesh) first end (end - first)) ws) {K words : ℕ} (is-K : K ≡ mesh_trees mesh) (enough : words ≡ div_ceil K 64) where
       pub space_countable : Countable ws words behind₀
       space_countable = record { marked = omega (arith, marked.same_length, space.room); room = omega (arith, space.room, space.blank.same); few = omega (arith, space_fits.most) }
 
@@ -232,9 +232,9 @@ module _ {mesh table : List ℕ} {rank : ℕ} {ws₀ behind₀ : List ℕ} (spac
           }
 
 -- words of 0 for as many trees as they can hold
-pub cut_space : {mesh table : List ℕ} {rank : ℕ} (n : ℕ) → n ≤ 2 ^ 20 → first_failed (cut_checks mesh table rank) ≡ 0 → mesh_trees mesh ≤ 64 * n → CutSpace mesh table rank (replicate n 0) (replicate n 0)
-cut_space n few checked h = record { checked = checked; room = omega (arith, length-replicate {A = ℕ} n 0); blank = blank n few }
+pub cut_space : {mesh table : List ℕ} {rank words : ℕ} → CutRoom mesh table rank words → CutSpace mesh table rank (replicate words 0) (replicate words 0)
+cut_space {words = words} r = record { checked = r.checked; room = omega (arith, length-replicate {A = ℕ} words 0, r.room); blank = blank words r.few }
 
--- a mesh that passes has no more trees than there can be
-pub few_trees : (mesh table : List ℕ) (rank : ℕ) → first_failed (cut_checks mesh table rank) ≡ 0 → Bytes table → mesh_trees mesh ≤ max_trees
-few_trees mesh table rank checked bytes = (cut_fits mesh table rank (sym checked) refl bytes).most
+-- the words for all trees that there can be
+pub room_of_all : (mesh table : List ℕ) (rank : ℕ) → 0 ≡ first_failed (cut_checks mesh table rank) → Bytes table → CutRoom mesh table rank 16384
+room_of_all mesh table rank checked bytes = record { checked = sym checked; room = omega (arith, (cut_fits mesh table rank checked refl bytes).most); few = omega arith }

@@ -165,6 +165,11 @@ module _ (mesh : List ℕ) (sound : mesh_sound mesh ≡ true) where
 
 -- ---- the call
 
+-- the length of a part that is accepted
+pub length_found : (mesh table : List ℕ) (rank : ℕ) {size : ℕ} → 0 ≡ first_failed (cut_checks mesh table rank) → size ≡ length (cut_part mesh table rank) → record { refusal = 0; length = size } ≡ part_length_of mesh table rank
+unfolding part_length_of length_answer
+length_found mesh table rank checked long = rw (← checked, long)
+
 -- one more check behind those of the cut
 more_checks : (a b c d : Bool) (x : ℕ)
     → cond a (cond b (cond c (cond d x 7) 5) 3) 2 ≡ cond (eqb (cond a (cond b (cond c (cond d 0 7) 5) 3) 2) 0) x (cond a (cond b (cond c (cond d 0 7) 5) 3) 2)
@@ -203,10 +208,6 @@ module _ {mesh table : List ℕ} {rank : ℕ} {ws₀ behind₀ ws behind : List 
   found_long e =
       let g : count ≡ ghost_count mesh table rank = ghosts_many mesh (space_known space bytes).mesh_sound_lem table rank ghost-set in
       omega (arith, cut_size mesh table rank (sym space.checked) refl bytes, found.is_count)
-
-  pub length_found : {size : ℕ} → size ≡ ghost_place n count → record { refusal = 0; length = size } ≡ part_length_of mesh table rank
-  unfolding part_length_of length_answer
-  length_found e = rw (space.checked, found_long e)
 
   module _ (out : List ℕ) where
     pub part_room : {size : ℕ} → size ≡ ghost_place n count → size ≤ length out → PartRoom mesh first n ws behind count out

@@ -44,6 +44,12 @@ pub record CutSpace (mesh table : List ℕ) (rank : ℕ) (ws behind : List ℕ) 
   pub room : mesh_trees mesh ≤ 64 * length ws
   pub blank : Blank ws behind
 
+-- where no check of the cut fails: so many words have bits for all trees
+pub record CutRoom (mesh table : List ℕ) (rank words : ℕ) : Type 0 where
+  pub checked : first_failed (cut_checks mesh table rank) ≡ 0
+  pub room : mesh_trees mesh ≤ 64 * words
+  pub few : words ≤ 2 ^ 20
+
 -- the set has the range's ghosts among the trees below K and nothing else, and its counts
 pub record GhostSet (mesh : List ℕ) (K first end : ℕ) (ws behind : List ℕ) (count : ℕ) : Type 0 where
   pub few : length ws ≤ 2 ^ 20

@@ -13,10 +13,8 @@ pub fn mark_faces(bs: &[u8], at: usize, faces: u32, first: u32, end: u32, marks:
     requires { FacesFit bs.now at faces first end marks.old }
     ensures { Added marks.old (out_faces first end (piece bs.now at core_size) faces) marks.new }
 {
-    let mut face = 0;
-    while face < faces {
+    for face in 0..faces {
         let k = records::read::neighbour_of(bs, at, face);
-        face += 1;
         if !within(first, end, k) {
             bits::set::add_member(&mut *marks, k);
         }
@@ -28,12 +26,10 @@ fn mark_trees(mesh: &[u8], first: u32, end: u32, marks: &mut [u64])
     requires { TreesFit mesh.now first end marks.old }
     ensures { Added marks.old (out_trees (mesh_core mesh.now) first end (end - first)) marks.new }
 {
-    let mut k = first;
-    while k < end {
+    for k in first..end {
         let at = mesh::layout::tree_at(k);
         let faces = records::shape::face_count(records::read::shape_of(mesh, at));
         mark_faces(mesh, at, faces, first, end, &mut *marks);
-        k += 1;
     }
 }
 
@@ -59,7 +55,7 @@ pub fn measure(
     let first = offsets::table::first_tree(table, rank as usize) as u32;
     let end = offsets::table::end_tree(table, rank as usize) as u32;
     mark_trees(mesh, first, end, &mut *marks);
-    let words = ((mesh::layout::trees(mesh) + 63) / 64) as usize;
+    let words = mesh::layout::trees(mesh).div_ceil(64) as usize;
     let ghosts = positions::index::count_behind(&*marks, words, &mut *behind);
     Extent {
         first,

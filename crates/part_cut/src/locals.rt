@@ -10,85 +10,69 @@ ghost use Rattle.part_cut.specs.Means.{Known, local_in, RecordRoom, RecordsRoom,
 use part::range::within;
 use records::index::{GlobalIndex, LocalIndex, ghost_index, to_local};
 
-// The local index of a neighbour; the mark of an unused face stays.
-fn local_index(
-    marks: &[u64],
-    behind: &[u32],
+// What a tree record's neighbours are renamed by: the index of the ghosts' numbers, and the range.
+#[derive(Clone, Copy)]
+struct Renaming<'a> {
+    marks: &'a [u64],
+    behind: &'a [u32],
     count: u32,
     first: u32,
     end: u32,
-    neighbour: GlobalIndex,
-) -> LocalIndex
-    requires { Known marks.now behind.now count first end }
-    ensures { result.0 ≡ local_in marks.now first end neighbour.0 }
-{
-    let k = neighbour.0;
-    if k == 4294967295 {
-        return LocalIndex(4294967295);
-    }
-    if within(first, end, k) {
-        return to_local(neighbour, GlobalIndex(first));
-    }
-    let position = positions::index::count_below(marks, behind, count, neighbour);
-    ghost_index(end - first, position)
 }
 
-fn rename_row(
-    marks: &[u64],
-    behind: &[u32],
-    count: u32,
-    first: u32,
-    end: u32,
-    row: [u32; 3],
-) -> [u32; 3]
-    requires { Known marks.now behind.now count first end }
-    ensures { result ≡ row_with (local_in marks.now first end) row }
-{
-    let neighbour = GlobalIndex(row[0]);
-    let index = local_index(marks, behind, count, first, end, neighbour);
-    [index.0, row[1], row[2]]
-}
+impl Renaming<'_> {
+    // The local index of a neighbour; the mark of an unused face stays.
+    fn local_index(self, neighbour: GlobalIndex) -> LocalIndex
+        requires { Known self.marks.now self.behind.now self.count self.first self.end }
+        ensures { result.0 ≡ local_in self.entry.marks.now self.entry.first self.entry.end neighbour.0 }
+    {
+        let k = neighbour.0;
+        if k == 4294967295 {
+            return LocalIndex(4294967295);
+        }
+        if within(self.first, self.end, k) {
+            return to_local(neighbour, GlobalIndex(self.first));
+        }
+        let position = positions::index::count_below(
+            self.marks,
+            self.behind,
+            self.count,
+            neighbour,
+        );
+        ghost_index(self.end - self.first, position)
+    }
 
-// The six links of a record with local indices.
-fn rename_rows(
-    marks: &[u64],
-    behind: &[u32],
-    count: u32,
-    first: u32,
-    end: u32,
-    rows: [[u32; 3]; 6],
-) -> [[u32; 3]; 6]
-    requires { Known marks.now behind.now count first end }
-    ensures { result ≡ rows_with (local_in marks.now first end) rows }
-{
-    [
-        rename_row(marks, behind, count, first, end, rows[0]),
-        rename_row(marks, behind, count, first, end, rows[1]),
-        rename_row(marks, behind, count, first, end, rows[2]),
-        rename_row(marks, behind, count, first, end, rows[3]),
-        rename_row(marks, behind, count, first, end, rows[4]),
-        rename_row(marks, behind, count, first, end, rows[5]),
-    ]
+    fn rename_row(self, row: [u32; 3]) -> [u32; 3]
+        requires { Known self.marks.now self.behind.now self.count self.first self.end }
+        ensures { result ≡ row_with (local_in self.entry.marks.now self.entry.first self.entry.end) row }
+    {
+        let index = self.local_index(GlobalIndex(row[0]));
+        [index.0, row[1], row[2]]
+    }
+
+    // The six links of a record with local indices.
+    fn rename_rows(self, rows: [[u32; 3]; 6]) -> [[u32; 3]; 6]
+        requires { Known self.marks.now self.behind.now self.count self.first self.end }
+        ensures { result ≡ rows_with (local_in self.entry.marks.now self.entry.first self.entry.end) rows }
+    {
+        [
+            self.rename_row(rows[0]),
+            self.rename_row(rows[1]),
+            self.rename_row(rows[2]),
+            self.rename_row(rows[3]),
+            self.rename_row(rows[4]),
+            self.rename_row(rows[5]),
+        ]
+    }
 }
 
 // Writes the tree record at byte `from` of a buffer to byte `to`.
-fn write_tree(
-    source: &[u8],
-    from: usize,
-    faces: u32,
-    marks: &[u64],
-    behind: &[u32],
-    count: u32,
-    first: u32,
-    end: u32,
-    out: &mut [u8],
-    to: usize,
-)
-    requires { RecordRoom source.now out.old from faces marks.now behind.now count first end to }
-    ensures { out.new ≡ splice out.old to (renamed (local_in marks.now first end) faces (piece source.now from tree_size)) }
+fn write_tree(source: &[u8], from: usize, faces: u32, renaming: Renaming, out: &mut [u8], to: usize)
+    requires { RecordRoom source.now out.old from faces renaming.marks.now renaming.behind.now renaming.count renaming.first renaming.end to }
+    ensures { out.new ≡ splice out.old to (renamed (local_in renaming.entry.marks.now renaming.entry.first renaming.entry.end) faces (piece source.now from tree_size)) }
 {
     let rows = records::links::rows_of(source, from, faces);
-    let local = rename_rows(marks, behind, count, first, end, rows);
+    let local = renaming.rename_rows(rows);
     encoding::record::copy64(source, from, &mut *out, to);
     records::links::put_rows(&mut *out, to, local, faces);
 }
@@ -108,22 +92,22 @@ pub fn write_trees(
     requires { RecordsRoom source.now out.old from faces first n marks.now behind.now count }
     ensures { out.new ≡ splice out.old part_header (records_with (local_in marks.now first (first + n)) faces source.now from n) }
 {
-    let end = first + n;
-    let mut i = 0;
-    while i < n {
+    let renaming = Renaming {
+        marks,
+        behind,
+        count,
+        first,
+        end: first + n,
+    };
+    for i in 0..n {
         let before = 64 * (i as usize);
         write_tree(
             source,
             from + before,
             faces,
-            marks,
-            behind,
-            count,
-            first,
-            end,
+            renaming,
             &mut *out,
             32 + before,
         );
-        i += 1;
     }
 }

@@ -19,8 +19,7 @@ use Rattle.part.specs.Means.{in_range, neighbour_in, ghost_core, ghost_has}
 use Rattle.part.specs.Part.{part_dimension, part_count, part_ghost_count, stored_tree, stored_ghost, view_of}
 use Rattle.part_check.specs.Means.{tree_numbered}
 use Rattle.faults.specs.declared.answer.Fault.{Fault}
-use Rattle.faults.specs.declared.answer.Wrong.{Wrong}
-use Rattle.faults.specs.Answer.{wrong, no_fault, fault_at, first_fault}
+use Rattle.faults.specs.Answer.{Wrong, wrong, no_fault, fault_at, first_fault}
 use Rattle.faults.specs.Record.{record_kind, link_kind, first_face, record_wrong}
 use Rattle.faults.specs.Means.{form_kind}
 use Rattle.faults.proofs.Firsts.{quiet, quiet_to, first_read, first_none}
@@ -240,6 +239,10 @@ module _ (part : List ℕ) (e : Extent) (known : Known part e) where
         first_read 8 all (wrong_in (view_of part)) t (omega (arith, known.is_count)) (quiet-intro t (λ i l. quiet_tree i l (omega arith))) (wrong_tree t h p)
         (λ z. least_wrong e.count (λ i. (tree_wrong_in (view_of part) i).kind) pt h (sym (ap (λ (w : Wrong). w.kind) p) ∙ z)) f
 
+    -- so something is wrong there
+    pub part_tree_some : t < e.count → wrong 0 0 ≡ tree_wrong_in (view_of part) t → ⊥
+    part_tree_some h p = least_wrong e.count (λ i. (tree_wrong_in (view_of part) i).kind) pt h (sym (ap (λ (w : Wrong). w.kind) p))
+
     module _ (trees : e.count ≤ t) {j : ℕ} (pj : j ≡ least_below e.found (λ j. not (eqb (ghost_wrong_in (view_of part) j).kind 0))) where
       within : j ≤ e.found
       within = least_within e.found (λ j. (ghost_wrong_in (view_of part) j).kind) pj
@@ -257,6 +260,9 @@ module _ (part : List ℕ) (e : Extent) (known : Known part e) where
       part_ghost h p f =
           first_read 8 all (wrong_in (view_of part)) (e.count + j) (omega (arith, known.is_count, known.is_ghosts, known.within)) before (wrong_ghost (e.count + j) (omega arith) (rw (add-sub_cancel_left e.count j) p))
           (λ z. least_wrong e.found (λ j. (ghost_wrong_in (view_of part) j).kind) pj h (sym (ap (λ (w : Wrong). w.kind) p) ∙ z)) f
+
+      pub part_ghost_some : j < e.found → wrong 0 0 ≡ ghost_wrong_in (view_of part) j → ⊥
+      part_ghost_some h p = least_wrong e.found (λ j. (ghost_wrong_in (view_of part) j).kind) pj h (sym (ap (λ (w : Wrong). w.kind) p))
 
       module _ (ghosts : e.found ≤ j) where
         pub part_out : {a : Fault} → e.found < e.ghosts → a ≡ fault_at 8 (e.count + e.found) (wrong 7 0) → a ≡ first_fault 8 all (wrong_in (view_of part))

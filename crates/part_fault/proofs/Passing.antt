@@ -4,10 +4,11 @@ use native.Mathlib.Omega.{arith}
 use mathlib.Core.Path.{◌≡◌, refl, sym, ap, ap₂, ◌∙◌}
 use mathlib.Core.Bool.{Bool, true, false, ◌&&◌}
 use mathlib.Core.List.{List}
+use Rattle.std.specs.Prelude.{Some, None}
 use lib.Dec.{eqb, ltb}
 use Rattle.encoding.specs.Below.{all_below, any_below, least_below}
 use Rattle.encoding.specs.Pieces.{piece}
-use Rattle.encoding.proofs.Below.{either, clash, and_fst, all_same}
+use Rattle.encoding.proofs.Below.{either, and_fst, all_same}
 use Rattle.records.specs.Shape.{dimension_of, face_count}
 use Rattle.records.specs.Record.{core_size, number_of, shape_of, neighbour_of, in_form}
 use Rattle.mesh.specs.Link.{orientation_ok}
@@ -122,39 +123,29 @@ module _ (part : List ℕ) (e : Extent) (known : Known part e) where
 -- where the link of a ghost leads, and its rule
 module _ (part : List ℕ) (e : Extent) (known : Known part e) (j k : ℕ) where
   module _ {b : Bool} (test : b ≡ in_range e.first (e.first + e.count) k) where
-    pub way_tree : (t : ℕ) {own to : ℕ} → b ≡ true → t + e.first ≡ k → own ≡ e.count + j → to ≡ tree_place t → GhostWay part e j k (record { held = true; to = to; back = own })
+    pub way_tree : (t : ℕ) {own to : ℕ} → b ≡ true → t + e.first ≡ k → own ≡ e.count + j → to ≡ tree_place t → GhostWay part e j k (Some (record { to = to; back = own }))
     unfolding ghost_to stored_tree
     way_tree t h l q there =
         let s : k - e.first ≡ t = omega arith in
-        record {
-          fits = λ y. omega (arith, known.laid.long, range_last e.first (e.first + e.count) k test h);
-          is = λ f. rw (← test, h, s, ← there, q);
-        }
+        (omega (arith, known.laid.long, range_last e.first (e.first + e.count) k test h), λ f. rw (← test, h, s, ← there, q))
 
     module _ (out : b ≡ false) {p : ℕ} (position : p ≡ least_below e.found (ghost_has (ghost_core part e.count) k)) where
-      pub way_ghost : {at v to : ℕ} → p < e.found → at ≡ ghost_place e.count j → v ≡ number_of (piece part at core_size) → to ≡ ghost_place e.count p → GhostWay part e j k (record { held = true; to = to; back = v })
+      pub way_ghost : {at v to : ℕ} → p < e.found → at ≡ ghost_place e.count j → v ≡ number_of (piece part at core_size) → to ≡ ghost_place e.count p → GhostWay part e j k (Some (record { to = to; back = v }))
       unfolding ghost_to ghost_core
       way_ghost h here q there =
-          record {
-            fits = λ y. omega (arith, known.laid.long, known.within);
-            is = λ f. rw (← here, ← test, out, looked_some e.found (ghost_has (ghost_core part e.count) k) position h, ← position, ← there, q);
-          }
+          (omega (arith, known.laid.long, known.within), λ f. rw (← here, ← test, out, looked_some e.found (ghost_has (ghost_core part e.count) k) position h, ← position, ← there, q))
 
-      pub way_none : e.found ≤ p → GhostWay part e j k (record { held = false; to = 0; back = 0 })
+      pub way_none : e.found ≤ p → GhostWay part e j k None
       unfolding ghost_to
-      way_none h =
-          record {
-            fits = λ y. clash y refl;
-            is = λ f. rw (← test, out, looked_none e.found (ghost_has (ghost_core part e.count) k) position h);
-          }
+      way_none h = λ f. rw (← test, out, looked_none e.found (ghost_has (ghost_core part e.count) k) position h)
 
-  module _ (f : ℕ) {at : ℕ} (here : at ≡ ghost_place e.count j) (read : k ≡ neighbour_of (piece part at core_size) f) {w : Way} (way : GhostWay part e j k w) where
-    pub way_held : {r : Bool} → w.held ≡ true → r ≡ link_by_dimension e.dimension w.back (piece part at core_size) f (piece part w.to core_size)
+  module _ (f : ℕ) {at : ℕ} (here : at ≡ ghost_place e.count j) (read : k ≡ neighbour_of (piece part at core_size) f) where
+    pub way_held : (w : Way) {r : Bool} → GhostWay part e j k (Some w) → r ≡ link_by_dimension e.dimension w.back (piece part at core_size) f (piece part w.to core_size)
         → r ≡ ghost_face (link_by_dimension e.dimension) e.first e.count e.found (stored_tree part) (ghost_core part e.count) e.trees j f
     unfolding ghost_face ghost_core
-    way_held h p = rw (← here, ← read, ← way.is f, h, ← here, p)
+    way_held w way p = rw (← here, ← read, ← way.1 f, ← here, p)
 
-    pub way_free : {q : Bool} → w.held ≡ false → q ≡ orientation_ok (piece part at core_size) f
+    pub way_free : {q : Bool} → GhostWay part e j k None → q ≡ orientation_ok (piece part at core_size) f
         → (ltb k e.trees && q) ≡ ghost_face (link_by_dimension e.dimension) e.first e.count e.found (stored_tree part) (ghost_core part e.count) e.trees j f
     unfolding ghost_face ghost_core
-    way_free h p = rw (← here, ← read, ← way.is f, h, ← here, p)
+    way_free way p = rw (← here, ← read, ← way f, ← here, p)

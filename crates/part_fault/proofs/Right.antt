@@ -20,8 +20,7 @@ use Rattle.part.specs.Part.{part_dimension, part_k, part_first, part_count, part
 use Rattle.part_check.specs.Means.{tree_to, tree_face, tree_stored, tree_numbered, ghost_behind, ghost_numbered, numbers_sound, ghost_to, ghost_face, ghost_stored, records_sound}
 use Rattle.part_check.proofs.Checking.{sound_read}
 use Rattle.part_check.proofs.ByDimension.{records_by_dimension}
-use Rattle.faults.specs.declared.answer.Wrong.{Wrong}
-use Rattle.faults.specs.Answer.{wrong}
+use Rattle.faults.specs.Answer.{Wrong, wrong}
 use Rattle.faults.specs.Record.{record_kind, face_kind, first_face, record_wrong}
 use Rattle.faults.proofs.Firsts.{quiet, quiet_at}
 use Rattle.faults.proofs.Right.{link_right, record_right_is}

@@ -18,8 +18,7 @@ use Rattle.part.proofs.Checks.{rank_known, rank_passes}
 use Rattle.part_check.specs.Calls.{part_refusal}
 use Rattle.part_check.proofs.Checking.{sound_none}
 use Rattle.faults.specs.declared.answer.Fault.{Fault}
-use Rattle.faults.specs.declared.answer.Wrong.{Wrong}
-use Rattle.faults.specs.Answer.{wrong, fault_refused, fault_at, first_fault}
+use Rattle.faults.specs.Answer.{Wrong, wrong, fault_refused, fault_at, first_fault}
 use Rattle.faults.specs.Calls.{fault_answer}
 use Rattle.faults.specs.Record.{record_kind, first_face, record_wrong}
 use Rattle.faults.specs.Theorems.{AsChecked}

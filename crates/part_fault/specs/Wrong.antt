@@ -5,8 +5,7 @@ use Rattle.records.specs.Shape.{face_count}
 use Rattle.records.specs.Record.{number_of, shape_of, neighbour_of}
 use Rattle.mesh.specs.Link.{orientation_ok}
 use Rattle.part.specs.View.{View, local_in, ghost_ascends}
-use Rattle.faults.specs.declared.answer.Wrong.{Wrong}
-use Rattle.faults.specs.Answer.{wrong}
+use Rattle.faults.specs.Answer.{Wrong, wrong}
 use Rattle.faults.specs.Record.{record_kind, face_kind, link_kind, first_face, record_wrong}
 
 module _ (v : View) where

@@ -13,6 +13,9 @@ use Rattle.encoding.proofs.Below.{and_fst}
 use Rattle.offsets.specs.Table.{ranks, ranks_ok, valid, first_tree, end_tree, tree_count}
 use Rattle.records.specs.Shape.{face_count}
 use Rattle.records.specs.Record.{core_size, shape_of, neighbour_of, face_of, orientation_of, to_itself}
+use Rattle.encoding.specs.declared.refusal.Refusal.{Refusal}
+use Rattle.encoding.specs.Refusals.{refusal_number}
+use Rattle.encoding.proofs.Refusals.{number_positive}
 use Rattle.part_neighbour.specs.declared.link.Link.{Link}
 use Rattle.part_neighbour.specs.declared.link.Link.TheVariants.{Boundary, Unused, Local, Ghost}
 use Rattle.part.specs.Layout.{tree_place, part_size}
@@ -46,18 +49,20 @@ module _ (part : List ℕ) (i f : ℕ) {at shape faces : ℕ} (here : at ≡ tre
 
 -- ---- the call
 
-module _ (part table : List ℕ) (rank i f : ℕ) {r : ℕ} (checked : r ≡ first_failed (rank_checks table rank)) where
+module _ (part table : List ℕ) (rank i f : ℕ) where
   answer-refused : (m : ℕ) → (m ≡ 0 → ⊥) → m ≡ first_failed (neighbour_checks part table rank i f) → neighbour_refused m ≡ neighbour_answer part table rank i f
   unfolding neighbour_answer
   answer-refused m h e = rw (← e, ne_eqb m 0 h)
 
-  pub answer_rank : (r ≡ 0 → ⊥) → neighbour_refused r ≡ neighbour_answer part table rank i f
+  pub answer_rank : (e : Refusal) → refusal_number e ≡ first_failed (rank_checks table rank) → neighbour_refused (refusal_number e) ≡ neighbour_answer part table rank i f
   unfolding first_failed rank_checks neighbour_checks
-  answer_rank h = answer-refused r h (three_fail (ranks_ok table) (valid table) (ltb rank (ranks table)) (ltb rank (ranks table) && ltb i (tree_count table rank) && ltb f 6) _ (λ p. rw p) checked h)
+  answer_rank e checked =
+      let h = number_positive e in
+      answer-refused (refusal_number e) h (three_fail (ranks_ok table) (valid table) (ltb rank (ranks table)) (ltb rank (ranks table) && ltb i (tree_count table rank) && ltb f 6) _ (λ p. rw p) checked h)
 
-  module _ (ok : r ≡ 0) {first end : ℕ} (is_first : first ≡ first_tree table rank) (is_end : end ≡ end_tree table rank) where
+  module _ (checked : 0 ≡ first_failed (rank_checks table rank)) {first end : ℕ} (is_first : first ≡ first_tree table rank) (is_end : end ≡ end_tree table rank) where
     known : RankKnown table rank
-    known = rank_known table rank checked ok
+    known = rank_known table rank checked refl
 
     pub answer_index : end - first ≤ i → neighbour_refused 5 ≡ neighbour_answer part table rank i f
     unfolding first_failed neighbour_checks tree_count

@@ -1,12 +1,10 @@
 -- For a local index and a face: the shape, and one of boundary, unused, a local tree or a ghost, with face and orientation.
 use Rattle.std.specs.Prelude.{ℕ, ◌+◌, ◌-◌, cond, List, leb, ltb}
 use Rattle.offsets.specs.Table.{first_tree, tree_count, holds}
-use Rattle.records.specs.declared.index.LocalIndex.{LocalIndex}
 use Rattle.records.specs.Shape.{face_count}
 use Rattle.records.specs.Record.{shape_of, neighbour_of, face_of, orientation_of, to_itself}
 use Rattle.mesh.specs.Mesh.{mesh_core}
 use Rattle.part_neighbour.specs.declared.link.Across.{Across}
-use Rattle.part_neighbour.specs.declared.link.Neighbour.{Neighbour}
 use Rattle.part_neighbour.specs.declared.link.NeighbourAnswer.{NeighbourAnswer}
 use Rattle.part_neighbour.specs.declared.link.Link.{Link}
 use Rattle.part_neighbour.specs.declared.link.Link.TheVariants.{Boundary, Unused, Local, Ghost}
@@ -50,8 +48,14 @@ mesh_link mesh table rank i f =
     (Local (across (neighbour_of r f - first_tree table rank) (face_of r f) (orientation_of r f)))
     (Ghost (across (tree_count table rank + ghost_position (mesh_core mesh) table rank (neighbour_of r f)) (face_of r f) (orientation_of r f)))))
 
+-- an answer: the shape and the link, or a refusal and zeros
+pub record Answered : Type 0 where
+  pub refusal : ℕ
+  pub shape : ℕ
+  pub link : Link
+
 -- an answer as numbers alone
-abbrev pub flat_answer : Neighbour → NeighbourAnswer
+abbrev pub flat_answer : Answered → NeighbourAnswer
 flat_answer n =
     record {
       refusal = n.refusal;

@@ -4,13 +4,14 @@ ghost use Rattle.encoding.specs.Pieces.{piece};
 ghost use Rattle.records.specs.Record.{core_size, to_itself};
 ghost use Rattle.part.specs.Layout.{tree_place};
 ghost use Rattle.part_neighbour.specs.Neighbour.{link_kind, link_across, across as across_of, link_of, flat_answer};
-ghost use Rattle.part_neighbour.specs.Calls.{neighbour_refused};
+ghost use Rattle.part_neighbour.specs.Calls.{answered_of};
 
+use encoding::refusal::Refusal;
 use part::layout::{tree_at, tree_count};
 use records::index::LocalIndex;
 
 // The other side of a face: the local index there, its face and the orientation.
-#[derive(Clone, Copy)]
+#[derive(Clone, Copy, Debug, PartialEq, Eq)]
 pub struct Across {
     pub index: LocalIndex,
     pub face: u32,
@@ -18,7 +19,8 @@ pub struct Across {
 }
 
 // A domain boundary has the own index, the own face and orientation 0; a face without use has zeros.
-#[derive(Clone, Copy)]
+// All four cases have values, since the theorems and C ask for them whatever the case.
+#[derive(Clone, Copy, Debug, PartialEq, Eq)]
 pub enum Link {
     Boundary(Across),
     Unused(Across),
@@ -26,15 +28,39 @@ pub enum Link {
     Ghost(Across),
 }
 
-// The shape of the tree, and what stands across its face. When refused, `refusal` is the number of the first check that failed and the rest is 0.
-#[derive(Clone, Copy)]
+impl Link {
+    // The number of its case, as C gets it.
+    #[tactic(auto, unfolding(crate::specs::Neighbour::link_kind))]
+    fn kind(self) -> u32
+        ensures { result ≡ link_kind self }
+    {
+        match self {
+            Link::Boundary(_) => 0,
+            Link::Unused(_) => 1,
+            Link::Local(_) => 2,
+            Link::Ghost(_) => 3,
+        }
+    }
+
+    #[tactic(auto, unfolding(crate::specs::Neighbour::link_across))]
+    fn across(self) -> Across
+        ensures { result ≡ link_across self }
+    {
+        match self {
+            Link::Boundary(there) | Link::Unused(there) | Link::Local(there) | Link::Ghost(there) =>
+                there,
+        }
+    }
+}
+
+// The shape of a tree, and what stands across its face.
+#[derive(Clone, Copy, Debug, PartialEq, Eq)]
 pub struct Neighbour {
-    pub refusal: u32,
     pub shape: u32,
     pub link: Link,
 }
 
-// The same as numbers alone: the kind is 0 for a boundary, 1 for no use, 2 for a local tree, 3 for a ghost.
+// The same as C gets it: the kind is 0 for a boundary, 1 for no use, 2 for a local tree, 3 for a ghost. When refused, `refusal` is the number of the first check that failed and the rest is 0.
 #[repr(C)]
 #[derive(Clone, Copy)]
 pub struct NeighbourAnswer {
@@ -46,6 +72,36 @@ pub struct NeighbourAnswer {
     pub orientation: u32,
 }
 
+impl From<Result<Neighbour, Refusal>> for NeighbourAnswer {
+    ghost from_gives = { λ answer numbers. numbers ≡ flat_answer (answered_of answer) };
+
+    #[tactic(auto, unfolding(crate::specs::Neighbour::link_kind, crate::specs::Neighbour::link_across))]
+    fn from(answer: Result<Neighbour, Refusal>) -> NeighbourAnswer {
+        match answer {
+            Ok(neighbour) => {
+                let there = neighbour.link.across();
+                let index = there.index;
+                NeighbourAnswer {
+                    refusal: 0,
+                    shape: neighbour.shape,
+                    kind: neighbour.link.kind(),
+                    index: index.0,
+                    face: there.face,
+                    orientation: there.orientation,
+                }
+            }
+            Err(refusal) => NeighbourAnswer {
+                refusal: refusal.number(),
+                shape: 0,
+                kind: 0,
+                index: 0,
+                face: 0,
+                orientation: 0,
+            },
+        }
+    }
+}
+
 fn across_to(index: LocalIndex, face: u32, orientation: u32) -> Across
     ensures { result ≡ across_of index.0 face orientation }
 {
@@ -53,17 +109,6 @@ fn across_to(index: LocalIndex, face: u32, orientation: u32) -> Across
         index,
         face,
         orientation,
-    }
-}
-
-pub fn refused(refusal: u32) -> Neighbour
-    ensures { result ≡ neighbour_refused refusal }
-{
-    let none = across_to(LocalIndex(0), 0, 0);
-    Neighbour {
-        refusal,
-        shape: 0,
-        link: Link::Boundary(none),
     }
 }
 
@@ -98,44 +143,4 @@ pub fn link_of(part: &[u8], tree: LocalIndex, face: u32) -> Link
         return Link::Local(there);
     }
     Link::Ghost(there)
-}
-
-fn kind_of(link: Link) -> u32
-    ensures { result ≡ link_kind link }
-{
-    match link {
-        Link::Boundary(_) => 0,
-        Link::Unused(_) => 1,
-        Link::Local(_) => 2,
-        Link::Ghost(_) => 3,
-    }
-}
-
-fn values_of(link: Link) -> Across
-    ensures { result ≡ link_across link }
-{
-    match link {
-        Link::Boundary(a) => a,
-        Link::Unused(a) => a,
-        Link::Local(a) => a,
-        Link::Ghost(a) => a,
-    }
-}
-
-// The answer as numbers alone.
-pub fn flat(n: Neighbour) -> NeighbourAnswer
-    ensures { result ≡ flat_answer n }
-{
-    let link = n.link;
-    let kind = kind_of(link);
-    let a = values_of(link);
-    let index = a.index;
-    NeighbourAnswer {
-        refusal: n.refusal,
-        shape: n.shape,
-        kind,
-        index: index.0,
-        face: a.face,
-        orientation: a.orientation,
-    }
 }

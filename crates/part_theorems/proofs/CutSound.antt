@@ -23,7 +23,7 @@ use Rattle.mesh.proofs.Soundness.{link_orientation, header_parts, sound_header, 
 use Rattle.part.specs.Layout.{tree_place, part_size}
 use Rattle.part.specs.Ghosts.{is_ghost, ghosts_of, ghost_position}
 use Rattle.part.specs.Cut.{local_index, ghost_count, cut_part}
-use Rattle.part.specs.Means.{RankKnown, is_local, ghost_is, held, held_core, tree_link, ghost_link, ghost_after, ghost_beside, part_linked}
+use Rattle.part.specs.Means.{is_local, ghost_is, held, held_core, tree_link, ghost_link, ghost_after, ghost_beside, part_linked}
 use Rattle.part.proofs.Sound.{part_sound_is}
 use Rattle.part.proofs.Same.{holds_held, core_held}
 use Rattle.part.specs.Part.{part_dimension, part_k, part_first, part_count, part_ghost_count, stored_ghost, global_number, global_tree, part_holds, part_core, part_header_sound, part_sound}

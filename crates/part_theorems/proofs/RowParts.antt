@@ -2,7 +2,7 @@
 use Prim.Native.Nat.{ℕ}
 use mathlib.Core.Path.{◌≡◌, refl}
 use mathlib.Core.Bool.{true, false}
-use mathlib.Core.List.{List, [], ◌∷◌, ◌++◌, map}
+use mathlib.Core.List.{List, [], ◌∷◌, ◌++◌}
 use lib.ListN.{replicate}
 use Rattle.encoding.specs.Below.{all_below, any_below, least_below}
 use Rattle.encoding.specs.Numbers.{le_value, le_bytes, le_at}
@@ -12,7 +12,6 @@ use Rattle.records.specs.Record.{unused, number_of, shape_of, neighbour_of, code
 use Rattle.records.specs.Links.{row_of, rows_of, neighbour_bytes, code_bytes, with_rows}
 use Rattle.mesh.specs.Link.{orientation_ok, same_corners, answered, link_ok}
 use Rattle.mesh.specs.Mesh.{face_neighbour}
-use Rattle.part.specs.Layout.{header_bytes}
 use Rattle.part.specs.Cut.{rename_row, renamed}
 use Rattle.part.specs.View.{View, tree_in_form, ghost_ascends, ghost_in_form, beside_tree, ghost_near, neighbours_ghostly, ghosts_exact, link_rule, links_obey, links_far, links_hold, records_hold}
 use Rattle.part.specs.Part.{part_dimension, part_k, part_first, part_count, part_ghost_count, stored_tree, stored_ghost, global_number, global_tree, view_of}

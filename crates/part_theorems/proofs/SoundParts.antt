@@ -26,7 +26,7 @@ use Rattle.part.specs.Cut.{renamed}
 use Rattle.part.specs.Means.{beside_rank, is_local, ghost_is, held, held_core, view_sound, part_linked}
 use Rattle.part.proofs.Sound.{sound_linked}
 use Rattle.part.proofs.Same.{records_same}
-use Rattle.part.specs.Part.{part_dimension, part_k, part_first, part_count, part_ghost_count, stored_tree, stored_ghost, global_number, global_tree, view_of, part_holds, part_core, part_header_sound, part_sound}
+use Rattle.part.specs.Part.{part_dimension, part_k, part_first, part_count, part_ghost_count, stored_tree, stored_ghost, global_number, global_tree, part_holds, part_core, part_header_sound, part_sound}
 use Rattle.part_theorems.proofs.Renamed.{renamed_length}
 use Rattle.part.proofs.Views.{local_at, local_range, core_tree, core_ghost, held_cases, local_held, ghost_at_held, view_ghosts, view_ascends, view_number, view_form, view_shape, view_link, view_neighbour, view_far, view_beside, view_below, held_same, core_same}
 

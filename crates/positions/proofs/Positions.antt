@@ -9,6 +9,7 @@ use lib.Dec.{eqb, ltb}
 use lib.ListN.{length, get_or, set, replicate, length-set, length-replicate, get_or-replicate, get_or-eq_default}
 use lib.Seq.{get_or-set_same, get_or-set_other}
 use borrow.Author.Tests.{ltb-true, lt-ltb, le-ltb, eqb-true, eqb-false, eq-eqb, ne_eqb}
+use Rattle.std.specs.Int.{div_ceil}
 use Rattle.encoding.specs.Below.{any_below, count_below}
 use Rattle.encoding.specs.Numbers.{u32_at}
 use Rattle.encoding.proofs.Below.{either, tests, clash, below_suc, any_at, any_intro, count_more, count_same, count_none, count_le, count_mono, count_initial, least_is, least_none, count_add}
@@ -254,7 +255,7 @@ module _ {bs : List ℕ} {at count below : ℕ} {ws₀ behind₀ : List ℕ} (n 
   pub make_markable : Markable bs at count ws₀
   make_markable = record { fits = n.ascending.fits; low = λ i h. omega (arith, n.low i h) }
 
-  module _ {ws : List ℕ} (m : Added ws₀ (some_has bs at count) ws) {words : ℕ} (enough : words ≡ (below + 63) / 64) where
+  module _ {ws : List ℕ} (m : Added ws₀ (some_has bs at count) ws) {words : ℕ} (enough : words ≡ div_ceil below 64) where
     pub make_countable : Countable ws words behind₀
     make_countable = record { marked = omega (arith, m.same_length); room = omega (arith, z.same); few = omega (arith, z.few) }
 

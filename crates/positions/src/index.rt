@@ -15,11 +15,9 @@ fn mark_numbers(bs: &[u8], at: usize, count: u32, marks: &mut [u64])
     requires { Markable bs.now at count marks.old }
     ensures { Added marks.old (some_has bs.now at count) marks.new }
 {
-    let mut i = 0;
-    while i < count {
+    for i in 0..count {
         let k = read_u32(bs, at + 40 * (i as usize));
         bits::set::add_member(&mut *marks, k);
-        i += 1;
     }
 }
 
@@ -29,9 +27,7 @@ pub fn count_behind(marks: &[u64], words: usize, behind: &mut [u32]) -> u32
     ensures { Counted marks.now words behind.old 0 behind.new × (result ≡ count_below (64 * words) (in_set marks.now)) }
 {
     let mut total = 0;
-    let mut i = words;
-    while 0 < i {
-        i -= 1;
+    for i in (0..words).rev() {
         behind[i] = total;
         let w = marks[i];
         // most words of few members are empty
@@ -48,7 +44,7 @@ pub fn make(bs: &[u8], at: usize, count: u32, below: u32, marks: &mut [u64], beh
     ensures { Indexed bs.now at count marks.new behind.new }
 {
     mark_numbers(bs, at, count, &mut *marks);
-    let words = ((below + 63) / 64) as usize;
+    let words = below.div_ceil(64) as usize;
     count_behind(&*marks, words, &mut *behind);
 }
 
@@ -73,7 +69,7 @@ pub fn count_below(marks: &[u64], behind: &[u32], count: u32, number: GlobalInde
     members_below(marks, behind, count, k)
 }
 
-// The position of the number among the members; `count`, which is how many there are, where it is none.
+// The position of the number among the members; `count`, which is how many there are, where it is none. No Option: most callers know that it is one, or take `count` for the place past the last.
 pub fn find(marks: &[u64], behind: &[u32], count: u32, number: GlobalIndex) -> u32
     requires { Counts marks.now behind.now count }
     ensures { (result ≡ member_position marks.now count number.0) × (result ≤ count) }

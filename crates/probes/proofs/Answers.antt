@@ -1,7 +1,7 @@
 -- The checks of the call in their order, and what it answers.
 use Prim.Native.Nat.{ℕ, ◌≤◌, ◌<◌}
 use native.Mathlib.Omega.{arith}
-use mathlib.Core.Path.{◌≡◌, refl, sym, ap, ◌∙◌}
+use mathlib.Core.Path.{◌≡◌, refl, sym, ◌∙◌}
 use mathlib.Core.Bool.{Bool, true, false, cond}
 use mathlib.Core.List.{List, [], ◌∷◌}
 use lib.Dec.{ltb, leb}
@@ -12,7 +12,7 @@ use Rattle.encoding.specs.Below.{count_below}
 use Rattle.encoding.specs.Pieces.{splice}
 use Rattle.encoding.specs.Refusal.{Check, check, first_failed}
 use Rattle.encoding.specs.declared.answer.Count.{Count}
-use Rattle.encoding.proofs.Below.{clash, kept_length}
+use Rattle.encoding.proofs.Below.{kept_length}
 use Rattle.offsets.specs.Table.{ranks, ranks_ok, valid}
 use Rattle.part.specs.Part.{part_count, part_sound}
 use Rattle.part.specs.Checks.{rank_checks}

@@ -98,6 +98,13 @@ module _ (part : List ℕ) (probe : Probe) (met : ℕ) (start : List ℕ) (ready
     pub list_within : count < met → i < part_count part
     list_within h = left_within (meets probe part) (part_count part) start w (omega (arith, ready.counted))
 
+    pub list_most : count ≤ met
+    list_most = omega (arith, ready.counted, w.counted, count_mono i (part_count part) (meets probe part) w.within)
+
+    -- at the end of the trees
+    pub list_all : part_count part ≤ i → met ≤ count
+    list_all h = let e : i ≡ part_count part = omega (arith, w.within) in omega (arith, ready.counted, w.counted, ap (λ k. count_below k (meets probe part)) e)
+
     pub list_length : length out ≡ length start
     list_length = write_length (meets probe part) (part_count part) start list_room out count i w
 

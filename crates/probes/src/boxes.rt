@@ -60,24 +60,15 @@ pub fn box_ok(part: &[u8], tree: LocalIndex) -> bool
     axis_ok(part, tree, 0) & axis_ok(part, tree, 1) & axis_ok(part, tree, 2)
 }
 
-// Whether a float is no NaN: only a NaN differs from itself.
-fn float_ok(x: f32) -> bool
-    ensures { result ≡ not (is_nan x) }
-{
-    !(x != x)
-}
-
 pub fn probe_ok(probe: Probe) -> bool
     ensures { result ≡ probe_ok probe }
 {
     match probe {
-        Probe::Point(x, y, z) => float_ok(x) & float_ok(y) & float_ok(z),
-        Probe::HalfSpace(axis, limit) => (axis < 3) & float_ok(limit),
+        Probe::Point(x, y, z) => !x.is_nan() & !y.is_nan() & !z.is_nan(),
+        Probe::HalfSpace(axis, limit) => (axis < 3) & !limit.is_nan(),
         Probe::Slab(axis, lower, upper) => {
-            if !((axis < 3) & float_ok(lower) & float_ok(upper)) {
-                return false;
-            }
-            !(order(f32::to_bits(upper)) < order(f32::to_bits(lower)))
+            ((axis < 3) & !lower.is_nan() & !upper.is_nan())
+                && !(order(upper.to_bits()) < order(lower.to_bits()))
         }
     }
 }

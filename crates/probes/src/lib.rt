@@ -2,9 +2,10 @@
 #![tactic(auto)]
 
 ghost use Rattle.std.specs.Prelude.{◌≡◌};
+ghost use Rattle.encoding.specs.Refusals.{count_of};
 ghost use Rattle.probes.specs.Calls.{trees_near};
 
-use encoding::answer::{Count, count_refused};
+use encoding::refusal::Refusal;
 
 mod boxes;
 mod list;
@@ -18,23 +19,26 @@ pub enum Probe {
 }
 
 // List the local trees of the part that the probe meets, ascending (2, 3, 5, 8, 31, 32, 22).
-pub fn trees_near(part: &[u8], table: &[u8], rank: u32, probe: Probe, out: &mut [u32]) -> Count
-    ensures { (result, out.new) ≡ trees_near part.now table.now rank probe out.old }
+pub fn trees_near(
+    part: &[u8],
+    table: &[u8],
+    rank: u32,
+    probe: Probe,
+    out: &mut [u32],
+) -> Result<u32, Refusal>
+    ensures { (count_of result, out.new) ≡ trees_near part.now table.now rank probe out.old }
 {
-    let refusal = part_check::check_part(part, table, rank);
-    if refusal != 0 {
-        return count_refused(refusal);
-    }
+    part_check::check_part(part, table, rank)?;
     if !boxes::probe_ok(probe) {
-        return count_refused(31);
+        return Err(Refusal::Probe);
     }
     if !list::boxes_ok(part) {
-        return count_refused(32);
+        return Err(Refusal::Box);
     }
     let count = list::count_met(part, probe);
     if out.len() < (count as usize) {
-        return count_refused(22);
+        return Err(Refusal::Buffer);
     }
     list::write(part, probe, count, &mut *out);
-    Count { refusal: 0, count }
+    Ok(count)
 }

@@ -17,12 +17,10 @@ pub fn boxes_ok(part: &[u8]) -> bool
     ensures { result ≡ boxes_ok part.now }
 {
     let n = tree_count(part);
-    let mut i = 0;
-    while i < n {
+    for i in 0..n {
         if !box_ok(part, LocalIndex(i)) {
             return false;
         }
-        i += 1;
     }
     true
 }
@@ -34,11 +32,8 @@ pub fn count_met(part: &[u8], probe: Probe) -> u32
 {
     let n = tree_count(part);
     let mut met = 0;
-    let mut i = 0;
-    while i < n {
-        let tree = LocalIndex(i);
-        i += 1;
-        if meets(part, tree, probe) {
+    for i in 0..n {
+        if meets(part, LocalIndex(i), probe) {
             met += 1;
         }
     }
@@ -51,13 +46,14 @@ pub fn write(part: &[u8], probe: Probe, met: u32, out: &mut [u32])
     ensures { out.new ≡ splice out.old 0 (trees_met part.now probe) }
 {
     let end = met as usize;
+    let n = tree_count(part);
     let mut count = 0;
-    let mut i = 0;
-    while count < end {
-        let tree = i;
-        i += 1;
-        if meets(part, LocalIndex(tree), probe) {
-            out[count] = tree;
+    for i in 0..n {
+        if count == end {
+            break;
+        }
+        if meets(part, LocalIndex(i), probe) {
+            out[count] = i;
             count += 1;
         }
     }

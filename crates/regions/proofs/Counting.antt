@@ -7,13 +7,14 @@ use mathlib.Core.Path.{◌≡◌, refl, sym, ap, ◌∙◌}
 use mathlib.Core.Bool.{cond}
 use mathlib.Core.List.{List, [], ◌∷◌, ◌++◌}
 use lib.Dec.{eqb, ltb}
-use lib.ListN.{length, get_or, set, length-set, length-append, get_or-append}
+use Rattle.std.proofs.lemmas.List.{length-take-le, replicate_more}
+use lib.ListN.{take, replicate, length, drop, get_or, set, length-set, length-append, get_or-append}
 use lib.Seq.{get_or_at, get_or-set_same, get_or-set_other, ext_get_or}
 use borrow.Author.Tests.{lt-ltb, le-ltb, le-leb, eq-eqb, ne_eqb}
 use Rattle.encoding.specs.Below.{count_below}
 use Rattle.encoding.specs.Pieces.{piece, splice}
 use Rattle.encoding.proofs.Below.{tests, either, below_suc, count_more, count_le}
-use Rattle.encoding.proofs.Pieces.{length_splice, splice_none}
+use Rattle.encoding.proofs.Pieces.{length_splice}
 use Rattle.records.specs.Record.{core_size, region_limit, region_of}
 use Rattle.records.proofs.Rows.{splice_get}
 use Rattle.part.specs.Layout.{tree_place}
@@ -102,27 +103,17 @@ values_over start n f g room =
 
 -- ---- clearing
 
-pub record Clearing (start out : List ℕ) (b : ℕ) : Type 0 where
-  pub within : b ≤ region_limit
-  pub cleared : out ≡ splice start 0 (values_below b none)
+zeros : (n : ℕ) → replicate n 0 ≡ values_below n none
+unfolding values_below none
+zeros zero = refl
+zeros (suc n) = sym (replicate_more n 0 ∙ rw (add-one n)) ∙ ap (λ (xs : List ℕ). xs ++ (0 ∷ [])) (zeros n)
 
-module _ (start : List ℕ) (room : region_limit ≤ length start) where
-  pub clear_start : Clearing start start 0
-  unfolding values_below
-  clear_start = record { within = omega arith; cleared = sym (splice_none start 0) }
-
-  pub clear_length : {out : List ℕ} {b : ℕ} → Clearing start out b → length out ≡ length start
-  clear_length {out} {b} c = ap length c.cleared ∙ written_length start b none (omega (arith, c.within))
-
-  pub clear_more : {out : List ℕ} {b : ℕ} → Clearing start out b → b < region_limit → Clearing start (set out b 0) (b + 1)
-  unfolding none
-  clear_more {out} {b} c h =
-      record { within = omega arith; cleared = ap (λ (l : List ℕ). set l b 0) c.cleared ∙ values_more start b none (omega arith) }
-
-  pub clear_done : {out : List ℕ} {b : ℕ} → Clearing start out b → region_limit ≤ b → out ≡ splice start 0 (values_below region_limit none)
-  clear_done {out} {b} c h =
-      let e : b ≡ region_limit = omega (arith, c.within) in
-      c.cleared ∙ ap (λ (n : ℕ). splice start 0 (values_below n none)) e
+-- a list whose first n entries are 0
+pub cleared : (out : List ℕ) (n : ℕ) {xs : List ℕ} → n ≤ length out → xs ≡ replicate (length (take n out)) 0 → xs ++ drop n out ≡ splice out 0 (values_below n none)
+unfolding splice
+cleared out n h e =
+    let l : 0 + length (values_below n none) ≡ n = omega (arith, values_length n none) in
+    rw (e, length-take-le n out h, l, zeros n)
 
 -- ---- counting
 

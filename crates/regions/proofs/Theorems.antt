@@ -9,15 +9,15 @@ use lib.Dec.{eqb, leb, ltb}
 use lib.ListN.{length, get_or}
 use borrow.Author.Tests.{eqb-true, leb-true, lt-ltb}
 use Rattle.encoding.specs.Answer.{length_answer, written}
-use Rattle.encoding.specs.Below.{count_below, sum_below}
+use Rattle.encoding.specs.Below.{sum_below}
 use Rattle.encoding.specs.Pieces.{Bytes}
 use Rattle.encoding.specs.Refusal.{first_failed}
-use Rattle.encoding.proofs.Below.{tests, either, sum_same, count_initial, count_by_value}
+use Rattle.encoding.proofs.Below.{either, sum_same, count_initial, count_by_value}
 use Rattle.offsets.specs.Table.{ranks, ranks_ok, valid, first_tree, tree_count}
 use Rattle.records.specs.Record.{region_limit, region_of}
 use Rattle.records.specs.Shape.{faces_in}
 use Rattle.records.proofs.Forms.{form_region, region_below}
-use Rattle.mesh.specs.Mesh.{mesh_dimension, mesh_trees, mesh_core}
+use Rattle.mesh.specs.Mesh.{mesh_dimension, mesh_core}
 use Rattle.mesh.proofs.Soundness.{sound_core}
 use Rattle.part.specs.Cut.{local_index, cut_part}
 use Rattle.part.specs.Part.{part_count, part_core, stored_tree, part_sound}
@@ -29,7 +29,7 @@ use Rattle.part_cut.proofs.Cutting.{Cuttable, cuttable}
 use Rattle.part_theorems.proofs.CutRead.{cut_tree, cut_ghost, cut_within}
 use Rattle.part_theorems.proofs.CutSound.{cut_core}
 use Rattle.part_theorems.proofs.SoundParts.{part_header_lem, part_form}
-use Rattle.regions.specs.Counts.{values_below, region_count, region_counts}
+use Rattle.regions.specs.Counts.{region_count, region_counts}
 use Rattle.regions.specs.Calls.{regions_refusal, region_counts_of}
 use Rattle.regions.specs.Theorems.{CountsSum, RegionsWithin, RegionsOfMesh, CutRegions}
 use Rattle.regions.proofs.Counting.{written_at}

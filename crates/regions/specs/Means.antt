@@ -1,5 +1,5 @@
 -- Means, no part of what is promised: the counts while the trees are passed, and what counting them needs.
-use Rattle.std.specs.Prelude.{ℕ, ◌+◌, ◌*◌, ◌≤◌, ◌<◌, List, eqb, length}
+use Rattle.std.specs.Prelude.{ℕ, ◌≤◌, ◌<◌, List, eqb, length}
 use Rattle.encoding.specs.Below.{count_below}
 use Rattle.records.specs.Record.{region_limit, region_of}
 use Rattle.part.specs.Layout.{tree_place}

@@ -1,13 +1,14 @@
 -- The checks of the calls, in their order.
 use Prim.Native.Nat.{ℕ, ◌+◌, ◌≤◌, ◌<◌}
 use mathlib.Core.Path.{◌≡◌, refl, sym, ◌∙◌}
-use mathlib.Core.Bool.{Bool, true, false, cond, ◌&&◌, ◌||◌}
+use mathlib.Core.Bool.{Bool, true, false, cond, ◌&&◌}
 use mathlib.Core.List.{List}
 use lib.Dec.{ltb, eqb}
-use borrow.Author.Tests.{lt-ltb, ltb-true}
+use native.Mathlib.Omega.{arith}
+use borrow.Author.Tests.{lt-ltb, le-ltb, ltb-true}
 use Rattle.encoding.specs.Below.{all_below}
 use Rattle.encoding.specs.Refusal.{first_failed}
-use Rattle.encoding.proofs.Below.{and_fst, and_snd, all_more, all_fails, all_to}
+use Rattle.encoding.proofs.Below.{and_fst, and_snd, all_at, either, all_intro, all_more, all_fails}
 use Rattle.offsets.specs.Limits.{rank_count_ok}
 use Rattle.offsets.specs.Table.{ranks, ranks_ok, valid, tree_count}
 use Rattle.mesh.specs.Mesh.{dimension_ok}
@@ -27,25 +28,23 @@ both {a} {b} p q h = (sym p ∙ and_fst a b h, sym q ∙ and_snd a b h)
 -- ---- a table of n ranks
 
 module _ (t : List ℕ) (n : ℕ) where
-  here : (p : ℕ) {b : Bool} → b ≡ eqb (tree_count t p) 0 → in_or_empty t n p ≡ (ltb p n || b)
+  -- the ranks that are left in
+  pub out_start : (p : ℕ) → p ≤ n → all_below p (in_or_empty t n) ≡ true
   unfolding in_or_empty
-  here p e = rw e
+  out_start p l = all_intro p (in_or_empty t n) (λ q h. rw (lt-ltb q n (omega arith)))
 
-  pub out_start : all_below 0 (in_or_empty t n) ≡ true
-  unfolding all_below
-  out_start = refl
-
-  pub out_more : (p : ℕ) {b : Bool} → all_below p (in_or_empty t n) ≡ true → b ≡ eqb (tree_count t p) 0 → (ltb p n || b) ≡ true → all_below (p + 1) (in_or_empty t n) ≡ true
-  out_more p a e h = all_more p (in_or_empty t n) a (here p e ∙ h)
+  pub out_more : (p : ℕ) {b : Bool} → all_below p (in_or_empty t n) ≡ true → b ≡ eqb (tree_count t p) 0 → b ≡ true → all_below (p + 1) (in_or_empty t n) ≡ true
+  unfolding in_or_empty
+  out_more p a e h = all_more p (in_or_empty t n) a (either (ltb p n) (λ q. rw q) (λ q. rw (q, ← e) h))
 
   module _ {P : ℕ} (is_p : P ≡ ranks t) where
-    pub out_stop : {p : ℕ} {b : Bool} → p < P → b ≡ eqb (tree_count t p) 0 → (ltb p n || b) ≡ false → false ≡ left_out_empty t n
-    unfolding left_out_empty
-    out_stop {p} l e h = rw (← is_p) (sym (all_fails P (in_or_empty t n) p l (here p e ∙ h)))
+    pub out_stop : {p : ℕ} {b : Bool} → n ≤ p → p < P → b ≡ eqb (tree_count t p) 0 → b ≡ false → false ≡ left_out_empty t n
+    unfolding left_out_empty in_or_empty
+    out_stop {p} m l e h = rw (← is_p) (sym (all_fails P (in_or_empty t n) p l (rw (le-ltb p n m, ← e) h)))
 
-    pub out_done : {p : ℕ} → p ≤ P → P ≤ p → all_below p (in_or_empty t n) ≡ true → true ≡ left_out_empty t n
+    pub out_done : {p : ℕ} → P ≤ p → all_below p (in_or_empty t n) ≡ true → true ≡ left_out_empty t n
     unfolding left_out_empty
-    out_done {p} l h a = rw (← is_p) (sym (all_to P (in_or_empty t n) p l h a))
+    out_done {p} h a = rw (← is_p) (sym (all_intro P (in_or_empty t n) (λ q l. all_at p (in_or_empty t n) a q (omega arith))))
 
   pub pad_numbered : numbered (pad_checks t n) ≡ true
   unfolding pad_checks numbered

@@ -1,6 +1,5 @@
 -- Laws, for this crate's proofs and for the crates above.
 pub mod Answers
-pub mod Copying
 pub mod Ranges
 pub mod Checks
 pub mod Writing

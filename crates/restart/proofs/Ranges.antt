@@ -10,7 +10,7 @@ use borrow.Author.Tests.{eq-eqb}
 use Rattle.encoding.specs.Pieces.{Bytes}
 use Rattle.encoding.proofs.Below.{tests, and_fst, and_snd, and_intro, iff_eq}
 use Rattle.offsets.specs.Limits.{max_ranks, max_trees}
-use Rattle.offsets.specs.Table.{ranks, valid, trees, first_tree, end_tree, tree_count}
+use Rattle.offsets.specs.Table.{ranks, trees, first_tree, end_tree, tree_count}
 use Rattle.offsets.proofs.OnePass.{ranks_known}
 use Rattle.offsets.proofs.Tables.{first_le_end, end_trees, trees_high}
 use Rattle.part.specs.Means.{RankKnown}

@@ -29,7 +29,7 @@ use Rattle.part_theorems.proofs.SoundParts.{PartSays, part_header_lem, part_leng
 use Rattle.restart.specs.Restart.{same_trees, relabelled}
 use Rattle.restart.specs.Theorems.{EqualBoth, RelabelsParts}
 use Rattle.restart.proofs.Checks.{PairKnown, pair_known}
-use Rattle.restart.proofs.Writing.{part_words, relabelled_length}
+use Rattle.restart.proofs.Writing.{part_long, relabelled_length}
 
 -- ---- bytes 8 to 15
 
@@ -246,7 +246,7 @@ module _ (t : List ℕ) (p : ℕ) (o : List ℕ) (q : ℕ) (t-bytes : Bytes t) (
     says = part_header_lem part t p sound
 
     long : 32 ≤ length part
-    long = (part_words part t p sound).long
+    long = part_long part t p sound
 
     header-kept : part_header_sound (relabelled part o q) o q ≡ true
     unfolding part_header_sound

@@ -1,18 +1,18 @@
 -- What the calls write.
-use Prim.Native.Nat.{ℕ, zero, suc, ◌+◌, ◌*◌, ◌/◌, ◌≤◌}
+use native.Mathlib.Numerals.{add-one}
+use Prim.Native.Nat.{min, ℕ, zero, suc, ◌+◌, ◌*◌, ◌≤◌}
 use native.Mathlib.Omega.{arith}
 use mathlib.Core.Path.{◌≡◌, refl, sym, ap, ◌∙◌}
 use mathlib.Core.Bool.{true}
 use mathlib.Core.List.{List, ◌++◌}
-use lib.Dec.{ltb, leb}
+use lib.Dec.{leb}
 use lib.ListN.{length, drop, length-append}
-use borrow.Author.Tests.{le-leb}
 use Rattle.encoding.specs.Header.{eight_bytes}
-use Rattle.encoding.specs.Numbers.{le_bytes, u64_at, put_u32, le_put}
-use Rattle.encoding.specs.Pieces.{piece, splice, Bytes}
+use Rattle.encoding.specs.Numbers.{le_bytes, put_u32, put_u64, le_put}
+use Rattle.encoding.specs.Pieces.{piece, splice}
 use Rattle.encoding.proofs.Below.{tests, either}
-use Rattle.encoding.proofs.Numbers.{bytes_length}
-use Rattle.encoding.proofs.Pieces.{length_splice, splice_drop, splice_then, piece_same}
+use Rattle.encoding.proofs.Numbers.{bytes_length, length_put, put_next}
+use Rattle.encoding.proofs.Pieces.{splice_none, length_splice, splice_drop, splice_then, piece_same}
 use Rattle.offsets.specs.Table.{table_length, ranks, entry, trees, first_tree}
 use Rattle.records.proofs.Rows.{splice_inside}
 use Rattle.part.specs.Layout.{part_header, header_bytes}
@@ -20,8 +20,6 @@ use Rattle.part.specs.Part.{part_sound}
 use Rattle.part.proofs.Records.{header_length}
 use Rattle.part_theorems.proofs.SoundParts.{part_length}
 use Rattle.restart.specs.Restart.{padded_entry, padded_entries, padded_table, empty_part, relabelled}
-use Rattle.restart.specs.Means.{lower, words_to, WordsRoom}
-use Rattle.restart.proofs.Copying.{lower_most, words_whole}
 
 -- ---- a table of n ranks
 
@@ -34,27 +32,42 @@ pub padded_length : (t : List ℕ) (n : ℕ) → length (padded_table t n) ≡ t
 unfolding padded_table
 padded_length t n = entries_length t (n + 1)
 
--- the word that is copied is the entry
-entry_word : (t : List ℕ) (i : ℕ) → u64_at t (8 * lower i (ranks t)) ≡ padded_entry t i
-unfolding lower padded_entry entry trees
-entry_word t i =
-    either (ltb i (ranks t))
-    (λ p. rw (p, le-leb i (ranks t) (omega tests)))
-    (λ p. either (leb i (ranks t))
-    (λ q. let e : i ≡ ranks t = omega tests in rw (p, q) (ap (λ (m : ℕ). u64_at t (8 * m)) (sym e)))
-    (λ q. rw (p, q)))
+-- the entry that is copied
+pub entry_read : (t : List ℕ) (p : ℕ) {P e : ℕ} → P ≡ ranks t → e ≡ entry t (min p P) → e ≡ padded_entry t p
+unfolding padded_entry trees
+entry_read t p {P} is-P f =
+    either (leb p (ranks t))
+    (λ q. let m : min p P ≡ p = omega tests in rw (q, f, m))
+    (λ q. let m : min p P ≡ ranks t = omega tests in rw (q, f, m))
 
-words_entries : (t : List ℕ) (n : ℕ) → words_to t (ranks t) n ≡ padded_entries t n
-unfolding words_to padded_entries
-words_entries t zero = refl
-words_entries t (suc n) = rw (words_entries t n, entry_word t n)
+-- the first p entries are written
+pub record Padding (t dst₀ : List ℕ) (p : ℕ) (dst : List ℕ) : Type 0 where
+  pub same_length : length dst ≡ length dst₀
+  pub begins : dst ≡ splice dst₀ 0 (padded_entries t p)
 
-pub pad_room : (t out : List ℕ) (P n : ℕ) → length t ≡ table_length P → 8 * (n + 1) ≤ length out → WordsRoom t P (n + 1) out
-pad_room t out P n h r = record { there = λ i l. omega (arith, lower_most i P); room = r }
+module _ (t dst₀ : List ℕ) where
+  pub padding_start : Padding t dst₀ 0 dst₀
+  unfolding padded_entries
+  padding_start = record { same_length = refl; begins = sym (splice_none dst₀ 0) }
 
-pub pad_written : (t out : List ℕ) (n : ℕ) {P : ℕ} {last : List ℕ} → P ≡ ranks t → last ≡ splice out 0 (words_to t P (n + 1)) → last ≡ splice out 0 (padded_table t n)
-unfolding padded_table
-pad_written t out n p e = e ∙ rw (p, words_entries t (n + 1))
+  padded_next : (p : ℕ) → padded_entries t (p + 1) ≡ padded_entries t p ++ le_bytes 8 (padded_entry t p)
+  unfolding padded_entries
+  padded_next p = rw add-one
+
+  pub padding_more : {p e : ℕ} {dst next : List ℕ} → Padding t dst₀ p dst → 8 * p + 8 ≤ length dst₀ → e ≡ padded_entry t p → next ≡ put_u64 dst (8 * p) e → Padding t dst₀ (p + 1) next
+  padding_more {p} {e} {dst} s room f put =
+      record {
+        same_length = ap length put ∙ length_put 8 dst (8 * p) e (omega (arith, s.same_length)) ∙ s.same_length;
+        begins =
+            put ∙ ap (λ (d : List ℕ). put_u64 d (8 * p) e) s.begins
+            ∙ put_next 8 e (8 * p) dst₀ (padded_entries t p) (entries_length t p) (omega arith)
+            ∙ ap (λ (v : ℕ). splice dst₀ 0 (padded_entries t p ++ le_bytes 8 v)) f
+            ∙ ap (splice dst₀ 0) (sym (padded_next p));
+      }
+
+  pub padding_done : (n : ℕ) {p : ℕ} {dst : List ℕ} → Padding t dst₀ p dst → p ≡ n + 1 → dst ≡ splice dst₀ 0 (padded_table t n)
+  unfolding padded_table
+  padding_done n s e = s.begins ∙ ap (λ (m : ℕ). splice dst₀ 0 (padded_entries t m)) e
 
 -- ---- a part without trees
 
@@ -70,23 +83,19 @@ module _ (t : List ℕ) (p dimension : ℕ) where
 
 -- ---- a part under another table and rank
 
--- a sound part is a number of words, and has a header
-pub record PartWords (part : List ℕ) : Type 0 where
-  pub whole : length part ≡ 8 * (length part / 8)
-  pub long : 32 ≤ length part
+pub part_long : (part t : List ℕ) (p : ℕ) → part_sound part t p ≡ true → 32 ≤ length part
+part_long part t p sound = omega (arith, part_length part t p sound)
 
-pub part_words : (part t : List ℕ) (p : ℕ) → part_sound part t p ≡ true → PartWords part
-part_words part t p sound = record { whole = omega (arith, part_length part t p sound); long = omega (arith, part_length part t p sound) }
-
-splice_front : (bs p : List ℕ) → splice bs 0 p ≡ p ++ drop (0 + length p) bs
+pub splice_front : (bs p : List ℕ) {x : List ℕ} → x ≡ p → x ++ drop (length p) bs ≡ splice bs 0 p
 unfolding splice
-splice_front bs p = refl
+splice_front bs p e = let z : 0 + length p ≡ length p = omega arith in rw (e, z)
 
 -- what is written over other bytes
 splice_over : (bs a b : List ℕ) → length a ≡ length b → length a ≤ length bs → splice (splice bs 0 a) 0 b ≡ splice bs 0 b
 splice_over bs a b e h =
-    let d : drop (0 + length a) (splice bs 0 a) ≡ drop (0 + length a) bs = splice_drop bs 0 a (omega arith) in
-    splice_front (splice bs 0 a) b ∙ ap (λ (l : List ℕ). b ++ l) (rw e at d) ∙ sym (splice_front bs b)
+    let z : 0 + length a ≡ length a = omega arith in
+    let d : drop (length a) (splice bs 0 a) ≡ drop (length a) bs = rw z at (splice_drop bs 0 a (omega arith)) in
+    sym (splice_front (splice bs 0 a) b refl) ∙ ap (λ (l : List ℕ). b ++ l) (rw e at d) ∙ splice_front bs b refl
 
 label_length : (o : List ℕ) (q : ℕ) → length (le_bytes 4 (ranks o) ++ le_bytes 4 q) ≡ 8
 label_length o q = rw (length-append, bytes_length 4 (ranks o), bytes_length 4 q)
@@ -95,13 +104,12 @@ pub relabelled_length : (part o : List ℕ) (q : ℕ) → 32 ≤ length part →
 unfolding relabelled
 relabelled_length part o q h = length_splice part 8 (le_bytes 4 (ranks o) ++ le_bytes 4 q) (omega (arith, label_length o q))
 
-pub relabel_written : (part o out : List ℕ) (q n : ℕ) {Q : ℕ} {o1 o2 o3 : List ℕ} → Bytes part → length part ≡ 8 * n → 32 ≤ length part → length part ≤ length out → Q ≡ ranks o
-    → o1 ≡ splice out 0 (words_to part n n) → o2 ≡ put_u32 o1 8 Q → o3 ≡ put_u32 o2 12 q → o3 ≡ splice out 0 (relabelled part o q)
+pub relabel_written : (part o out : List ℕ) (q : ℕ) {Q : ℕ} {o1 o2 o3 : List ℕ} → 32 ≤ length part → length part ≤ length out → Q ≡ ranks o
+    → o1 ≡ splice out 0 part → o2 ≡ put_u32 o1 8 Q → o3 ≡ put_u32 o2 12 q → o3 ≡ splice out 0 (relabelled part o q)
 unfolding relabelled le_put
-relabel_written part o out q n {Q} {o1} {o2} {o3} b w h r is-Q e1 e2 e3 =
+relabel_written part o out q {Q} {o1} {o2} {o3} h r is-Q s1 e2 e3 =
     let label : List ℕ = le_bytes 4 (ranks o) ++ le_bytes 4 q in
     let l : length label ≡ 8 = label_length o q in
-    let s1 : o1 ≡ splice out 0 part = e1 ∙ ap (splice out 0) (words_whole part n b w) in
     let long : length o1 ≡ length out = ap length s1 ∙ length_splice out 0 part (omega arith) in
     let s3 : o3 ≡ splice o1 8 label = splice_then o1 8 4 (le_bytes 4 (ranks o)) (le_bytes 4 q) (bytes_length 4 (ranks o)) (omega arith) (e2 ∙ ap (λ (m : ℕ). splice o1 8 (le_bytes 4 m)) is-Q) e3 in
     let held : piece o1 0 (length part) ≡ part = ap (λ (m : List ℕ). piece m 0 (length part)) s1 ∙ piece_same out 0 part (omega arith) in

@@ -1,22 +1,22 @@
-use Rattle.part_cut.proofs.Parts.{cut_refused}
-use Rattle.part_cut.proofs.Marking.{cut_space}
+use Rattle.std.proofs.lemmas.Result.{err_from_is_err_and}
+use Rattle.encoding.proofs.Refusals.{number_positive}
+use Rattle.part_cut.proofs.Marking.{room_of_all}
 use Rattle.part_cut.proofs.Cutting.{cut_fits}
-use mathlib.Core.Path.{sym, ◌∙◌}
+use Rattle.part_cut.proofs.Parts.{cut_refused}
+use mathlib.Core.Path.{refl, sym}
 use native.Mathlib.Omega.{arith}
 use Rattle.part_cut.proofs.cut_part.Goals as goal
 
-pub returns-then-refusal-ne0 : goal.returns-then-refusal-ne0
-returns-then-refusal-ne0 c = cut_refused _ _ _ _ c.cut_refusal-refusal.ensures c.if-refusal-ne0.true
+pub returns-in_err-check_cut : goal.returns-in_err-check_cut
+returns-in_err-check_cut c =
+    let p = err_from_is_err_and c.from_residual.result c.from_residual.ensures.1 in
+    rw (p.1, p.2) (cut_refused _ _ _ _ c.in_err-check_cut.ensures (number_positive _))
 
 pub trees-requires : goal.trees-requires
-trees-requires c = omega (arith, cut_fits _ _ _ c.cut_refusal-refusal.ensures c.if-refusal-ne0.false (λ i. (c.shared_slice_known-2-1.given i).fits))
+trees-requires c = omega (arith, cut_fits _ _ _ c.in_ok-check_cut.ensures refl (λ i. (c.type_inv.table i).fits))
 
 pub cut_with-requires : goal.cut_with-requires
-cut_with-requires c =
-    let cut-refusal = c.cut_refusal-refusal in
-    let if1 = c.if-refusal-ne0 in
-    let trees = c.trees in
-    cut_space 1024 (omega arith) (sym cut-refusal.ensures ∙ if1.false) (omega (arith, trees.ensures))
+cut_with-requires c = record { checked = sym c.in_ok-check_cut.ensures; room = omega (arith, c.trees.ensures); few = omega arith }
 
-pub cut_of_many-requires : goal.cut_of_many-requires
-cut_of_many-requires c = sym c.cut_refusal-refusal.ensures ∙ c.if-refusal-ne0.false
+pub cut_with-requires-2 : goal.cut_with-requires-2
+cut_with-requires-2 c = room_of_all _ _ _ c.in_ok-check_cut.ensures (λ i. (c.type_inv.table i).fits)

@@ -1,9 +1,9 @@
-use Rattle.part_cut.proofs.Parts.{length_found}
+use Rattle.part_cut.proofs.Marking.{cut_space}
+use Rattle.part_cut.proofs.Parts.{found_long}
 use Rattle.part_cut.proofs.length_with.Goals as goal
 
+pub measure-part-requires : goal.measure-part-requires
+measure-part-requires g c = cut_space c.requires
+
 pub returns : goal.returns
-returns c =
-    let pre = c.requires in
-    let shared-slice-known2 = c.shared_slice_known-2-1 in
-    let measure = c.measure-part in
-    length_found pre (λ i. (shared-slice-known2.given i).fits) measure.ensures c.ghost_at.ensures
+returns g c = found_long (cut_space c.requires) (λ i. (c.type_inv.table i).fits) c.measure-part.ensures c.ghost_at.ensures

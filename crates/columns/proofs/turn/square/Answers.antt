@@ -2,7 +2,6 @@ use Prim.Native.Nat.{ℕ}
 use native.Mathlib.Omega.{arith}
 use lib.ListN.{replicate, length-replicate}
 use Rattle.columns.proofs.Squares.{buffer_rows, square_moved}
-use borrow.Author.Rules.{rules}
 use Rattle.columns.proofs.turn.square.Goals as goal
 
 pub rows-requires-2 : goal.rows-requires-2

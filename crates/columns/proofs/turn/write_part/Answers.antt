@@ -1,5 +1,4 @@
 use Rattle.columns.proofs.Writing.{part_trees_lem, part_ghosts_lem, part_written}
-use borrow.Author.Rules.{rules}
 use Rattle.columns.proofs.turn.write_part.Goals as goal
 
 pub turn-requires : goal.turn-requires
@@ -8,7 +7,7 @@ turn-requires c =
     let ghost-count = c.ghost_count-g in
     let pre = c.requires in
     let line = c.line in
-    part_trees_lem _ _ _ _ tree_count_call.ensures ghost-count.ensures pre line.ensures
+    rw (c.spread-from.ensures, c.spread.ensures) (part_trees_lem _ _ _ _ tree_count_call.ensures ghost-count.ensures pre line.ensures)
 
 pub turn-requires-2 : goal.turn-requires-2
 turn-requires-2 c =
@@ -17,7 +16,7 @@ turn-requires-2 c =
     let pre = c.requires in
     let line = c.line in
     let turn = c.turn in
-    part_ghosts_lem _ _ _ _ tree_count_call.ensures ghost-count.ensures pre line.ensures turn.ensures
+    rw (c.spread-from-2.ensures, c.spread-2.ensures) (part_ghosts_lem _ _ _ _ tree_count_call.ensures ghost-count.ensures pre line.ensures (rw (c.spread-from.ensures, c.spread.ensures) at turn.ensures))
 
 pub returns : goal.returns
 returns c =
@@ -27,4 +26,4 @@ returns c =
     let line = c.line in
     let turn = c.turn in
     let turn2 = c.turn-2 in
-    part_written _ _ _ _ tree_count_call.ensures ghost-count.ensures pre line.ensures turn.ensures turn2.ensures
+    part_written _ _ _ _ tree_count_call.ensures ghost-count.ensures pre line.ensures (rw (c.spread-from.ensures, c.spread.ensures) at turn.ensures) (rw (c.spread-from-2.ensures, c.spread-2.ensures) at turn2.ensures)

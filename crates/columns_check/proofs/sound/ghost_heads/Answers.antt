@@ -1,14 +1,8 @@
-use Prim.Native.Nat.{◌≤◌, ◌-◌}
-use mathlib.Core.Path.{◌≡◌, sym, ◌∙◌}
-use mathlib.Core.Bool.{true}
+use mathlib.Core.Path.{sym, ◌∙◌}
 use native.Mathlib.Omega.{arith}
-use borrow.Author.Tests.{not-true, not-false}
 use Rattle.encoding.specs.Below.{all_below}
 use Rattle.encoding.proofs.Below.{all_more, all_fails, all_to}
 use Rattle.columns_check.proofs.Finding.{heads_both}
-use Rattle.columns_read.specs.Means.{tree_column, ghost_column}
-use Rattle.columns_check.specs.Means.{ghost_head}
-use Rattle.mesh.specs.Means.{link_by_dimension}
 use borrow.Author.Rules.{rules}
 use Rattle.columns_check.proofs.sound.ghost_heads.Goals as goal
 
@@ -32,7 +26,7 @@ loop-j-preserved c =
     let byte = c.byte in
     let face-count = c.face_count-faces in
     let beside = c.beside in
-    (omega arith, all_more _ _ loop.invariant.1 (heads_both _ _ _ _ _ _ _ head_ok.ensures byte.ensures.0 face-count.ensures.0 beside.ensures ∙ c.if-not-head_ok-beside.false))
+    all_more _ _ loop.invariant (heads_both _ _ _ _ _ _ _ head_ok.ensures byte.ensures.0 face-count.ensures.0 beside.ensures ∙ c.if-not-head_ok-beside.false)
 
 pub returns : goal.returns
-returns c = sym (all_to _ _ _ c.loop-j.invariant.0 (omega arith) c.loop-j.invariant.1)
+returns c = sym (all_to _ _ _ c.loop-j.auto.j-end (omega arith) c.loop-j.invariant)

@@ -1,5 +1,4 @@
 use native.Mathlib.Omega.{arith}
-use borrow.Author.Tests.{not-true, not-false}
 use Rattle.columns_check.proofs.Held.{ghost_held}
 use Rattle.columns_check.proofs.Finding.{answered_not, answered_read, listed_there}
 use borrow.Author.Rules.{rules}

@@ -1,5 +1,4 @@
 use Rattle.columns_check.proofs.Finding.{low_none, low_some}
-use borrow.Author.Rules.{rules}
 use Rattle.columns_check.proofs.sound.ghost_low.Goals as goal
 
 pub returns-then-face_count-face : goal.returns-then-face_count-face

@@ -1,12 +1,7 @@
-use Prim.Native.Nat.{◌≤◌, ◌-◌}
-use mathlib.Core.Path.{◌≡◌, sym, ◌∙◌}
-use mathlib.Core.Bool.{true}
+use mathlib.Core.Path.{sym, ◌∙◌}
 use native.Mathlib.Omega.{arith}
-use borrow.Author.Tests.{not-true, not-false}
 use Rattle.encoding.specs.Below.{all_below}
 use Rattle.encoding.proofs.Below.{all_more, all_fails, all_to}
-use Rattle.columns_read.specs.Means.{ghost_column}
-use Rattle.part_check.specs.Means.{ghost_numbered}
 use borrow.Author.Rules.{rules}
 use Rattle.columns_check.proofs.sound.ghost_numbers.Goals as goal
 
@@ -18,7 +13,7 @@ pub returns-then-not-ghost_numbered : goal.returns-then-not-ghost_numbered
 returns-then-not-ghost_numbered c = sym (all_fails _ _ _ c.loop-j-test.true (sym c.ghost_numbered.ensures ∙ c.if-not-ghost_numbered.true))
 
 pub loop-j-preserved : goal.loop-j-preserved
-loop-j-preserved c = (omega arith, all_more _ _ c.loop-j.invariant.1 (sym c.ghost_numbered.ensures ∙ c.if-not-ghost_numbered.false))
+loop-j-preserved c = all_more _ _ c.loop-j.invariant (sym c.ghost_numbered.ensures ∙ c.if-not-ghost_numbered.false)
 
 pub returns : goal.returns
-returns c = sym (all_to _ _ _ c.loop-j.invariant.0 (omega arith) c.loop-j.invariant.1)
+returns c = sym (all_to _ _ _ c.loop-j.auto.j-end (omega arith) c.loop-j.invariant)

@@ -1,14 +1,8 @@
+use Rattle.std.proofs.Common.{◌≡◌, ◌+◌}
 use Rattle.columns_check.proofs.Summing.{counted_all, count_block, ghosts_more, low_fails, linked_fails}
-use Rattle.columns_read.specs.Means.{tree_column, ghost_column}
-use Rattle.columns_check.specs.Means.{ghost_side, ghost_side_up, ghost_side_down}
-use Rattle.ghost_links.proofs.Checking.{summed_refused}
-use Rattle.mesh.specs.Means.{link_by_dimension}
 use Rattle.encoding.specs.Below.{all_below, count_below}
-use borrow.Author.Tests.{not-true, not-false}
 use native.Mathlib.Omega.{arith}
-use mathlib.Core.Bool.{true}
-use mathlib.Core.Path.{◌≡◌, sym, ◌∙◌}
-use Prim.Native.Nat.{◌*◌, ◌≤◌, ◌-◌}
+use mathlib.Core.Path.{sym, ◌∙◌}
 use borrow.Author.Rules.{rules}
 use Rattle.columns_check.proofs.sound.ghost_sides.Goals as goal
 
@@ -16,46 +10,40 @@ pub loop-j-init : goal.loop-j-init
 unfolding all_below count_below
 loop-j-init c = search rules
 
-pub returns-then-not-links : goal.returns-then-not-links
-returns-then-not-links c =
-    let together = c.together-many in
-    let sorted = c.sorted-links in
-    let if1 = c.if-not-links in
-    summed_refused (low_fails _ _ _ _ _ _ _ _ _ _ _ (omega (arith, together.ensures.1)) (sym sorted.ensures.0.tested ∙ not-true _ if1.true)) c.refused.ensures
+pub returns-in_err-links : goal.returns-in_err-links
+returns-in_err-links c = rw c.from_residual.ensures (low_fails _ _ _ _ _ _ _ _ _ _ _ (omega arith) c.in_err-links.ensures)
 
 pub listed_linked-requires : goal.listed_linked-requires
-listed_linked-requires c =
-    let pre = c.requires in
-    let together = c.together-many in
-    let sorted = c.sorted-links in
-    (pre.0, omega (arith, together.ensures.1), together.ensures.0, pre.1, sorted.ensures.1 (not-false _ c.if-not-links.false))
+listed_linked-requires c = (c.requires.0, omega arith, omega arith, c.requires.1, c.in_ok-links.ensures.2)
 
 pub returns-then-not-listed_linked : goal.returns-then-not-listed_linked
-returns-then-not-listed_linked c =
-    let together = c.together-many in
-    let listed-linked = c.listed_linked in
-    let if2 = c.if-not-listed_linked in
-    summed_refused (linked_fails _ _ _ _ _ _ _ _ _ _ _ (omega (arith, together.ensures.1)) (sym listed-linked.ensures ∙ if2.true)) c.refused-then-not-listed_linked.ensures
+returns-then-not-listed_linked c = linked_fails _ _ _ _ _ _ _ _ _ _ _ (omega arith) (sym c.listed_linked.ensures ∙ c.if-not-listed_linked.true)
 
 pub overflow_add-ups : goal.overflow_add-ups
-overflow_add-ups c = omega (arith, c.sorted-links.ensures.0.few.0)
+overflow_add-ups c = omega (arith, c.in_ok-links.ensures.1.few.0)
 
 pub overflow_add-downs : goal.overflow_add-downs
-overflow_add-downs c = omega (arith, c.sorted-links.ensures.0.few.1)
+overflow_add-downs c = omega (arith, c.in_ok-links.ensures.1.few.1)
 
 pub loop-j-preserved : goal.loop-j-preserved
 loop-j-preserved c =
-    let together = c.together-many in
-    let loop = c.loop-j in
-    let sorted = c.sorted-links in
-    let if1 = c.if-not-links in
-    let listed-linked = c.listed_linked in
-    let if2 = c.if-not-listed_linked in (
-      omega (arith, together.ensures.1),
-      ghosts_more _ _ _ _ _ _ _ _ _ _ _ loop.invariant.1 (sym sorted.ensures.0.tested ∙ not-false _ if1.false) (sym listed-linked.ensures ∙ if2.false),
-      (count_block _ _ _ loop.invariant.2.0 (sorted.ensures.0.upward (not-false _ if1.false)), omega (arith, sorted.ensures.0.few.0, together.ensures.2)),
-      (count_block _ _ _ loop.invariant.3.0 (sorted.ensures.0.downward (not-false _ if1.false)), omega (arith, sorted.ensures.0.few.1, together.ensures.2)),
+    let before = c.loop-j.invariant in
+    let links = c.in_ok-links.ensures in
+    let e : c.min-many.result ≡ 6 = omega arith in (
+      omega arith,
+      rw e at (ghosts_more _ _ _ _ _ _ _ _ _ _ _ before.1 links.0 (sym c.listed_linked.ensures ∙ c.if-not-listed_linked.false)),
+      (rw e at (count_block _ _ _ before.2.0 links.1.upward), omega (arith, links.1.few.0)),
+      (rw e at (count_block _ _ _ before.3.0 links.1.downward), omega (arith, links.1.few.1)),
     )
 
 pub returns : goal.returns
-returns c = counted_all _ _ _ _ _ c.loop-j.invariant.0 (omega arith) c.loop-j.invariant.1 c.loop-j.invariant.2 c.loop-j.invariant.3
+returns c = counted_all _ _ _ _ _ c.loop-j.invariant.0 (omega arith) (omega arith) c.loop-j.invariant.1 c.loop-j.invariant.2 c.loop-j.invariant.3
+
+pub returns-else-not-listed_linked : goal.returns-else-not-listed_linked
+returns-else-not-listed_linked c =
+    let before = c.loop-j.invariant in
+    let links = c.in_ok-links.ensures in
+    counted_all _ (c.loop-j.j + c.min-many.result) _ _ _ (omega arith) (omega arith) (omega arith)
+    (ghosts_more _ _ _ _ _ _ _ _ _ _ _ before.1 links.0 (sym c.listed_linked.ensures ∙ c.if-not-listed_linked.false))
+    (count_block _ _ _ before.2.0 links.1.upward, omega (arith, links.1.few.0))
+    (count_block _ _ _ before.3.0 links.1.downward, omega (arith, links.1.few.1))

@@ -1,7 +1,6 @@
 use mathlib.Core.Path.{◌∙◌}
 use Rattle.columns_check.proofs.Held.{ghost_marked}
 use Rattle.columns_check.proofs.Finding.{none_leads, low_under, listed_read, ghost_up_read, ghost_down_read}
-use borrow.Author.Rules.{rules}
 use Rattle.columns_check.proofs.sound.ghost_way.Goals as goal
 
 pub returns-then-face_count-face : goal.returns-then-face_count-face

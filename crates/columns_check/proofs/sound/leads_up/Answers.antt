@@ -1,5 +1,4 @@
 use Rattle.columns_check.proofs.Finding.{up_read}
-use borrow.Author.Rules.{rules}
 use Rattle.columns_check.proofs.sound.leads_up.Goals as goal
 
 pub returns : goal.returns

@@ -1,13 +1,9 @@
+use Rattle.columns_check.proofs.Held.{ghosts_few}
 use Rattle.columns_check.proofs.Summing.{from_is, not_listed, listed_is}
-use Rattle.columns_read.specs.Means.{tree_column, ghost_column}
-use Rattle.columns_check.specs.Means.{from, ghost_side_listed, ghost_side_linked}
-use Rattle.mesh.proofs.Packing.{Left, left_all, left_none, left_next, next_digit, next_passes}
-use Rattle.mesh.specs.Means.{link_by_dimension}
+use Rattle.mesh.proofs.Packing.{left_all, left_none, left_next, next_digit, next_passes}
 use Rattle.encoding.proofs.Below.{all_fails}
-use borrow.Author.Tests.{not-true, not-false}
 use native.Mathlib.Omega.{arith}
 use mathlib.Core.Path.{sym, ◌∙◌}
-use borrow.Author.Rules.{rules}
 use Rattle.columns_check.proofs.sound.listed_linked.Goals as goal
 
 pub loop-left-init : goal.loop-left-init
@@ -23,7 +19,7 @@ pub overflow_add-start : goal.overflow_add-start
 overflow_add-start c =
     let loop = c.loop-left in
     let pre = c.requires in
-    let next = next_passes _ _ _ (not_listed _ _ _ _ _ _ _ _ _ _) loop.invariant c.loop-left-test.true pre.2 in omega (arith, next.1)
+    let next = next_passes _ _ _ (not_listed _ _ _ _ _ _ _ _ _ _) loop.invariant c.loop-left-test.true pre.2 in omega (arith, next.1, ghosts_few _ _ _ _ _ pre.0.numbered, pre.0.numbered.laid.most)
 
 pub ghost_linked-requires : goal.ghost_linked-requires
 ghost_linked-requires c =

@@ -1,6 +1,4 @@
-use borrow.Author.Tests.{not-true, not-false}
 use Rattle.columns_check.proofs.Finding.{found_none, found_all, numbered_all}
-use borrow.Author.Rules.{rules}
 use Rattle.columns_check.proofs.sound.records_sound.Goals as goal
 
 pub returns-then-not-ghost_numbers-tree_heads : goal.returns-then-not-ghost_numbers-tree_heads

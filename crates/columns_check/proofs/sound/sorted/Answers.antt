@@ -1,55 +1,47 @@
+use Rattle.columns_check.proofs.Held.{ghosts_few}
 use Rattle.columns_check.proofs.Summing.{from_is}
-use Rattle.columns_read.specs.Means.{ghost_column}
-use Rattle.columns_check.specs.Means.{from, ghost_side_low, ghost_side_up, ghost_side_down, ghost_side_listed}
 use Rattle.mesh.proofs.Packing.{packed_more, packed_at, list_small}
-use Rattle.mesh.proofs.Checking.{seen_refused, seen_all, count_next}
+use Rattle.mesh.proofs.Checking.{seen_all, bit_most, count_next}
 use Rattle.mesh.specs.Means.{packed}
-use Rattle.encoding.proofs.Below.{clash, all_more, all_fails}
+use Rattle.encoding.proofs.Below.{all_more, all_fails}
 use Rattle.encoding.specs.Below.{all_below, count_below}
-use borrow.Author.Tests.{not-true, not-false}
 use native.Mathlib.Omega.{arith}
-use mathlib.Core.Bool.{true}
-use mathlib.Core.Path.{◌≡◌, refl, sym, ◌∙◌}
-use Prim.Native.Nat.{◌≤◌, ◌-◌}
+use mathlib.Core.Path.{sym, ◌∙◌}
 use borrow.Author.Rules.{rules}
 use Rattle.columns_check.proofs.sound.sorted.Goals as goal
 
 pub loop-m-init : goal.loop-m-init
 unfolding all_below count_below packed
-loop-m-init c = (omega arith, refl, (refl, omega arith), (refl, omega arith), refl)
+loop-m-init c = search rules
 
 pub returns-then-not-ghost_low : goal.returns-then-not-ghost_low
-returns-then-not-ghost_low c =
-    let loop-test = c.loop-m-test in
-    let ghost_low_call = c.ghost_low in
-    (seen_refused (all_fails _ _ _ loop-test.true (from_is _ _ _ ∙ sym ghost_low_call.ensures ∙ c.if-not-ghost_low.true)) (refl, (refl, refl)), λ e. clash e refl)
+returns-then-not-ghost_low c = all_fails _ _ _ c.loop-m-test.true (from_is _ _ _ ∙ sym c.ghost_low.ensures ∙ c.if-not-ghost_low.true)
 
 pub ghost_way-way-requires : goal.ghost_way-way-requires
-ghost_way-way-requires c =
-    let pre = c.requires in
-    let ghost_low_call = c.ghost_low in
-    (pre.0, omega arith, pre.3, sym ghost_low_call.ensures ∙ c.if-not-ghost_low.false)
+ghost_way-way-requires c = (c.requires.0, omega arith, c.requires.3, sym c.ghost_low.ensures ∙ c.if-not-ghost_low.false)
 
 pub pushed-list-requires : goal.pushed-list-requires
-pushed-list-requires c = (list_small _ _ c.loop-m.invariant.4 (omega arith), omega arith)
+pushed-list-requires c = (list_small _ _ c.loop-m.invariant.3 (omega arith), omega arith)
 
 pub loop-m-preserved : goal.loop-m-preserved
 loop-m-preserved c =
-    let loop = c.loop-m in
-    let ghost_low_call = c.ghost_low in
-    let if1 = c.if-not-ghost_low in
-    let one = c.one-ups in
-    let ghost-way = c.ghost_way-way in
-    let pushed = c.pushed-list in (
-      omega arith,
-      all_more _ _ loop.invariant.1 (from_is _ _ _ ∙ sym ghost_low_call.ensures ∙ if1.false),
-      (count_next _ _ one.ensures.0 (ghost-way.ensures.1 ∙ sym (from_is _ _ _)) loop.invariant.2.0, omega arith),
-      (count_next _ _ c.one-downs.ensures.0 (ghost-way.ensures.2 ∙ sym (from_is _ _ _)) loop.invariant.3.0, omega arith),
-      packed_more _ _ loop.invariant.4 (ghost-way.ensures.0 ∙ sym (from_is _ _ _)) pushed.ensures,
+    let before = c.loop-m.invariant in
+    let way = c.ghost_way-way.ensures in (
+      all_more _ _ before.0 (from_is _ _ _ ∙ sym c.ghost_low.ensures ∙ c.if-not-ghost_low.false),
+      (count_next _ _ c.from-ups.ensures (way.1 ∙ sym (from_is _ _ _)) before.1.0, omega (arith, bit_most)),
+      (count_next _ _ c.from-downs.ensures (way.2 ∙ sym (from_is _ _ _)) before.2.0, omega (arith, bit_most)),
+      packed_more _ _ before.3 (way.0 ∙ sym (from_is _ _ _)) c.pushed-list.ensures,
     )
 
 pub returns : goal.returns
 returns c =
-    let loop = c.loop-m in
-    let pre = c.requires in
-    (seen_all _ _ _ _ _ loop.invariant.0 (omega arith) pre.2 loop.invariant.1 loop.invariant.2 loop.invariant.3, λ e. packed_at _ _ _ loop.invariant.0 (omega arith) loop.invariant.4)
+    let before = c.loop-m.invariant in
+    let end = c.loop-m.auto.m-end in
+    let seen = seen_all _ _ _ _ _ end (omega arith) c.requires.2 before.0 before.1 before.2 in
+    (seen.0, seen.1, packed_at _ _ _ end (omega arith) before.3)
+
+pub overflow_add-start : goal.overflow_add-start
+overflow_add-start c = let pre = c.requires.0.numbered in omega (arith, ghosts_few _ _ _ _ _ pre, pre.laid.most)
+
+pub overflow_add-start-in-loop-m : goal.overflow_add-start-in-loop-m
+overflow_add-start-in-loop-m c = let pre = c.requires.0.numbered in omega (arith, ghosts_few _ _ _ _ _ pre, pre.laid.most)

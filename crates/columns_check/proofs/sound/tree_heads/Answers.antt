@@ -1,14 +1,9 @@
-use Prim.Native.Nat.{◌≤◌, ◌-◌}
-use mathlib.Core.Path.{◌≡◌, sym, ◌∙◌}
-use mathlib.Core.Bool.{true}
+use mathlib.Core.Path.{sym, ◌∙◌}
 use native.Mathlib.Omega.{arith}
-use borrow.Author.Tests.{not-true, not-false}
 use Rattle.encoding.specs.Below.{all_below}
 use Rattle.encoding.proofs.Below.{all_fails, all_to}
 use Rattle.columns_check.proofs.Finding.{head_both}
 use Rattle.columns_read.proofs.Runs.{all_run}
-use Rattle.columns_read.specs.Means.{tree_column, ghost_column, tree_head}
-use Rattle.mesh.specs.Means.{link_by_dimension}
 use borrow.Author.Rules.{rules}
 use Rattle.columns_check.proofs.sound.tree_heads.Goals as goal
 

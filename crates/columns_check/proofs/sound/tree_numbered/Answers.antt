@@ -1,5 +1,4 @@
 use Rattle.columns_check.proofs.Finding.{numbered_below, numbered_is}
-use borrow.Author.Rules.{rules}
 use Rattle.columns_check.proofs.sound.tree_numbered.Goals as goal
 
 pub returns-then-number-first : goal.returns-then-number-first

@@ -1,15 +1,9 @@
 use Rattle.columns_check.proofs.Summing.{counted_all}
 use Rattle.columns_read.proofs.Runs.{all_run, count_run}
-use Rattle.columns_read.specs.Means.{tree_column, ghost_column, tree_side, tree_side_up, tree_side_down}
-use Rattle.ghost_links.proofs.Checking.{summed_refused}
-use Rattle.mesh.specs.Means.{link_by_dimension}
 use Rattle.encoding.proofs.Below.{all_fails}
 use Rattle.encoding.specs.Below.{all_below, count_below}
-use borrow.Author.Tests.{not-true, not-false}
 use native.Mathlib.Omega.{arith}
-use mathlib.Core.Bool.{true}
-use mathlib.Core.Path.{◌≡◌, sym, ◌∙◌}
-use Prim.Native.Nat.{◌*◌, ◌≤◌, ◌-◌}
+use mathlib.Core.Path.{sym, ◌∙◌}
 use borrow.Author.Rules.{rules}
 use Rattle.columns_check.proofs.sound.tree_sides.Goals as goal
 
@@ -22,7 +16,7 @@ returns-then-not-tree_side c =
     let loop-test = c.loop-i-test in
     let tree-side = c.tree_side in
     let if1 = c.if-not-tree_side in
-    summed_refused (all_fails _ _ _ loop-test.true (sym tree-side.ensures ∙ if1.true)) c.refused.ensures
+    all_fails _ _ _ loop-test.true (sym tree-side.ensures ∙ if1.true)
 
 pub loop-i-preserved : goal.loop-i-preserved
 loop-i-preserved c =
@@ -40,4 +34,4 @@ loop-i-preserved c =
     )
 
 pub returns : goal.returns
-returns c = counted_all _ _ _ _ _ c.loop-i.invariant.0 (omega arith) c.loop-i.invariant.1 c.loop-i.invariant.2 c.loop-i.invariant.3
+returns c = counted_all _ _ _ _ _ c.loop-i.invariant.0 (omega arith) (omega arith) c.loop-i.invariant.1 c.loop-i.invariant.2 c.loop-i.invariant.3

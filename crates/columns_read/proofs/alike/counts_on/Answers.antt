@@ -1,5 +1,4 @@
 use Rattle.columns_read.proofs.Runs.{counts_read}
-use Rattle.std.proofs.Common.{rules}
 use Rattle.columns_read.proofs.alike.counts_on.Goals as goal
 
 pub returns : goal.returns

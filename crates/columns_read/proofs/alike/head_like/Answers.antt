@@ -1,5 +1,4 @@
 use Rattle.columns_read.proofs.Runs.{head_read}
-use Rattle.std.proofs.Common.{rules}
 use Rattle.columns_read.proofs.alike.head_like.Goals as goal
 
 pub returns : goal.returns

@@ -1,5 +1,4 @@
 use Rattle.columns_read.proofs.Runs.{same_read}
-use Rattle.std.proofs.Common.{rules}
 use Rattle.columns_read.proofs.alike.same_byte.Goals as goal
 
 pub returns : goal.returns

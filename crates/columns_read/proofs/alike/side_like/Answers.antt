@@ -1,5 +1,4 @@
 use Rattle.columns_read.proofs.Runs.{side_read}
-use Rattle.std.proofs.Common.{rules}
 use Rattle.columns_read.proofs.alike.side_like.Goals as goal
 
 pub returns : goal.returns

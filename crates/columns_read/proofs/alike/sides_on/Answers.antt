@@ -1,4 +1,4 @@
-use Rattle.std.proofs.Common.{le_refl, arith, rules}
+use Rattle.std.proofs.Common.{le_refl, arith}
 use Rattle.columns_read.proofs.Runs.{sides_none, sides_up, sides_run}
 use Rattle.columns_read.proofs.alike.sides_on.Goals as goal
 
@@ -41,4 +41,4 @@ returns c =
     let sides-like2 = c.sides_like-others in
     let if5 = c.if-i-j in
     sides_run _ _ _ _ _ _ _ _ pre.2 sides-like.ensures word.ensures byte.ensures.0 face-count.ensures.0 if4.false (omega (arith, if1.false))
-    (omega (arith, if1.false, if3.false)) c.lesser.ensures.0 byte2.ensures.0 parted.ensures.0 parted.ensures.1.1 sides-like2.ensures c.lesser.ensures.1 if5.false
+    (omega (arith, if1.false, if3.false)) (omega arith) byte2.ensures.0 parted.ensures.0 parted.ensures.1.1 sides-like2.ensures (omega arith) if5.false

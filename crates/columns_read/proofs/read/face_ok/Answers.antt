@@ -1,5 +1,4 @@
 use Rattle.columns_read.proofs.Reading.{face_none, face_other, face_elsewhere, face_boundary}
-use Rattle.std.proofs.Common.{rules}
 use Rattle.columns_read.proofs.read.face_ok.Goals as goal
 
 pub returns-then-face_count-face : goal.returns-then-face_count-face

@@ -1,4 +1,4 @@
-use Rattle.std.proofs.Common.{arith, rules}
+use Rattle.std.proofs.Common.{arith}
 use Rattle.columns_read.proofs.Reading.{head_read}
 use Rattle.columns_read.proofs.Spaced.{spaced_length}
 use Rattle.columns_read.proofs.read.head_ok.Goals as goal

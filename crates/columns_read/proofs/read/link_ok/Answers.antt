@@ -1,5 +1,4 @@
 use Rattle.columns_read.proofs.Reading.{link_read}
-use Rattle.std.proofs.Common.{rules}
 use Rattle.columns_read.proofs.read.link_ok.Goals as goal
 
 pub returns : goal.returns

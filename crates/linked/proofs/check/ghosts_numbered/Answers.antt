@@ -5,23 +5,18 @@ use Rattle.encoding.proofs.Below.{all_more, all_fails, all_to}
 use borrow.Author.Rules.{rules}
 use Rattle.linked.proofs.check.ghosts_numbered.Goals as goal
 
--- src/check.rt:43:5
 pub loop-j-init : goal.loop-j-init
 unfolding all_below
 loop-j-init c = search rules
 
--- src/check.rt:44:13
 pub ghost_numbered-requires : goal.ghost_numbered-requires
 ghost_numbered-requires c = (c.requires, c.loop-j-test.true)
 
--- src/check.rt:45:13
 pub returns-then-not-ghost_numbered : goal.returns-then-not-ghost_numbered
 returns-then-not-ghost_numbered c = sym (all_fails _ _ _ c.loop-j-test.true (sym c.ghost_numbered.ensures ∙ c.if-not-ghost_numbered.true))
 
--- src/check.rt:43:5
 pub loop-j-preserved : goal.loop-j-preserved
-loop-j-preserved c = (omega arith, all_more _ _ c.loop-j.invariant.1 (sym c.ghost_numbered.ensures ∙ c.if-not-ghost_numbered.false))
+loop-j-preserved c = all_more _ _ c.loop-j.invariant (sym c.ghost_numbered.ensures ∙ c.if-not-ghost_numbered.false)
 
--- src/check.rt:37:1
 pub returns : goal.returns
-returns c = sym (all_to _ _ _ c.loop-j.invariant.0 (omega arith) c.loop-j.invariant.1)
+returns c = sym (all_to _ _ _ c.loop-j.auto.j-end (omega arith) c.loop-j.invariant)

@@ -1,4 +1,3 @@
-use Prim.Native.Nat.{◌≤◌, ◌-◌}
 use mathlib.Core.Path.{◌≡◌}
 use mathlib.Core.Bool.{true}
 use Rattle.encoding.specs.Below.{all_below}
@@ -6,7 +5,4 @@ use Rattle.linked.specs.Means.{ghost_numbered}
 use Rattle.linked.proofs.check.ghosts_numbered.Given as goal
 
 abbrev pub invariant-loop-j : goal.invariant-loop-j
-invariant-loop-j l = (l.j ≤ l.x.ghosts) × (all_below l.j (ghost_numbered l.bs l.x) ≡ true)
-
-abbrev pub decreases-loop-j : goal.decreases-loop-j
-decreases-loop-j l = l.x.ghosts - l.j
+invariant-loop-j l = all_below l.j (ghost_numbered l.bs l.x) ≡ true

@@ -1,36 +1,18 @@
-use mathlib.Core.Path.{refl, sym, ◌∙◌}
-use borrow.Author.Tests.{not-true, not-false}
-use Rattle.encoding.proofs.Below.{clash}
+use Rattle.std.specs.Prelude.{Some, None, ◌*◌}
 use Rattle.linked.proofs.Numbers.{ghosts_marked}
 use Rattle.linked.proofs.FromOneEnd.{trees_fail, ghosts_fail, links_counted, ghosts_read}
 use Rattle.linked.proofs.check.linked_by.Goals as goal
 
--- src/check.rt:59:9
-pub returns-then-not-of_trees : goal.returns-then-not-of_trees
-returns-then-not-of_trees c =
-    let pre = c.requires in
-    let trees-linked = c.trees_linked-of_trees in
-    trees_fail _ _ pre.1 (sym trees-linked.ensures.tested ∙ not-true _ c.if-not-of_trees.true)
+pub returns-in_default : goal.returns-in_default
+returns-in_default c = trees_fail _ _ c.requires.1 c.in_default.ensures
 
--- src/check.rt:62:9
-pub ghosts_linked-of_ghosts-requires : goal.ghosts_linked-of_ghosts-requires
-ghosts_linked-of_ghosts-requires c =
+pub ghosts_linked-requires : goal.ghosts_linked-requires
+ghosts_linked-requires c =
     let pre = c.requires in
-    (ghosts_marked _ _ pre.0.laid pre.1 pre.0.indexed pre.2, λ e. clash e refl)
+    ghosts_marked _ _ pre.0.laid pre.1 pre.0.indexed pre.2
 
--- src/check.rt:75:9
-pub returns-then-not-of_ghosts : goal.returns-then-not-of_ghosts
-returns-then-not-of_ghosts c =
-    let pre = c.requires in
-    let ghosts-linked = c.ghosts_linked-of_ghosts in
-    ghosts_fail _ _ pre.1 (sym (ghosts_read _ _ ghosts-linked.ensures).tested ∙ not-true _ c.if-not-of_ghosts.true)
+pub returns-in_default-ghosts_linked : goal.returns-in_default-ghosts_linked
+returns-in_default-ghosts_linked c = ghosts_fail _ _ c.requires.1 (ghosts_read _ _ (6 * c.args.x.ghosts) None c.in_default-ghosts_linked.ensures)
 
--- src/check.rt:53:1
 pub returns : goal.returns
-returns c =
-    let pre = c.requires in
-    let trees-linked = c.trees_linked-of_trees in
-    let if1 = c.if-not-of_trees in
-    let ghosts-linked = c.ghosts_linked-of_ghosts in
-    let if2 = c.if-not-of_ghosts in
-    links_counted _ _ pre.1 trees-linked.ensures (not-false _ if1.false) (ghosts_read _ _ ghosts-linked.ensures) (not-false _ if2.false)
+returns c = links_counted _ _ c.requires.1 c.in-Some.ensures (ghosts_read _ _ (6 * c.args.x.ghosts) (Some c.in-Some-ghosts_linked.of_ghosts) c.in-Some-ghosts_linked.ensures)

@@ -2,7 +2,6 @@ use native.Mathlib.Omega.{arith}
 use Rattle.linked.proofs.Seeing.{shape_here, alike_local, alike_global}
 use Rattle.linked.proofs.plain.alike_ok.Goals as goal
 
--- src/plain.rt:49:9
 pub link_alike-requires : goal.link_alike-requires
 link_alike-requires c =
     let tree-at = c.tree_at-at in
@@ -10,7 +9,6 @@ link_alike-requires c =
     let tree-at2 = c.tree_at-to in
     (omega (arith, tree-at.ensures, pre.0.trees, pre.1.below), pre.2, omega (arith, tree-at2.ensures, pre.0.trees, pre.3), shape_here _ _ _ tree-at.ensures pre.4)
 
--- src/plain.rt:49:9
 pub returns-then-x : goal.returns-then-x
 returns-then-x c =
     let tree-at = c.tree_at-at in
@@ -18,7 +16,6 @@ returns-then-x c =
     let if1 = c.if-x in
     λ t. alike_local _ _ _ tree-at.ensures _ _ tree-at2.ensures if1.true (c.link_alike.ensures t)
 
--- src/plain.rt:51:5
 pub link_alike-requires-2 : goal.link_alike-requires-2
 link_alike-requires-2 c =
     let tree-at = c.tree_at-at in
@@ -26,7 +23,6 @@ link_alike-requires-2 c =
     let tree-at2 = c.tree_at-to in
     (omega (arith, tree-at.ensures, pre.0.trees, pre.1.below), pre.2, omega (arith, tree-at2.ensures, pre.0.trees, pre.3), shape_here _ _ _ tree-at.ensures pre.4)
 
--- src/plain.rt:42:1
 pub returns : goal.returns
 returns c =
     let tree-at = c.tree_at-at in

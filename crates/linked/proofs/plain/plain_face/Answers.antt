@@ -2,11 +2,9 @@ use native.Mathlib.Omega.{arith}
 use Rattle.linked.proofs.Seeing.{plain_fits}
 use Rattle.linked.proofs.plain.plain_face.Goals as goal
 
--- src/plain.rt:59:5
 pub alike_ok-requires : goal.alike_ok-requires
 alike_ok-requires c = (c.requires.0, c.requires.1, c.requires.2, omega (arith, c.requires.3, c.requires.1.below), c.requires.5)
 
--- src/plain.rt:55:1
 pub returns : goal.returns
 returns c =
     let tree-at = c.tree_at in

@@ -1,10 +1,6 @@
-use Prim.Native.Nat.{◌-◌}
 use Rattle.linked.specs.Means.{tree_seen, tree_ups, tree_downs}
 use Rattle.mesh.specs.Means.{RunAs}
 use Rattle.linked.proofs.plain.plain_run.Given as goal
 
 abbrev pub invariant-loop-next : goal.invariant-loop-next
-invariant-loop-next l = RunAs (tree_seen l.bs l.x) (tree_ups l.bs l.x) (tree_downs l.bs l.x) l.x.count l.initial.next l.initial.ups l.initial.downs l.next l.ups l.downs
-
-abbrev pub decreases-loop-next : goal.decreases-loop-next
-decreases-loop-next l = l.x.count - l.next
+invariant-loop-next l = RunAs (tree_seen l.bs l.x) (tree_ups l.bs l.x) (tree_downs l.bs l.x) l.x.count l.fn.begun (record { next = l.next; seen = record { ups = l.ups; downs = l.downs } })

@@ -1,14 +1,11 @@
 use Rattle.linked.proofs.Reading.{place_local, place_in, place_out}
 use Rattle.linked.proofs.plain.tree_of.Goals as goal
 
--- src/plain.rt:32:9
 pub returns-then-x : goal.returns-then-x
 returns-then-x c = place_local _ _ c.if-x.true
 
--- src/plain.rt:36:9
 pub returns-then-first-neighbour : goal.returns-then-first-neighbour
 returns-then-first-neighbour c = place_in _ _ c.if-x.false c.if-first-neighbour.true c.to_local.ensures
 
--- src/plain.rt:28:1
 pub returns : goal.returns
 returns c = place_out _ _ c.if-x.false c.if-first-neighbour.false

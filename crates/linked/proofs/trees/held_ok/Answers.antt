@@ -2,7 +2,6 @@ use native.Mathlib.Omega.{arith}
 use Rattle.linked.proofs.Reading.{place_fits, held_local, held_global}
 use Rattle.linked.proofs.trees.held_ok.Goals as goal
 
--- src/trees.rt:112:9
 pub link_ok-requires : goal.link_ok-requires
 link_ok-requires c =
     let tree-at = c.tree_at-at in
@@ -10,7 +9,6 @@ link_ok-requires c =
     let record_at_call = c.record_at-to in
     (omega (arith, tree-at.ensures, pre.0.trees, pre.1.below), pre.2, place_fits _ _ pre.0 _ pre.3 record_at_call.ensures)
 
--- src/trees.rt:112:9
 pub returns-then-x-place : goal.returns-then-x-place
 returns-then-x-place c =
     let tree-at = c.tree_at-at in
@@ -18,7 +16,6 @@ returns-then-x-place c =
     let if1 = c.if-x-place in
     held_local _ _ _ tree-at.ensures _ _ record_at_call.ensures if1.true c.link_ok.ensures
 
--- src/trees.rt:114:5
 pub link_ok-requires-2 : goal.link_ok-requires-2
 link_ok-requires-2 c =
     let tree-at = c.tree_at-at in
@@ -26,7 +23,6 @@ link_ok-requires-2 c =
     let record_at_call = c.record_at-to in
     (omega (arith, tree-at.ensures, pre.0.trees, pre.1.below), pre.2, place_fits _ _ pre.0 _ pre.3 record_at_call.ensures)
 
--- src/trees.rt:105:1
 pub returns : goal.returns
 returns c =
     let tree-at = c.tree_at-at in

@@ -1,10 +1,8 @@
 use Rattle.linked.proofs.Reading.{back_local, back_global}
 use Rattle.linked.proofs.trees.leads_back.Goals as goal
 
--- src/trees.rt:65:9
 pub returns-then-x : goal.returns-then-x
 returns-then-x c = back_local _ _ _ _ c.if-x.true
 
--- src/trees.rt:60:1
 pub returns : goal.returns
 returns c = back_global _ _ _ c.tree_at.ensures _ c.if-x.false c.requires.1 c.number_of.ensures

@@ -1,43 +1,35 @@
 use mathlib.Core.Path.{sym, ◌∙◌}
 use native.Mathlib.Omega.{arith}
-use Rattle.mesh.proofs.Checking.{seen_refused}
 use Rattle.linked.proofs.Seeing.{seen_unnumbered, known_tree, seen_off, seen_unlisted, seen_linked}
 use Rattle.linked.proofs.trees.tree_linked.Goals as goal
 
--- src/trees.rt:194:9
 pub numbered-requires : goal.numbered-requires
 numbered-requires c = (c.requires.0.laid, c.requires.1)
 
--- src/trees.rt:195:9
 pub returns-then-not-numbered : goal.returns-then-not-numbered
-returns-then-not-numbered c = seen_refused (seen_unnumbered _ _ _ c.numbered.ensures (c.if-not-numbered.true)) c.refused.ensures
+returns-then-not-numbered c = seen_unnumbered _ _ _ c.numbered.ensures (c.if-not-numbered.true)
 
--- src/trees.rt:197:9
 pub tree_at-at-requires : goal.tree_at-at-requires
 tree_at-at-requires c = (c.requires.0.laid.room, c.requires.1)
 
--- src/trees.rt:198:9
 pub alone-requires : goal.alone-requires
 alone-requires c =
     let pre = c.requires in
     omega (arith, c.tree_at-at.ensures, pre.0.laid.trees, pre.1)
 
--- src/trees.rt:199:9
 pub returns-then-not-alone : goal.returns-then-not-alone
 returns-then-not-alone c =
     let tree-at = c.tree_at-at in
     let alone = c.alone in
     let if2 = c.if-not-alone in
-    seen_refused (seen_off _ _ _ tree-at.ensures alone.ensures (if2.true)) c.refused-then-not-alone.ensures
+    seen_off _ _ _ tree-at.ensures alone.ensures (if2.true)
 
--- src/trees.rt:201:44
 pub shape_of-requires : goal.shape_of-requires
 shape_of-requires c =
     let tree-at = c.tree_at-at in
     let pre = c.requires in
     omega (arith, tree-at.ensures, pre.0.laid.trees, pre.1)
 
--- src/trees.rt:202:9
 pub sorted-links-requires : goal.sorted-links-requires
 sorted-links-requires c =
     let pre = c.requires in
@@ -45,7 +37,6 @@ sorted-links-requires c =
     let if1 = c.if-not-numbered in
     (pre.0.laid, known_tree _ _ _ pre.1 numbered.ensures (if1.false), c.face_count-faces.ensures.1)
 
--- src/trees.rt:203:9
 pub listed_ok-requires : goal.listed_ok-requires
 listed_ok-requires c =
     let pre = c.requires in
@@ -54,7 +45,6 @@ listed_ok-requires c =
     let face-count = c.face_count-faces in
     (pre.0, known_tree _ _ _ pre.1 numbered.ensures (if1.false), face-count.ensures.1, c.sorted-links.ensures.0)
 
--- src/trees.rt:204:9
 pub returns-then-not-listed_ok : goal.returns-then-not-listed_ok
 returns-then-not-listed_ok c =
     let tree-at = c.tree_at-at in
@@ -62,9 +52,8 @@ returns-then-not-listed_ok c =
     let face-count = c.face_count-faces in
     let listed_ok = c.listed_ok in
     let if3 = c.if-not-listed_ok in
-    seen_refused (seen_unlisted _ _ _ tree-at.ensures shape_of.ensures face-count.ensures.0 (sym listed_ok.ensures ∙ if3.true)) c.refused-then-not-listed_ok.ensures
+    seen_unlisted _ _ _ tree-at.ensures shape_of.ensures face-count.ensures.0 (sym listed_ok.ensures ∙ if3.true)
 
--- src/trees.rt:190:1
 pub returns : goal.returns
 returns c =
     let tree-at = c.tree_at-at in

@@ -7,7 +7,7 @@ use Rattle.part.proofs.range.beside.Goals as goal
 
 pub loop-face-init : goal.loop-face-init
 unfolding any_below
-loop-face-init c = (omega arith, refl)
+loop-face-init c = refl
 
 pub returns-then-in_range : goal.returns-then-in_range
 returns-then-in_range c =
@@ -21,7 +21,7 @@ loop-face-preserved c =
     let loop = c.loop-face in
     let neighbour_of_call = c.neighbour_of in
     let in_range_call = c.in_range in
-    (omega arith, none_next _ _ loop.invariant.1 (neighbour_read _ _ _ _ neighbour_of_call.ensures in_range_call.ensures ∙ c.if-in_range.false))
+    none_next _ _ loop.invariant (neighbour_read _ _ _ _ neighbour_of_call.ensures in_range_call.ensures ∙ c.if-in_range.false)
 
 pub returns : goal.returns
-returns c = none_to _ _ _ c.loop-face.invariant.0 (omega arith) c.loop-face.invariant.1
+returns c = none_to _ _ _ c.loop-face.auto.face-end (omega arith) c.loop-face.invariant

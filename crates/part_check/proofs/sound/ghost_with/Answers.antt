@@ -9,7 +9,7 @@ returns-then-ghosts-position c =
     let pre = c.requires in
     let ghost_at = c.ghost_at in
     let find-ghost = c.find_ghost-position in
-    search_past _ _ _ pre ghost_at.ensures _ find-ghost.ensures.0 c.if-ghosts-position.true
+    (search_past _ _ _ pre ghost_at.ensures _ find-ghost.ensures.0 c.if-ghosts-position.true, tt)
 
 pub returns-then-number_of-wanted : goal.returns-then-number_of-wanted
 returns-then-number_of-wanted c =
@@ -18,7 +18,7 @@ returns-then-number_of-wanted c =
     let find-ghost = c.find_ghost-position in
     let ghost-at2 = c.ghost_at-2 in
     let number_of_call = c.number_of in
-    search_other _ _ _ pre ghost_at.ensures _ find-ghost.ensures.0 ghost-at2.ensures number_of_call.ensures c.if-number_of-wanted.true
+    (search_other _ _ _ pre ghost_at.ensures _ find-ghost.ensures.0 ghost-at2.ensures number_of_call.ensures c.if-number_of-wanted.true, tt)
 
 pub returns : goal.returns
 returns c =
@@ -28,4 +28,4 @@ returns c =
     let ghost-at2 = c.ghost_at-2 in
     let number_of_call = c.number_of in
     let if1 = c.if-ghosts-position in
-    search_found _ _ _ pre ghost_at.ensures _ find-ghost.ensures.0 ghost-at2.ensures number_of_call.ensures if1.false c.if-number_of-wanted.false
+    (search_found _ _ _ pre ghost_at.ensures _ find-ghost.ensures.0 ghost-at2.ensures number_of_call.ensures if1.false c.if-number_of-wanted.false, c.if-ghosts-position.false)

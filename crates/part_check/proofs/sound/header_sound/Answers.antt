@@ -8,11 +8,10 @@ returns-then-part-lt32 c = head_short _ _ _ c.if-part-lt32.true
 
 pub overflow_sub-result : goal.overflow_sub-result
 overflow_sub-result c =
-    let shared-slice-known2 = c.shared_slice_known-2-1 in
     let pre = c.requires in
     let first_tree_call = c.first_tree-first in
     let end-tree = c.end_tree-end in
-    omega (arith, first_le_end _ (λ i. (shared-slice-known2.given i).fits) pre.counted pre.checked _ pre.below, first_tree_call.ensures, end-tree.ensures)
+    omega (arith, first_le_end _ (λ i. (c.type_inv.table i).fits) pre.counted pre.checked _ pre.below, first_tree_call.ensures, end-tree.ensures)
 
 pub returns : goal.returns
 returns c =

@@ -1,11 +1,8 @@
 use Rattle.part_cut.specs.Means.{out_trees}
 use Rattle.positions.specs.Means.{Added}
 use Rattle.mesh.specs.Mesh.{mesh_core}
-use Prim.Native.Nat.{◌≤◌, ◌-◌}
+use Prim.Native.Nat.{◌-◌}
 use Rattle.part_cut.proofs.ghosts.mark_trees.Given as goal
 
 abbrev pub invariant-loop-k : goal.invariant-loop-k
-invariant-loop-k l = (l.first ≤ l.k) × (l.k ≤ l.end) × Added l.initial.marks (out_trees (mesh_core l.mesh) l.first l.end (l.k - l.first)) l.marks
-
-abbrev pub decreases-loop-k : goal.decreases-loop-k
-decreases-loop-k l = l.end - l.k
+invariant-loop-k l = Added l.initial.marks (out_trees (mesh_core l.mesh) l.first l.end (l.k - l.first)) l.marks

@@ -15,8 +15,5 @@ loop-i-preserved c =
     let write-tree = c.write_tree in
     records_next _ _ _ _ _ _ _ _ _ pre loop.invariant loop-test.true write-tree.ensures
 
-pub shape_of-out : goal.shape_of-out
-shape_of-out c = c.loop-i.invariant.same_length
-
 pub returns : goal.returns
 returns c = records_end _ _ _ _ _ _ _ _ _ c.requires c.loop-i.invariant c.loop-i-test.false

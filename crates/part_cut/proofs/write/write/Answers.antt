@@ -20,7 +20,7 @@ unfolding header_bytes
 returns c =
     let pre = c.requires in
     let dimension = c.dimension-dimension in
-    let trees = c.trees in
+    let trees = c.trees-trees in
     let faces_in_call = c.faces_in-faces in
     let tree-at = c.tree_at-from in
     let ghost_at = c.ghost_at in

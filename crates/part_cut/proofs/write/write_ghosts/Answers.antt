@@ -33,9 +33,6 @@ loop-k-preserved c =
     let copy40 = c.copy40 in
     ghosts_next _ _ _ _ _ (member_long pre) pre.room loop.invariant loop-test.true (member_copied _ _ _ _ tree-at.ensures copy40.ensures) c.next_member-k-in-loop-k.ensures
 
-pub shape_of-out : goal.shape_of-out
-shape_of-out c = c.loop-k.invariant.same_length
-
 pub returns : goal.returns
 returns c =
     let pre = c.requires in

@@ -1,5 +1,4 @@
 use Rattle.part_fault.proofs.Found.{extent_known}
-use borrow.Author.Rules.{rules}
 use Rattle.part_fault.proofs.search.extent_of.Goals as goal
 
 pub returns : goal.returns

@@ -1,41 +1,22 @@
-use Rattle.part_fault.proofs.Finding.{part_tree_lem, part_ghost, part_out, part_none}
-use borrow.Author.Rules.{rules}
+use mathlib.Core.Path.{refl}
+use native.Mathlib.Nat.{le_refl}
+use Rattle.part_fault.proofs.Finding.{part_tree_lem, part_tree_some, part_ghost, part_ghost_some, part_out, part_none}
 use Rattle.part_fault.proofs.search.first_wrong.Goals as goal
 
-pub returns-then-i-e : goal.returns-then-i-e
-returns-then-i-e c =
-    let pre = c.requires in
-    let wrong_tree = c.wrong_tree-i in
-    let if1 = c.if-i-e in
-    let tree-wrong = c.tree_wrong in
-    part_tree_lem _ _ pre wrong_tree.ensures if1.true tree-wrong.ensures c.found.ensures
+pub returns-in_err-wrong : goal.returns-in_err-wrong
+returns-in_err-wrong c = absurd (part_tree_some _ _ c.requires c.in-Some.ensures.1 c.in-Some.ensures.0 c.in_err-wrong.ensures)
 
-pub returns-then-j-e : goal.returns-then-j-e
-returns-then-j-e c =
-    let pre = c.requires in
-    let wrong_tree = c.wrong_tree-i in
-    let if1 = c.if-i-e in
-    let wrong_ghost = c.wrong_ghost-j in
-    let if2 = c.if-j-e in
-    let ghost-wrong = c.ghost_wrong in
-    part_ghost _ _ pre wrong_tree.ensures if1.false wrong_ghost.ensures if2.true ghost-wrong.ensures c.found-then-j-e.ensures
+pub returns-in-Some : goal.returns-in-Some
+returns-in-Some c = part_tree_lem _ _ c.requires c.in-Some.ensures.1 c.in-Some.ensures.0 c.in_ok-wrong.ensures refl
+
+pub returns-in_err-wrong-2 : goal.returns-in_err-wrong-2
+returns-in_err-wrong-2 c = absurd (part_ghost_some _ _ c.requires c.in_default.ensures (le_refl _) c.in-Some-first_ghost.ensures.1 c.in-Some-first_ghost.ensures.0 c.in_err-wrong-2.ensures)
+
+pub returns-in-Some-first_ghost : goal.returns-in-Some-first_ghost
+returns-in-Some-first_ghost c = part_ghost _ _ c.requires c.in_default.ensures (le_refl _) c.in-Some-first_ghost.ensures.1 c.in-Some-first_ghost.ensures.0 c.in_ok-wrong-2.ensures refl
 
 pub returns-then-e : goal.returns-then-e
-returns-then-e c =
-    let pre = c.requires in
-    let wrong_tree = c.wrong_tree-i in
-    let if1 = c.if-i-e in
-    let wrong_ghost = c.wrong_ghost-j in
-    let if2 = c.if-j-e in
-    let if3 = c.if-e in
-    part_out _ _ pre wrong_tree.ensures if1.false wrong_ghost.ensures if2.false if3.true c.found-then-e.ensures
+returns-then-e c = part_out _ _ c.requires c.in_default.ensures (le_refl _) c.in_default-first_ghost.ensures (le_refl _) c.if-e.true refl
 
 pub returns : goal.returns
-returns c =
-    let pre = c.requires in
-    let wrong_tree = c.wrong_tree-i in
-    let if1 = c.if-i-e in
-    let wrong_ghost = c.wrong_ghost-j in
-    let if2 = c.if-j-e in
-    let if3 = c.if-e in
-    part_none _ _ pre wrong_tree.ensures if1.false wrong_ghost.ensures if2.false if3.false c.refused.ensures
+returns c = part_none _ _ c.requires c.in_default.ensures (le_refl _) c.in_default-first_ghost.ensures (le_refl _) c.if-e.false refl

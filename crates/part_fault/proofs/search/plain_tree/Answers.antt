@@ -1,16 +1,8 @@
 use Rattle.part_check.proofs.PlainTrees.{plain_here, plain_stored}
-use Rattle.part_check.specs.Means.{tree_fits}
-use Rattle.part.specs.Means.{ghost_core}
-use Rattle.part.specs.Part.{stored_tree}
-use Rattle.mesh.specs.Means.{link_by_dimension}
 use Rattle.encoding.proofs.Below.{clash, all_more, all_to}
 use Rattle.encoding.specs.Below.{all_below}
-use borrow.Author.Tests.{not-false}
 use native.Mathlib.Omega.{arith}
-use mathlib.Core.Bool.{true}
-use mathlib.Core.Path.{◌≡◌, refl}
-use Prim.Native.Nat.{◌≤◌, ◌-◌}
-use borrow.Author.Rules.{rules}
+use mathlib.Core.Path.{refl}
 use Rattle.part_fault.proofs.search.plain_tree.Goals as goal
 
 pub alike-requires : goal.alike-requires
@@ -21,7 +13,7 @@ returns-then-not-alike c = λ t. clash t refl
 
 pub loop-face-init : goal.loop-face-init
 unfolding all_below
-loop-face-init c = (omega arith, refl)
+loop-face-init c = refl
 
 pub plain_face-requires : goal.plain_face-requires
 plain_face-requires c =
@@ -35,7 +27,7 @@ pub returns-then-not-plain_face : goal.returns-then-not-plain_face
 returns-then-not-plain_face c = λ t. clash t refl
 
 pub loop-face-preserved : goal.loop-face-preserved
-loop-face-preserved c = (omega arith, all_more _ _ c.loop-face.invariant.1 (c.plain_face.ensures (c.if-not-plain_face.false)))
+loop-face-preserved c = all_more _ _ c.loop-face.invariant (c.plain_face.ensures (c.if-not-plain_face.false))
 
 pub returns : goal.returns
 returns c =
@@ -43,4 +35,4 @@ returns c =
     let alike = c.alike in
     let if1 = c.if-not-alike in
     let loop = c.loop-face in
-    λ t. plain_stored _ _ _ (plain_here _ _ tree-at.ensures _ alike.ensures (if1.false)) _ _ _ (all_to _ _ _ loop.invariant.0 (omega arith) loop.invariant.1)
+    λ t. plain_stored _ _ _ (plain_here _ _ tree-at.ensures _ alike.ensures (if1.false)) _ _ _ (all_to _ _ _ loop.auto.face-end (omega arith) loop.invariant)

@@ -1,5 +1,4 @@
 use Rattle.part_check.proofs.Checking.{face_tree, face_ghost, face_none}
-use borrow.Author.Rules.{rules}
 use Rattle.part_fault.proofs.search.tree_face_right.Goals as goal
 
 pub returns-then-m-count : goal.returns-then-m-count

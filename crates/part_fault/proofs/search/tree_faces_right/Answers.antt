@@ -1,14 +1,7 @@
-use Prim.Native.Nat.{◌≤◌, ◌-◌}
-use mathlib.Core.Path.{◌≡◌, sym, ◌∙◌}
-use mathlib.Core.Bool.{true}
+use mathlib.Core.Path.{sym, ◌∙◌}
 use native.Mathlib.Omega.{arith}
-use borrow.Author.Tests.{not-true, not-false}
 use Rattle.encoding.specs.Below.{all_below}
 use Rattle.encoding.proofs.Below.{all_more, all_fails, all_to}
-use Rattle.part.specs.Part.{stored_tree}
-use Rattle.part_check.specs.Means.{tree_face}
-use Rattle.part.specs.Means.{ghost_core}
-use Rattle.mesh.specs.Means.{link_by_dimension}
 use borrow.Author.Rules.{rules}
 use Rattle.part_fault.proofs.search.tree_faces_right.Goals as goal
 
@@ -20,7 +13,7 @@ pub returns-then-not-tree_face_right : goal.returns-then-not-tree_face_right
 returns-then-not-tree_face_right c = sym (all_fails _ _ _ c.loop-face-test.true (sym c.tree_face_right.ensures ∙ c.if-not-tree_face_right.true))
 
 pub loop-face-preserved : goal.loop-face-preserved
-loop-face-preserved c = (omega arith, all_more _ _ c.loop-face.invariant.1 (sym c.tree_face_right.ensures ∙ c.if-not-tree_face_right.false))
+loop-face-preserved c = all_more _ _ c.loop-face.invariant (sym c.tree_face_right.ensures ∙ c.if-not-tree_face_right.false)
 
 pub returns : goal.returns
-returns c = sym (all_to _ _ _ c.loop-face.invariant.0 (omega arith) c.loop-face.invariant.1)
+returns c = sym (all_to _ _ _ c.loop-face.auto.face-end (omega arith) c.loop-face.invariant)

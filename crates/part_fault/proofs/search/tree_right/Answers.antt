@@ -1,5 +1,4 @@
 use Rattle.part_fault.proofs.Passing.{tree_passed}
-use borrow.Author.Rules.{rules}
 use Rattle.part_fault.proofs.search.tree_right.Goals as goal
 
 pub returns : goal.returns

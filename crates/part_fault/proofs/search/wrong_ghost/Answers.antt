@@ -1,15 +1,18 @@
-use native.Mathlib.Omega.{arith}
-use Rattle.positions.proofs.Positions.{blank}
-use Rattle.part_fault.proofs.Found.{to_index, indexed}
-use borrow.Author.Rules.{rules}
+use mathlib.Core.Path.{refl}
+use Rattle.faults.proofs.Positive.{kind_positive}
+use Rattle.part_fault.proofs.Finding.{ghost_found, ghost_searched, ghost_beside_lem, ghost_alone}
 use Rattle.part_fault.proofs.search.wrong_ghost.Goals as goal
 
-pub make-requires : goal.make-requires
-make-requires c = (to_index _ _ c.requires c.ghost_at.ensures, omega arith, blank 1024 (omega arith))
+pub returns-in-Err : goal.returns-in-Err
+returns-in-Err c = ghost_found _ _ c.requires.0 _ c.ghost_at-at.ensures c.requires.1 c.in-Err.ensures (kind_positive _)
 
-pub wrong_ghost_by-requires : goal.wrong_ghost_by-requires
-wrong_ghost_by-requires c =
-    let pre = c.requires in
-    let ghost_at = c.ghost_at in
-    let make = c.make in
-    (pre, indexed _ _ pre ghost_at.ensures make.ensures)
+pub returns-in-Some : goal.returns-in-Some
+returns-in-Some c = ghost_searched _ _ c.requires.0 _ c.ghost_at-at.ensures c.requires.1 c.in_default.ensures refl c.in-Some.ensures (kind_positive _)
+
+pub returns-then-beside : goal.returns-then-beside
+returns-then-beside c =
+    ghost_beside_lem _ _ c.requires.0 _ c.ghost_at-at.ensures c.requires.1 c.in_default.ensures refl c.in_default-wrong_face.ensures refl c.shape_of.ensures c.face_count-count.ensures.0 c.beside.ensures c.if-beside.true
+
+pub returns : goal.returns
+returns c =
+    ghost_alone _ _ c.requires.0 _ c.ghost_at-at.ensures c.requires.1 c.in_default.ensures refl c.in_default-wrong_face.ensures refl c.shape_of.ensures c.face_count-count.ensures.0 c.beside.ensures c.if-beside.false

@@ -1,5 +1,4 @@
 use Rattle.part_neighbour.proofs.Across.{across_unused, across_boundary, across_local, across_ghost}
-use borrow.Author.Rules.{rules}
 use Rattle.part_neighbour.proofs.link.link_of.Goals as goal
 
 pub returns-then-face_count-face : goal.returns-then-face_count-face

@@ -1,5 +1,4 @@
 use Rattle.records.specs.Record.{to_itself}
-use borrow.Author.Rules.{rules}
 use Rattle.part_neighbour.proofs.link.to_itself.Goals as goal
 
 pub returns : goal.returns

@@ -1,5 +1,4 @@
 use Rattle.probes.proofs.Corners.{axis_bits}
-use borrow.Author.Rules.{rules}
 use Rattle.probes.proofs.boxes.axis_ok.Goals as goal
 
 pub returns : goal.returns

@@ -1,6 +1,5 @@
 use Rattle.probes.specs.Probes.{box_ok}
 use Rattle.encoding.specs.Below.{all_below}
-use borrow.Author.Rules.{rules}
 use Rattle.probes.proofs.boxes.box_ok.Goals as goal
 
 pub returns : goal.returns

@@ -1,6 +1,5 @@
 use Rattle.probes.proofs.Corners.{point_meets, half_axis, half_meets, slab_axis, slab_meets}
 use native.Mathlib.Omega.{arith}
-use borrow.Author.Rules.{rules}
 use Rattle.probes.proofs.boxes.meets.Goals as goal
 
 pub number_of-requires-in-HalfSpace : goal.number_of-requires-in-HalfSpace

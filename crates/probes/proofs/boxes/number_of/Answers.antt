@@ -1,5 +1,4 @@
 use Rattle.probes.proofs.Corners.{box_float, box_read}
-use borrow.Author.Rules.{rules}
 use Rattle.probes.proofs.boxes.number_of.Goals as goal
 
 pub float_from_bits-result : goal.float_from_bits-result

@@ -1,6 +1,5 @@
 use borrow.Author.Tests.{le-leb, lt-leb}
 use Rattle.probes.specs.Means.{order_of}
-use borrow.Author.Rules.{rules}
 use Rattle.probes.proofs.boxes.order.Goals as goal
 
 pub returns-then-bits-ge2147483648 : goal.returns-then-bits-ge2147483648

@@ -1,8 +1,7 @@
-use Prim.Native.Nat.{◌-◌}
 use native.Mathlib.Omega.{arith}
-use Rattle.probes.proofs.Listing.{Counting, has_box, counting_start, counting_more, counting_skip, counting_done, met_most}
-use borrow.Author.Rules.{rules}
+use Rattle.probes.proofs.Listing.{has_box, counting_start, counting_more, counting_skip, counting_done, met_most}
 use Rattle.probes.proofs.list.count_met.Goals as goal
+use Rattle.probes.proofs.list.count_met.Goals.{then-meets, else-meets}
 
 pub loop-i-init : goal.loop-i-init
 loop-i-init c = counting_start _ _
@@ -16,21 +15,12 @@ meets-requires c =
 pub overflow_add-met : goal.overflow_add-met
 overflow_add-met c = omega (arith, met_most _ _ c.loop-i.invariant, c.loop-i-test.true)
 
-pub loop-i-preserved-then-meets : goal.loop-i-preserved-then-meets
-loop-i-preserved-then-meets c =
-    let loop = c.loop-i in
-    let tree_count_call = c.tree_count-n in
-    let loop-test = c.loop-i-test in
-    let meets = c.meets in
-    counting_more _ _ loop.invariant (omega (arith, tree_count_call.ensures, loop-test.true)) meets.ensures c.if-meets.true
-
 pub loop-i-preserved : goal.loop-i-preserved
 loop-i-preserved c =
-    let loop = c.loop-i in
-    let tree_count_call = c.tree_count-n in
-    let loop-test = c.loop-i-test in
-    let meets = c.meets in
-    counting_skip _ _ loop.invariant (omega (arith, tree_count_call.ensures, loop-test.true)) meets.ensures c.if-meets.false
+    elim c.if-meets.branch [
+      | then-meets w ↦ rw w.met-is (counting_more _ _ c.loop-i.invariant (omega (arith, c.tree_count-n.ensures)) c.meets.ensures w.if-meets.true)
+      | else-meets w ↦ rw w.met-is (counting_skip _ _ c.loop-i.invariant (omega (arith, c.tree_count-n.ensures)) c.meets.ensures w.if-meets.false)
+    ]
 
 pub returns : goal.returns
 returns c = counting_done _ _ c.loop-i.invariant (omega (arith, c.tree_count-n.ensures, c.loop-i-test.false))

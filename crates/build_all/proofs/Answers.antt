@@ -6,10 +6,10 @@ use mathlib.Core.Bool.{Bool, true, false, cond, ◌&&◌}
 use mathlib.Core.List.{List, [], ◌∷◌, ◌++◌}
 use lib.Dec.{leb, ltb, eqb}
 use lib.ListN.{length}
-use borrow.Author.Tests.{ltb-true, eqb-true, lt-ltb, le-ltb, eq-eqb, ne_eqb, le-leb, lt-leb}
+use borrow.Author.Tests.{ltb-true, eqb-true, lt-ltb, le-ltb, eq-eqb, ne_eqb}
 use Rattle.encoding.specs.Answer.{length_answer, written, write_answer}
 use Rattle.encoding.specs.declared.answer.Length.{Length}
-use Rattle.encoding.specs.Pieces.{splice, Bytes}
+use Rattle.encoding.specs.Pieces.{Bytes}
 use Rattle.encoding.specs.Refusal.{check, first_failed}
 use Rattle.encoding.proofs.Below.{either, clash, kept_same}
 use Rattle.offsets.specs.Limits.{max_trees}
@@ -23,7 +23,7 @@ use Rattle.part.specs.Layout.{part_header}
 use Rattle.part.specs.Part.{part_k, part_sound}
 use Rattle.part.specs.Means.{RankKnown}
 use Rattle.part_theorems.proofs.SoundParts.{part_header_lem, part_length}
-use Rattle.message_ghosts.specs.Means.{mark_words, Room}
+use Rattle.message_ghosts.specs.Means.{mark_words}
 use Rattle.message_build.specs.Means.{built_range}
 use Rattle.build_all.specs.Messages.{all_messages}
 use Rattle.build_all.specs.Calls.{build_all_checks, messages_answer, build_all_length_of, build_all_refusal, build_all_of}
@@ -98,11 +98,12 @@ module _ (part old new : List ℕ) (p : ℕ) where
       pub words_known : (part_header ≤ length part) × (part_k part ≤ max_trees)
       words_known = (omega (arith, part_length part old p held.1.1), omega (arith, (part_header_lem part old p held.1.1).all_trees, K-high))
 
-      pub build_from : (marks : List ℕ) {words : ℕ} → length marks ≡ words → part_k part ≤ 64 * words → words ≤ mark_words → BuildFrom part old new p marks
-      build_from marks e h l =
+      pub build_from : Bytes part → (marks : List ℕ) {words : ℕ} → length marks ≡ words → part_k part ≤ 64 * words → words ≤ mark_words → BuildFrom part old new p marks
+      build_from bytes marks e h l =
           record {
             rank = may_build;
             sound = held.1.1;
+            bytes = bytes;
             room = record { enough = omega (arith, (part_header_lem part old p held.1.1).all_trees); few = omega arith };
           }
 

@@ -156,7 +156,7 @@ module _ {part old new : List ℕ} {p q lower upper : ℕ} {marks : List ℕ} (t
 
 -- with the marks of another message
 pub from_kept : {part old new : List ℕ} {p : ℕ} {marks after : List ℕ} → BuildFrom part old new p marks → length after ≡ length marks → BuildFrom part old new p after
-from_kept f e = record { rank = f.rank; sound = f.sound; room = room_kept f.room e }
+from_kept f e = record { rank = f.rank; sound = f.sound; bytes = f.bytes; room = room_kept f.room e }
 
 pub room_of : {n m k : ℕ} → n ≡ m → n ≤ k → m ≤ k
 room_of e h = omega arith

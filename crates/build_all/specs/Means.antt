@@ -1,5 +1,6 @@
 -- Means, no part of what is promised: what inner functions require, and values that mirror their code.
-use Rattle.std.specs.Prelude.{ℕ, zero, suc, ◌+◌, ◌≤◌, ◌<◌, ◌≡◌, true, cond, List, [], ◌++◌, length}
+use Rattle.std.specs.Prelude.{ℕ, zero, suc, ◌<◌, ◌≡◌, true, cond, List, [], ◌++◌}
+use Rattle.encoding.specs.Pieces.{Bytes}
 use Rattle.offsets.specs.Table.{ranks}
 use Rattle.pattern.specs.Means.{RankOf, lower_rank, upper_rank}
 use Rattle.pattern.specs.Sets.{sends_to}
@@ -25,6 +26,7 @@ module _ (part old new : List ℕ) (p epoch : ℕ) where
 pub record BuildFrom (part old new : List ℕ) (p : ℕ) (marks : List ℕ) : Type 0 where
   pub rank : RankOf old new p
   pub sound : part_sound part old p ≡ true
+  pub bytes : Bytes part
   pub room : Room old marks
 
 -- a receiver, and the ranks that have trees on either side of the sender

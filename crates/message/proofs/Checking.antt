@@ -91,10 +91,5 @@ module _ (m : List ℕ) where
 
 -- ---- the neighbours of all six faces
 
-pub six_read : {a b d e g h : ℕ} (k : ℕ) (r : List ℕ) → a ≡ neighbour_of r 0 → b ≡ neighbour_of r 1 → d ≡ neighbour_of r 2 → e ≡ neighbour_of r 3 → g ≡ neighbour_of r 4 → h ≡ neighbour_of r 5
-    → (ltb a k && ltb b k && ltb d k && ltb e k && ltb g k && ltb h k) ≡ all_below 6 (λ f. ltb (neighbour_of r f) k)
-unfolding all_below
-six_read k r p q s t u v = rw (p, q, s, t, u, v)
-
 pub six_faces : {b : Bool} (faces : ℕ) (f : ℕ → Bool) → faces ≡ 6 → b ≡ all_below 6 f → b ≡ all_below faces f
 six_faces faces f h e = rw h e

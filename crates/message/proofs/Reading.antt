@@ -5,12 +5,16 @@ use native.Mathlib.Omega.{arith}
 use mathlib.Core.Path.{◌≡◌, refl, sym, ap, ◌∙◌}
 use mathlib.Core.Bool.{true, false}
 use mathlib.Core.List.{List, [], ◌++◌}
-use lib.ListN.{length, take, drop, length-drop}
+use lib.ListN.{take, drop, length-drop}
 use lib.Seq.{take_all}
-use borrow.Author.Tests.{lt-ltb, le-ltb}
+use borrow.Author.Tests.{lt-ltb, le-ltb, ne_eqb}
 use Rattle.encoding.specs.Answer.{length_answer, length_refused}
 use Rattle.encoding.specs.Pieces.{piece}
 use Rattle.encoding.specs.Refusal.{first_failed}
+use Rattle.encoding.specs.Refusals.{refusal_number}
+use Rattle.encoding.specs.declared.refusal.Refusal.{Refusal}
+use Rattle.encoding.proofs.Refusals.{number_positive}
+use Rattle.encoding.proofs.Below.{either}
 use Rattle.encoding.specs.declared.answer.Length.{Length}
 use Rattle.encoding.proofs.Pieces.{piece_add}
 use Rattle.records.specs.Record.{core_size, tree_size}
@@ -60,9 +64,19 @@ module _ (m : List ℕ) where
 
 module _ (m : List ℕ) where
   -- a message out of layout gets 11
-  pub reading_refused : in_layout m ≡ false → length_refused 11 ≡ reading_of m
+  pub reading_unlaid : in_layout m ≡ false → length_refused 11 ≡ reading_of m
   unfolding reading_of message_refusal first_failed length_answer
-  reading_refused e = rw e
+  reading_unlaid e = rw e
+
+  -- a message that is refused gets the refusal alone
+  pub reading_refused : (e : Refusal) → refusal_number e ≡ message_refusal m → length_refused (refusal_number e) ≡ reading_of m
+  unfolding reading_of length_answer
+  reading_refused e h = rw (← h, ne_eqb (refusal_number e) 0 (number_positive e))
+
+  -- one that is not is in layout
+  pub checked_layout : 0 ≡ message_refusal m → in_layout m ≡ true
+  unfolding message_refusal first_failed
+  checked_layout h = either (in_layout m) (λ e. e) (λ e. absurd (omega (arith, rw e at h)))
 
   -- one in layout its records
   pub reading_begins : {n g : ℕ} → in_layout m ≡ true → n ≡ message_trees m → g ≡ message_ghosts m → ◌≡◌ {A = Length} (record { refusal = 0; length = n + g }) (reading_of m)

@@ -1,4 +1,4 @@
-// The numbers in a message's header.
+// The numbers in a message's header. Each has a reader with its name and its definition, which one reader by offset would lose.
 ghost use Rattle.std.specs.Prelude.{◌≡◌, ◌≤◌, length};
 ghost use Rattle.message.specs.Layout.{message_header, message_epoch, message_dimension, message_k, message_p, message_sender, message_receiver, message_trees, message_ghosts};
 

@@ -38,12 +38,11 @@ fn six_below(bs: &[u8], at: usize, below: u32) -> bool
     requires { at + core_size ≤ length bs.now }
     ensures { result ≡ all_below 6 (λ f. ltb (neighbour_of (piece bs.now at core_size) f) below) }
 {
-    (records::read::neighbour_of(bs, at, 0) < below)
-        & (records::read::neighbour_of(bs, at, 1) < below)
-        & (records::read::neighbour_of(bs, at, 2) < below)
-        & (records::read::neighbour_of(bs, at, 3) < below)
-        & (records::read::neighbour_of(bs, at, 4) < below)
-        & (records::read::neighbour_of(bs, at, 5) < below)
+    let mut all = true;
+    for face in 0..6 {
+        all &= records::read::neighbour_of(bs, at, face) < below;
+    }
+    all
 }
 
 // Whether the neighbours of the first faces of the record at byte `at` are below `below`.
@@ -54,12 +53,10 @@ fn neighbours_below(bs: &[u8], at: usize, faces: u32, below: u32) -> bool
     if faces == 6 {
         return six_below(bs, at, below);
     }
-    let mut face = 0;
-    while face < faces {
+    for face in 0..faces {
         if below <= records::read::neighbour_of(bs, at, face) {
             return false;
         }
-        face += 1;
     }
     true
 }
@@ -76,62 +73,54 @@ fn record_laid(message: &[u8], at: usize, dimension: u32, below: u32) -> bool
         & neighbours_below(message, at, records::shape::face_count(shape), below)
 }
 
-// Where record i of those from byte `start` begins.
-fn core_at(message: &[u8], start: usize, stride: usize, count: u32, i: u32) -> usize
-    requires { (LaidRow message.now start stride count) × (i < count) }
-    ensures { (result ≡ start + stride * i) × (result + core_size ≤ length message.now) }
-{
-    start + stride * (i as usize)
+// Records in a message: `count` of them from byte `start`, one every `stride` bytes.
+#[derive(Clone, Copy)]
+struct Row<'a> {
+    message: &'a [u8],
+    start: usize,
+    stride: usize,
+    count: u32,
 }
 
-// Whether record i of those from byte `start` has a larger number than the one before it.
-fn after_last(message: &[u8], start: usize, stride: usize, count: u32, i: u32) -> bool
-    requires { (LaidRow message.now start stride count) × (i < count) }
-    ensures { result ≡ after_last (laid_core message.now start stride) i }
+// Where record i of a row begins.
+fn core_at(row: Row<'_>, i: u32) -> usize
+    requires { (LaidRow row.message.now row.start row.stride row.count) × (i < row.count) }
+    ensures { (result ≡ row.entry.start + row.entry.stride * i) × (result + core_size ≤ length row.entry.message.now) }
+{
+    row.start + row.stride * (i as usize)
+}
+
+// Whether record i of a row has a larger number than the one before it.
+fn after_last(row: Row<'_>, i: u32) -> bool
+    requires { (LaidRow row.message.now row.start row.stride row.count) × (i < row.count) }
+    ensures { result ≡ after_last (laid_core row.entry.message.now row.entry.start row.entry.stride) i }
 {
     if i == 0 {
         return true;
     }
-    let before = core_at(message, start, stride, count, i - 1);
-    let at = core_at(message, start, stride, count, i);
-    records::read::number_of(message, before) < records::read::number_of(message, at)
+    let before = core_at(row, i - 1);
+    let at = core_at(row, i);
+    records::read::number_of(row.message, before) < records::read::number_of(row.message, at)
 }
 
-// Whether record i is laid out so and has a larger number than the one before it.
-fn record_next(
-    message: &[u8],
-    start: usize,
-    stride: usize,
-    count: u32,
-    i: u32,
-    dimension: u32,
-    below: u32,
-) -> bool
-    requires { (LaidRow message.now start stride count) × (i < count) × (dimension ≡ message_dimension message.now) × (below ≡ message_k message.now) }
-    ensures { result ≡ (record_laid message.now (laid_core message.now start stride i) && after_last (laid_core message.now start stride) i) }
+// Whether record i of a row is laid out so and has a larger number than the one before it.
+fn record_next(row: Row<'_>, i: u32, dimension: u32, below: u32) -> bool
+    requires { (LaidRow row.message.now row.start row.stride row.count) × (i < row.count) × (dimension ≡ message_dimension row.message.now) × (below ≡ message_k row.message.now) }
+    ensures { result ≡ (record_laid row.entry.message.now (laid_core row.entry.message.now row.entry.start row.entry.stride i) && after_last (laid_core row.entry.message.now row.entry.start row.entry.stride) i) }
 {
-    let at = core_at(message, start, stride, count, i);
-    record_laid(message, at, dimension, below) & after_last(message, start, stride, count, i)
+    let at = core_at(row, i);
+    record_laid(row.message, at, dimension, below) & after_last(row, i)
 }
 
-// Whether the `count` records from byte `start`, one every `stride` bytes, are laid out so and ascend.
-fn records_laid(
-    message: &[u8],
-    start: usize,
-    stride: usize,
-    count: u32,
-    dimension: u32,
-    below: u32,
-) -> bool
-    requires { (LaidRow message.now start stride count) × (dimension ≡ message_dimension message.now) × (below ≡ message_k message.now) }
-    ensures { result ≡ records_laid message.now count (laid_core message.now start stride) }
+// Whether the records of a row are laid out so and ascend.
+fn records_laid(row: Row<'_>, dimension: u32, below: u32) -> bool
+    requires { (LaidRow row.message.now row.start row.stride row.count) × (dimension ≡ message_dimension row.message.now) × (below ≡ message_k row.message.now) }
+    ensures { result ≡ records_laid row.entry.message.now row.entry.count (laid_core row.entry.message.now row.entry.start row.entry.stride) }
 {
-    let mut i = 0;
-    while i < count {
-        if !record_next(message, start, stride, count, i, dimension, below) {
+    for i in 0..row.count {
+        if !record_next(row, i, dimension, below) {
             return false;
         }
-        i += 1;
     }
     true
 }
@@ -147,8 +136,20 @@ pub fn in_layout(message: &[u8]) -> bool
     let below = trees_below(message);
     let trees = tree_count(message);
     let ghosts = ghost_count(message);
-    if !records_laid(message, 32, 64, trees, dimension, below) {
+    let tree_row = Row {
+        message,
+        start: 32,
+        stride: 64,
+        count: trees,
+    };
+    if !records_laid(tree_row, dimension, below) {
         return false;
     }
-    records_laid(message, ghost_at(trees, 0), 40, ghosts, dimension, below)
+    let ghost_row = Row {
+        message,
+        start: ghost_at(trees, 0),
+        stride: 40,
+        count: ghosts,
+    };
+    records_laid(ghost_row, dimension, below)
 }

@@ -1,2 +1,3 @@
 -- Building a message from a part.
 pub mod Means
+pub mod MeansSent

@@ -1,28 +1,29 @@
 // The checks of a build.
 ghost use Rattle.std.specs.Prelude.{◌≡◌};
 ghost use Rattle.encoding.specs.Refusal.{first_failed};
+ghost use Rattle.encoding.specs.Refusals.{refusal_of};
 ghost use Rattle.message.specs.Calls.{build_checks};
 
-// The checks of a part, two tables and two ranks (2, 3, 4, 5, 8, 9): 0 or the refusal.
-pub fn refusal(part: &[u8], old: &[u8], new: &[u8], p: u32, q: u32) -> u32
-    ensures { result ≡ first_failed (build_checks part.now old.now new.now p q) }
+use encoding::refusal::Refusal;
+use pattern::tables::check_tables;
+
+// The checks of a part, two tables and two ranks (2, 3, 4, 5, 8, 9).
+pub fn check_build(part: &[u8], old: &[u8], new: &[u8], p: u32, q: u32) -> Result<(), Refusal>
+    ensures { refusal_of result ≡ first_failed (build_checks part.now old.now new.now p q) }
 {
-    let refusal = pattern::tables::tables_refusal(old, new);
-    if refusal != 0 {
-        return refusal;
-    }
+    check_tables(old, new)?;
     let ranks = offsets::table::ranks(old);
     if ranks <= p as usize {
-        return 5;
+        return Err(Refusal::Index);
     }
     if ranks <= q as usize {
-        return 5;
+        return Err(Refusal::Index);
     }
     if !part_check::sound::part_sound(part, old, p) {
-        return 8;
+        return Err(Refusal::Part);
     }
     if !pattern::range::sends_some(old, new, p as usize, q as usize) {
-        return 9;
+        return Err(Refusal::Nothing);
     }
-    0
+    Ok(())
 }

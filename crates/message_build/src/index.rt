@@ -33,23 +33,9 @@ fn global_row(part: &[u8], count: u32, ghosts: u32, row: [u32; 3]) -> [u32; 3]
     [number.0, row[1], row[2]]
 }
 
-// The six links of a record with global numbers.
+// The six links of a record with global numbers. Its callers take it in, and the rows stay in registers.
+#[inline(always)]
 pub fn global_rows(part: &[u8], count: u32, ghosts: u32, rows: [[u32; 3]; 6]) -> [[u32; 3]; 6]
-    requires { Opened part.now count ghosts }
-    ensures { result ≡ rows_with (global_number part.now) rows }
-{
-    [
-        global_row(part, count, ghosts, rows[0]),
-        global_row(part, count, ghosts, rows[1]),
-        global_row(part, count, ghosts, rows[2]),
-        global_row(part, count, ghosts, rows[3]),
-        global_row(part, count, ghosts, rows[4]),
-        global_row(part, count, ghosts, rows[5]),
-    ]
-}
-
-// The same for the trees, most of the records: the one caller of a function takes it in, and the rows stay in registers.
-pub fn tree_rows(part: &[u8], count: u32, ghosts: u32, rows: [[u32; 3]; 6]) -> [[u32; 3]; 6]
     requires { Opened part.now count ghosts }
     ensures { result ≡ rows_with (global_number part.now) rows }
 {

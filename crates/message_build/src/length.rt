@@ -5,8 +5,12 @@ ghost use Rattle.bits.specs.Bits.{in_set};
 ghost use Rattle.offsets.specs.Limits.{max_trees};
 ghost use Rattle.part.specs.Layout.{part_header};
 ghost use Rattle.part.specs.Part.{part_k};
-ghost use Rattle.message_ghosts.specs.Means.{mark_words, Room, SendingRange};
-ghost use Rattle.message_build.specs.Means.{Going};
+ghost use Rattle.message_ghosts.specs.Means.{mark_words, Room};
+ghost use Rattle.message_ghosts.specs.MeansSent.{Sends};
+ghost use Rattle.message_build.specs.MeansSent.{GoingWith};
+
+use message_ghosts::Sending;
+use message_ghosts::marks::mark_ghosts;
 
 // How many members a set has, by the ones in its words. Most words of a large mesh have none, and to see that is faster than to count them.
 pub fn member_count(marks: &[u64]) -> u32
@@ -14,12 +18,9 @@ pub fn member_count(marks: &[u64]) -> u32
     ensures { result ≡ count_below (64 * length marks.now) (in_set marks.now) }
 {
     let mut count = 0;
-    let mut i = 0;
-    while i < marks.len() {
-        let word = marks[i];
-        i += 1;
-        if word != 0 {
-            count += bits::word::ones(word);
+    for word in marks {
+        if *word != 0 {
+            count += bits::word::ones(*word);
         }
     }
     count
@@ -30,23 +31,14 @@ pub fn mark_words(part: &[u8]) -> usize
     requires { (part_header ≤ length part.now) × (part_k part.now ≤ max_trees) }
     ensures { (part_k part.now ≤ 64 * result) × (result ≤ mark_words) }
 {
-    ((part::layout::trees(part) + 63) / 64) as usize
+    part::layout::trees(part).div_ceil(64) as usize
 }
 
-// Marks the ghosts that go with p's message to q, which has the n trees from `low` on: how many they are.
-pub fn going(
-    part: &[u8],
-    old: &[u8],
-    new: &[u8],
-    p: u32,
-    q: u32,
-    low: u32,
-    n: u32,
-    marks: &mut [u64],
-) -> u32
-    requires { SendingRange part.now old.now new.now p q low n × Room old.now marks.old }
-    ensures { Going part.now old.now new.now p q n result marks.new }
+// Marks the ghosts that go with a message: how many they are.
+pub fn going(sending: Sending<'_>, marks: &mut [u64]) -> u32
+    requires { Sends sending × Room sending.old.now marks.old }
+    ensures { GoingWith sending.entry result marks.new }
 {
-    message_ghosts::marks::mark_ghosts(part, old, new, p, q, low, n, &mut *marks);
+    mark_ghosts(sending, &mut *marks);
     member_count(&*marks)
 }

@@ -1,21 +1,25 @@
 // Writing a message: the header, the trees, the ghosts.
 ghost use Rattle.std.specs.Prelude.{◌≡◌, ◌++◌, ◌*◌, ◌≤◌, length};
 ghost use Rattle.encoding.specs.Pieces.{piece, splice};
+ghost use Rattle.encoding.specs.Refusals.{length_of};
 ghost use Rattle.records.specs.Record.{core_size, tree_size};
 ghost use Rattle.part.specs.Cut.{renamed};
 ghost use Rattle.part.specs.Layout.{ghost_place};
 ghost use Rattle.part.specs.Means.{Ascending, smaller};
-ghost use Rattle.part.specs.Part.{global_number, part_core};
+ghost use Rattle.part.specs.Part.{global_number, part_core, part_k};
 ghost use Rattle.bits.specs.Bits.{in_set};
-ghost use Rattle.message.specs.Build.{part_record, part_message};
+ghost use Rattle.message.specs.Build.{part_record};
 ghost use Rattle.message.specs.Layout.{message_header};
-ghost use Rattle.message_ghosts.specs.Means.{Room, SendingRange};
+ghost use Rattle.message_ghosts.specs.Means.{mark_words as most_words, Room};
+ghost use Rattle.message_ghosts.specs.MeansSent.{Sends};
 ghost use Rattle.positions.specs.Means.{cores_below};
-ghost use Rattle.message_build.specs.Means.{built_range, RecordRoom, global_links, records_from, TreesRoom, Past, GhostRoom, GhostsRoom, RecordsRoom, MessageRoom};
+ghost use Rattle.message_build.specs.Means.{built_range, RecordRoom, global_links, records_from, TreesRoom, Past, GhostRoom, GhostsRoom, RecordsRoom};
+ghost use Rattle.message_build.specs.MeansSent.{RoomFor, message_of};
 
-use crate::index::{global_rows, tree_rows};
+use crate::index::global_rows;
 use crate::length::{going, mark_words};
-use encoding::answer::Length;
+use encoding::refusal::Refusal;
+use message_ghosts::Sending;
 use part::layout::{ghost_at, tree_at};
 use part::range::{find_ghost, in_range};
 use records::index::{GlobalIndex, to_local};
@@ -38,7 +42,7 @@ fn put_links(
     records::links::put_rows(&mut *out, to, global, faces);
 }
 
-// Writes the tree record at byte `from` of the part to byte `to`, with its data and global numbers.
+// Writes the tree record at byte `from` of the part to byte `to`, with its data and global numbers. All links are read before the copy; `write_core` copies first.
 fn write_tree(
     part: &[u8],
     count: u32,
@@ -52,7 +56,7 @@ fn write_tree(
     ensures { out.new ≡ splice out.old to (renamed (global_number part.now) faces (piece part.now from tree_size)) }
 {
     let rows = records::links::rows_of(part, from, faces);
-    let global = tree_rows(part, count, ghosts, rows);
+    let global = global_rows(part, count, ghosts, rows);
     encoding::record::copy64(part, from, &mut *out, to);
     records::links::put_rows(&mut *out, to, global, faces);
 }
@@ -90,12 +94,10 @@ fn write_trees(
 {
     let end = low + n;
     let mut to = 32;
-    let mut k = low;
-    while k < end {
+    for k in low..end {
         let tree = to_local(GlobalIndex(k), GlobalIndex(first));
         write_tree(part, count, ghosts, faces, tree_at(tree), &mut *out, to);
         to += 64;
-        k += 1;
     }
 }
 
@@ -105,8 +107,7 @@ fn find_from(part: &[u8], at: usize, count: u32, from: u32, number: GlobalIndex)
     ensures { (result ≡ smaller part.now at count number.0) × (result ≤ count) }
 {
     let k = number.0;
-    let mut low = from;
-    while low < count {
+    for low in from..count {
         let here = at + 40 * (low as usize);
         if 16 <= low - from {
             return low + find_ghost(part, here, count - low, GlobalIndex(k));
@@ -114,9 +115,8 @@ fn find_from(part: &[u8], at: usize, count: u32, from: u32, number: GlobalIndex)
         if k <= encoding::bytes::read_u32(part, here) {
             return low;
         }
-        low += 1;
     }
-    low
+    count
 }
 
 // Writes the core of the record with the number, a tree of the part or one of its ghosts. The ghosts before `from` are smaller; answers from where on to search for a larger number.
@@ -162,6 +162,7 @@ fn write_ghosts(
     let mut to = at;
     let mut from = 0;
     let mut k = bits::set::next_member(marks, 0);
+    // from member to member of the set
     while k < end {
         from = write_ghost(
             part,
@@ -193,156 +194,66 @@ fn write_records(part: &[u8], low: u32, n: u32, marks: &[u64], out: &mut [u8])
     write_ghosts(part, count, ghosts, faces, first, marks, &mut *out, at);
 }
 
-// Writes the message from p's part to q, given the range sent and the g ghosts that go.
-pub fn write_message(
-    part: &[u8],
-    old: &[u8],
-    new: &[u8],
-    p: u32,
-    q: u32,
-    low: u32,
-    n: u32,
-    g: u32,
-    epoch: u32,
-    marks: &[u64],
-    out: &mut [u8],
-)
-    requires { MessageRoom part.now old.now new.now p q low n g epoch marks.now out.old }
-    ensures { out.new ≡ splice out.old 0 (part_message part.now old.now new.now p q epoch) }
+// Writes a message, given the g ghosts that go.
+pub fn write_message(sending: Sending<'_>, g: u32, epoch: u32, marks: &[u64], out: &mut [u8])
+    requires { RoomFor sending g epoch marks.now out.old }
+    ensures { out.new ≡ splice out.old 0 (message_of sending.entry epoch) }
 {
+    let part = sending.part;
+    let p = sending.sender;
+    let q = sending.receiver;
+    let n = sending.count;
     let dimension = part::layout::dimension(part);
     let trees = part::layout::trees(part);
-    let ranks = offsets::table::ranks(old) as u32;
-    encoding::header::write_eight(&mut *out, epoch, dimension, trees, ranks, p, q, n, g);
-    write_records(part, low, n, marks, &mut *out);
+    let ranks = offsets::table::ranks(sending.old) as u32;
+    encoding::header::write_eight(&mut *out, [epoch, dimension, trees, ranks, p, q, n, g]);
+    write_records(part, sending.first, n, marks, &mut *out);
 }
 
-// Marks the ghosts that go with the range sent, and writes the message if there is room for it (22).
+// Marks the ghosts that go, and writes the message if there is room for it (22).
 pub fn build_range(
-    part: &[u8],
-    old: &[u8],
-    new: &[u8],
-    p: u32,
-    q: u32,
-    low: u32,
-    n: u32,
+    sending: Sending<'_>,
     epoch: u32,
     marks: &mut [u64],
     out: &mut [u8],
-) -> Length
-    requires { SendingRange part.now old.now new.now p q low n × Room old.now marks.old }
-    ensures { (result, out.new) ≡ built_range (part_message part.now old.now new.now p q epoch) out.old }
+) -> Result<u64, Refusal>
+    requires { Sends sending × Room sending.old.now marks.old }
+    ensures { (length_of result, out.new) ≡ built_range (message_of sending.entry epoch) out.old }
 {
-    let g = going(part, old, new, p, q, low, n, &mut *marks);
-    let size = message::layout::ghost_at(n, g);
+    let g = going(sending, &mut *marks);
+    let size = message::layout::ghost_at(sending.count, g);
     if out.len() < size {
-        return Length {
-            refusal: 22,
-            length: 0,
-        };
+        return Err(Refusal::Buffer);
     }
-    write_message(part, old, new, p, q, low, n, g, epoch, &*marks, &mut *out);
-    Length {
-        refusal: 0,
-        length: size as u64,
-    }
+    write_message(sending, g, epoch, &*marks, &mut *out);
+    Ok(size as u64)
 }
 
-// The same, with words for as many trees as there can be.
-fn build_of_many(
-    part: &[u8],
-    old: &[u8],
-    new: &[u8],
-    p: u32,
-    q: u32,
-    low: u32,
-    n: u32,
+// The same, with words for so many trees, no more than `WORDS`.
+fn build_with<const WORDS: usize>(
+    sending: Sending<'_>,
     epoch: u32,
+    words: usize,
     out: &mut [u8],
-) -> Length
-    requires { SendingRange part.now old.now new.now p q low n }
-    ensures { (result, out.new) ≡ built_range (part_message part.now old.now new.now p q epoch) out.old }
+) -> Result<u64, Refusal>
+    requires { Sends sending × (part_k sending.part.now ≤ 64 * words) × (words ≤ WORDS) × (WORDS ≤ most_words) }
+    ensures { (length_of result, out.new) ≡ built_range (message_of sending.entry epoch) out.old }
 {
-    let mut marks = [0u64; 16384];
-    let words = mark_words(part);
-    build_range(
-        part,
-        old,
-        new,
-        p,
-        q,
-        low,
-        n,
-        epoch,
-        &mut marks[..words],
-        &mut *out,
-    )
+    let mut marks = [0u64; WORDS];
+    build_range(sending, epoch, &mut marks[..words], &mut *out)
 }
 
-// The same, with words for up to 65,536 trees where these are enough.
-fn build_of_more(
-    part: &[u8],
-    old: &[u8],
-    new: &[u8],
-    p: u32,
-    q: u32,
-    low: u32,
-    n: u32,
-    epoch: u32,
-    out: &mut [u8],
-) -> Length
-    requires { SendingRange part.now old.now new.now p q low n }
-    ensures { (result, out.new) ≡ built_range (part_message part.now old.now new.now p q epoch) out.old }
+// The same. To clear the words for all trees takes longer than to write a small message: up to 16,384 trees have fewer words, and so have up to 65,536.
+pub fn build_sent(sending: Sending<'_>, epoch: u32, out: &mut [u8]) -> Result<u64, Refusal>
+    requires { Sends sending }
+    ensures { (length_of result, out.new) ≡ built_range (message_of sending.entry epoch) out.old }
 {
-    let words = mark_words(part);
-    if words <= 1024 {
-        let mut marks = [0u64; 1024];
-        return build_range(
-            part,
-            old,
-            new,
-            p,
-            q,
-            low,
-            n,
-            epoch,
-            &mut marks[..words],
-            &mut *out,
-        );
-    }
-    build_of_many(part, old, new, p, q, low, n, epoch, &mut *out)
-}
-
-// The same. To clear the words for all trees takes longer than to write a small message: up to 16,384 trees have fewer words.
-pub fn build_sent(
-    part: &[u8],
-    old: &[u8],
-    new: &[u8],
-    p: u32,
-    q: u32,
-    low: u32,
-    n: u32,
-    epoch: u32,
-    out: &mut [u8],
-) -> Length
-    requires { SendingRange part.now old.now new.now p q low n }
-    ensures { (result, out.new) ≡ built_range (part_message part.now old.now new.now p q epoch) out.old }
-{
-    let words = mark_words(part);
+    let words = mark_words(sending.part);
     if words <= 256 {
-        let mut marks = [0u64; 256];
-        return build_range(
-            part,
-            old,
-            new,
-            p,
-            q,
-            low,
-            n,
-            epoch,
-            &mut marks[..words],
-            &mut *out,
-        );
+        return build_with::<256>(sending, epoch, words, &mut *out);
     }
-    build_of_more(part, old, new, p, q, low, n, epoch, &mut *out)
+    if words <= 1024 {
+        return build_with::<1024>(sending, epoch, words, &mut *out);
+    }
+    build_with::<16384>(sending, epoch, words, &mut *out)
 }

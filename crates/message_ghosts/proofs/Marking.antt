@@ -2,23 +2,22 @@
 use Prim.Native.Nat.{ℕ, ◌+◌, ◌-◌, ◌*◌, ◌≤◌, ◌<◌}
 use native.Mathlib.Omega.{arith}
 use mathlib.Core.Path.{◌≡◌, refl, sym, ap, ◌∙◌}
-use mathlib.Core.Bool.{Bool, true, false, not, ◌&&◌, ◌||◌}
-use mathlib.Core.List.{List, ◌++◌, append-nil}
-use lib.Dec.{ltb, eqb}
-use lib.ListN.{length, take, drop, set, replicate, length-set, length-replicate, replicate-append-replicate}
-use lib.Seq.{take_at, drop-length}
-use borrow.Author.Fill.{fill_none, fill_more}
+use mathlib.Core.Bool.{Bool, true, false, not, ◌&&◌}
+use mathlib.Core.List.{List}
+use lib.Dec.{eqb}
+use lib.ListN.{length, take, replicate, length-replicate, replicate-append-replicate}
+use lib.Seq.{take_at}
 use borrow.Author.Tests.{eqb-true, eq-eqb}
 use Rattle.encoding.specs.Below.{any_below}
 use Rattle.encoding.specs.Pieces.{Bytes}
 use Rattle.encoding.proofs.Below.{either, clash, and_fst, and_snd, and_intro, iff_eq, any_at, any_intro}
 use Rattle.bits.specs.Bits.{in_set}
 use Rattle.bits.proofs.Bits.{in_none}
-use Rattle.offsets.specs.Table.{trees, first_tree, tree_count, holds}
+use Rattle.offsets.specs.Table.{first_tree, tree_count, holds}
 use Rattle.offsets.proofs.Tables.{trees_high, count_add}
 use Rattle.pattern.specs.Sender.{Tables, sent_first, sent_count}
 use Rattle.pattern.proofs.Senders.{holds_true, sends_true}
-use Rattle.pattern.proofs.Sets.{sent_in, sent_below}
+use Rattle.pattern.proofs.Sets.{sent_in}
 use Rattle.records.specs.Shape.{face_count}
 use Rattle.records.specs.Record.{shape_of, neighbour_of}
 use Rattle.part.specs.Layout.{part_header}
@@ -43,29 +42,6 @@ cleared_length marks z = ap length z ∙ length-replicate {A = ℕ} (length mark
 
 pub room_cleared : {old marks ws : List ℕ} → Room old marks → ws ≡ replicate (length marks) 0 → Room old ws
 room_cleared {old} {marks} r z = room_kept r (cleared_length marks z)
-
--- the first i words are cleared
-pub record Clearing (marks ws : List ℕ) (i : ℕ) : Type 0 where
-  pub within : i ≤ length marks
-  pub same_length : length ws ≡ length marks
-  pub cleared : ws ≡ replicate i 0 ++ drop i marks
-
-pub clear_start : (marks : List ℕ) → Clearing marks marks 0
-clear_start marks = record { within = omega arith; same_length = refl; cleared = fill_none marks 0 }
-
-module _ {marks ws : List ℕ} {i : ℕ} (so_far : Clearing marks ws i) where
-  pub clear_more : i < length marks → Clearing marks (set ws i 0) (i + 1)
-  clear_more h =
-      record {
-        within = omega arith;
-        same_length = length-set ws i 0 ∙ so_far.same_length;
-        cleared = ap (λ (l : List ℕ). set l i 0) so_far.cleared ∙ fill_more i 0 marks h;
-      }
-
-  pub clear_done : length marks ≤ i → ws ≡ replicate (length marks) 0
-  clear_done h =
-      let e : i ≡ length marks = omega (arith, so_far.within) in
-      so_far.cleared ∙ ap (λ (k : ℕ). replicate k 0 ++ drop k marks) e ∙ ap (λ (l : List ℕ). replicate (length marks) 0 ++ l) (drop-length marks) ∙ append-nil (replicate (length marks) 0)
 
 -- the first words of an array of 0
 pub prefix_none : (n : ℕ) {words : ℕ} → words ≤ n → take words (replicate {A = ℕ} n 0) ≡ replicate words 0

@@ -2,7 +2,7 @@
 use Prim.Native.Nat.{ℕ, zero, suc, ◌+◌, ◌-◌, ◌≤◌, ◌<◌}
 use native.Mathlib.Omega.{arith}
 use mathlib.Core.Path.{◌≡◌, sym, ap, ◌∙◌}
-use mathlib.Core.Bool.{true, false}
+use mathlib.Core.Bool.{true}
 use mathlib.Core.List.{List}
 use lib.Dec.{ltb, eqb}
 use lib.ListN.{length}
@@ -23,7 +23,7 @@ use Rattle.part.specs.Means.{record_place}
 use Rattle.part.specs.Part.{no_tree, part_dimension, part_k, part_first, part_count, part_ghost_count, stored_tree, stored_ghost, global_number, global_tree, part_holds, part_core, part_sound}
 use Rattle.part_theorems.proofs.Renamed.{renamed_number, renamed_shape, renamed_neighbour}
 use Rattle.part_theorems.proofs.SoundParts.{part_header_lem, part_length, part_tree_lem, part_number, part_held, part_core_tree, part_core_ghost, part_ghost_held, part_ghost_below, part_outside, part_ascends, part_below}
-use Rattle.message_ghosts.specs.Means.{number_in, Known, record_in, across_at, AtFace, Numbered}
+use Rattle.message_ghosts.specs.Means.{number_in, Known, record_in, across_at, AtFace}
 
 -- a number that is read has 32 bits
 number_small : (r : List ℕ) → Bytes r → number_of r < 4294967296
@@ -103,11 +103,6 @@ module _ (part old new : List ℕ) (p q count : ℕ) (k : Known part old new p q
   tree_number i h =
       tree-same i h ∙ sym (renamed_number (global_number part) (faces_in (part_dimension part)) (stored_tree part i) (stored-long i h))
       ∙ ap number_of (sym (tree_core i h)) ∙ part_number part old p sound (first + i) (tree_held i h)
-
-  -- so they are numbered from the first on
-  pub numbered : {own : ℕ} → own ≡ part_first part → Numbered part own count
-  numbered e =
-      record { number = λ i h. rw e (tree_number i h); small = λ i h. rw e (omega (arith, (held_below_lem (first + i) (tree_held i h)).1)) }
 
   -- ---- ghosts
 

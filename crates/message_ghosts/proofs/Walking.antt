@@ -3,7 +3,7 @@ use Prim.Native.Nat.{ℕ, ◌+◌, ◌-◌, ◌*◌, ◌≤◌, ◌<◌}
 use native.Mathlib.Numerals.{add-one}
 use native.Mathlib.Omega.{arith}
 use mathlib.Core.Path.{◌≡◌, refl, sym, ap, ◌∙◌}
-use mathlib.Core.Bool.{Bool, true, false, ◌&&◌, ◌||◌, or-false}
+use mathlib.Core.Bool.{Bool, true, false, ◌&&◌, ◌||◌}
 use mathlib.Core.List.{List}
 use lib.Dec.{ltb, eqb}
 use lib.ListN.{length}
@@ -15,15 +15,15 @@ use Rattle.bits.specs.Bits.{in_set, with_member, least_from}
 use Rattle.bits.proofs.Scanning.{from_le, from_most, from_at, from_below}
 use Rattle.offsets.specs.Table.{trees}
 use Rattle.records.specs.Shape.{face_count}
-use Rattle.records.specs.Record.{core_size, shape_of, neighbour_of}
+use Rattle.records.specs.Record.{core_size, shape_of}
 use Rattle.part.specs.Layout.{tree_place}
 use Rattle.part.specs.Means.{record_place}
-use Rattle.part.specs.Part.{part_first, part_ghost_count, part_core}
+use Rattle.part.specs.Part.{part_first, part_core}
 use Rattle.positions.specs.Means.{Added}
 use Rattle.positions.proofs.Positions.{added_none, added_one, added_then}
 use Rattle.part_cut.specs.Means.{out_faces, out_trees, FacesFit}
 use Rattle.part_cut.proofs.Marking.{trees_more}
-use Rattle.message_ghosts.specs.Means.{number_in, record_in, Known, AtRecord, Near, NearRoom, Room, goes, goes_near}
+use Rattle.message_ghosts.specs.Means.{number_in, record_in, Known, AtRecord, Near, NearRoom, goes, goes_near}
 use Rattle.message_ghosts.proofs.Records.{held_below_lem, place_fits, tree_number, number_held, shape_is, tree_next}
 
 -- the faces of a tree as the part stores it

@@ -1,5 +1,5 @@
 -- Means, no part of what is promised: what the functions require, and values that mirror their code.
-use Rattle.std.specs.Prelude.{ℕ, ◌+◌, ◌-◌, ◌*◌, ◌≤◌, ◌<◌, ◌≡◌, Bool, true, false, cond, not, ◌&&◌, ◌||◌, List, leb, ltb, eqb, length}
+use Rattle.std.specs.Prelude.{ℕ, ◌+◌, ◌*◌, ◌≤◌, ◌<◌, ◌≡◌, Bool, true, false, cond, not, ◌&&◌, ◌||◌, List, leb, ltb, eqb, length}
 use Rattle.encoding.specs.Below.{any_below}
 use Rattle.encoding.specs.Pieces.{piece, Bytes}
 use Rattle.bits.specs.Bits.{in_set}
@@ -85,11 +85,6 @@ module _ (part : List ℕ) (n : ℕ) where
   -- the number of the neighbour across face f: a tree stores a local index, a ghost the number
   unfoldable pub across_at : ℕ → ℕ → ℕ
   across_at j f = cond {A = ℕ} (ltb j n) (number_in (neighbour_of (record_in j) f)) (neighbour_of (record_in j) f)
-
--- the trees are numbered from own on
-pub record Numbered (part : List ℕ) (own n : ℕ) : Type 0 where
-  pub number : (i : ℕ) → i < n → number_in part n i ≡ own + i
-  pub small : (i : ℕ) → i < n → own + i < 4294967296
 
 -- the record is there, and so is the one that it stores the local index of
 pub record AtFace (part : List ℕ) (n j f : ℕ) : Type 0 where

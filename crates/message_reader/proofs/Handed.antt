@@ -2,12 +2,16 @@
 use Prim.Native.Nat.{ℕ, ◌+◌, ◌-◌, ◌≤◌, ◌<◌}
 use native.Mathlib.Omega.{arith}
 use mathlib.Core.Path.{◌≡◌, refl, sym, ap, ◌∙◌}
-use mathlib.Core.Bool.{true, cond}
+use mathlib.Core.Bool.{true, false, cond}
 use mathlib.Core.List.{List, []}
 use lib.Dec.{ltb}
 use lib.ListN.{length}
 use borrow.Author.Tests.{lt-ltb, le-ltb, ltb-true, ltb-false}
+use Rattle.encoding.specs.Answer.{length_refused}
+use Rattle.encoding.specs.Refusals.{refusal_number}
 use Rattle.encoding.specs.declared.answer.Length.{Length}
+use Rattle.encoding.specs.declared.refusal.Refusal.{Refusal}
+use Rattle.encoding.proofs.Refusals.{number_positive}
 use Rattle.encoding.proofs.Below.{either}
 use Rattle.encoding.proofs.Pieces.{piece_length}
 use Rattle.records.specs.Record.{core_size, tree_size}
@@ -15,9 +19,8 @@ use Rattle.message.specs.Layout.{message_tree_place, message_ghost_place, messag
 use Rattle.message.specs.Reading.{record_count, record_at}
 use Rattle.message.specs.Calls.{reading_of}
 use Rattle.message.proofs.Layouts.{size_length}
-use Rattle.message.proofs.Reading.{record_past, record_tree, record_ghost, count_all, count_none, reading_refused, reading_begins}
+use Rattle.message.proofs.Reading.{record_past, record_tree, record_ghost, count_all, count_none, reading_unlaid, reading_begins}
 use Rattle.message_reader.specs.Handing.{place_after, begin_of}
-use Rattle.message_reader.specs.Means.{lent_unless}
 
 -- ---- how long a record is
 
@@ -71,20 +74,29 @@ module _ (m : List ℕ) (i : ℕ) where
 
 -- ---- how it begins
 
--- what is lent is the message where it is in layout, and nothing where it's refused
-lent_read : (m : List ℕ) → lent_unless (reading_of m).refusal m ≡ cond (in_layout m) m []
-unfolding lent_unless
-lent_read m =
+-- what is read has been accepted
+pub read_laid : (m : List ℕ) (n : ℕ) → ◌≡◌ {A = Length} (record { refusal = 0; length = n }) (reading_of m) → in_layout m ≡ true
+read_laid m n e =
     either (in_layout m)
-    (λ e.
-    let r : (reading_of m).refusal ≡ 0 = ap (λ (l : Length). l.refusal) (sym (reading_begins m e refl refl)) in
-    rw (r, e))
-    (λ e.
-    let r : (reading_of m).refusal ≡ 11 = ap (λ (l : Length). l.refusal) (sym (reading_refused m e)) in
-    rw (r, e))
+    (λ t. t)
+    (λ t.
+    let r : 0 ≡ 11 = ap (λ (l : Length). l.refusal) (e ∙ sym (reading_unlaid m t)) in
+    absurd (omega (arith, r)))
 
-pub begun_is : (m : List ℕ) (r : Length) (lent : List ℕ) → r ≡ reading_of m → lent ≡ lent_unless r.refusal m → ◌≡◌ {A = Length × (List ℕ × ℕ)} (r, (lent, 0)) (begin_of m)
+pub failed_unlaid : (m : List ℕ) (e : Refusal) → length_refused (refusal_number e) ≡ reading_of m → in_layout m ≡ false
+failed_unlaid m e h =
+    either (in_layout m)
+    (λ t.
+    let r : refusal_number e ≡ 0 = ap (λ (l : Length). l.refusal) (h ∙ sym (reading_begins m t refl refl)) in
+    absurd (number_positive e r))
+    (λ t. t)
+
+-- a message in layout is lent whole
+pub begun_is : (m : List ℕ) (n : ℕ) → ◌≡◌ {A = Length} (record { refusal = 0; length = n }) (reading_of m) → ◌≡◌ {A = Length × (List ℕ × ℕ)} (record { refusal = 0; length = n }, (m, 0)) (begin_of m)
 unfolding begin_of
-begun_is m r lent e f =
-    let g : lent ≡ cond (in_layout m) m [] = f ∙ (ap (λ (l : Length). lent_unless l.refusal m) e ∙ lent_read m) in
-    λ i. (e i, (g i, 0))
+begun_is m n e = rw (read_laid m n e, e)
+
+-- of one that is refused nothing is
+pub begun_fails : (m : List ℕ) (e : Refusal) → length_refused (refusal_number e) ≡ reading_of m → ◌≡◌ {A = Length × (List ℕ × ℕ)} (length_refused (refusal_number e), ([], 0)) (begin_of m)
+unfolding begin_of
+begun_fails m e h = rw (failed_unlaid m e h, h)

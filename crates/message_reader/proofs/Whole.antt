@@ -10,17 +10,22 @@ use lib.ListN.{length, drop}
 use denote.Ref.{Bor}
 use Rattle.encoding.specs.Pieces.{piece}
 use Rattle.encoding.specs.Answer.{length_refused}
+use Rattle.encoding.specs.Refusals.{refusal_number}
 use Rattle.encoding.specs.declared.answer.Length.{Length}
-use Rattle.encoding.proofs.Below.{either}
+use Rattle.encoding.specs.declared.refusal.Refusal.{Refusal}
+use Rattle.std.specs.Prelude.{Ok, Err}
+use Rattle.std.specs.declared.result.Result.{Result}
+use Rattle.encoding.proofs.Below.{either, clash}
 use Rattle.records.specs.Record.{tree_size}
 use Rattle.message.specs.Layout.{message_header, message_tree_place, message_trees, message_ghosts, message_ghost, size_laid, in_layout}
 use Rattle.message.specs.Reading.{record_count, record_at, remain_after}
 use Rattle.message.specs.Calls.{reading_of}
 use Rattle.message.proofs.Layouts.{size_length, layout_size}
-use Rattle.message.proofs.Reading.{read_to, read_all, record_past, remain_past, record_tree, record_ghost, count_all, count_none, reading_refused}
+use Rattle.message.proofs.Reading.{read_to, read_all, record_past, remain_past, record_tree, record_ghost, count_all, count_none, reading_unlaid, reading_begins}
 use Rattle.message_reader.specs.Handing.{begin_of, begun_seen, next_of, handed, remains, reader_after, row, tree_records, ghost_records, down}
 use Rattle.message_reader.specs.declared.Begun.{Begun}
-use Rattle.message_reader.proofs.Handed.{place_next, place_last}
+use Rattle.message_reader.specs.declared.Reader.{Reader}
+use Rattle.message_reader.proofs.Handed.{place_next, place_last, read_laid, failed_unlaid}
 use Rattle.message_reader.proofs.Stepped.{reader}
 
 -- ---- rows
@@ -94,61 +99,72 @@ row_joined m (suc n) i =
     let r : read_to m (i + 1) ≡ read_to m i ++ record_at m i = ap (read_to m) (add-one i) in
     ap (read_to m) e ∙ (row_joined m n (i + 1) ∙ (ap (λ l. l ++ flatten (row (i + 1) n (record_at m))) r ∙ append_assoc (read_to m i) (record_at m i) (flatten (row (i + 1) n (record_at m)))))
 
--- no message, no records
+-- a reader over no byte hands out nothing
 count_empty : record_count [] ≡ 0
 count_empty = either (size_laid []) (λ e. let l : length {A = ℕ} [] ≡ 0 = refl in absurd (omega (arith, l, size_length [] e))) (λ e. count_none [] e)
 
+pub reads_nothing : (r : Reader) → r.message.now ≡ [] → r.at ≡ 0 → next_of r ≡ ([], (0, r))
+reads_nothing r none first =
+    let begins : r ≡ reader r.message 0 = λ i. record { message = r.message; at = first i } in
+    rw begins (next_past r.message 0 (omega (arith, ap record_count none, count_empty)))
+
 -- ---- from the beginning, over the reader that `begin` makes
 
-module _ (m : List ℕ) (b : Begun) (begun : begun_seen b ≡ begin_of m) where
-  answer-is : b.answer ≡ reading_of m
+module _ (m : List ℕ) (b : Begun) (begun : begun_seen (Ok b) ≡ begin_of m) where
+  begun_laid : in_layout m ≡ true
   unfolding begin_of
-  answer-is = ap (λ (x : Length × (List ℕ × ℕ)). x.0) begun
+  begun_laid = read_laid m b.records (ap (λ (x : Length × (List ℕ × ℕ)). x.0) begun)
+
+  -- how many records there are
+  pub reads_count : b.records ≡ record_count m
+  unfolding begin_of
+  reads_count =
+      let r : ◌≡◌ {A = Length} (record { refusal = 0; length = b.records }) (reading_of m) = ap (λ (x : Length × (List ℕ × ℕ)). x.0) begun in
+      ap (λ (l : Length). l.length) (r ∙ sym (reading_begins m begun_laid refl refl)) ∙ sym (count_all m (layout_size m begun_laid))
 
   at_first : b.reader ≡ reader b.reader.message 0
   unfolding begin_of
   at_first = λ i. record { message = b.reader.message; at = (begun i).1.1 }
 
-  module _ (laid : in_layout m ≡ true) where
-    lent_is : b.reader.message.now ≡ m
-    unfolding begin_of
-    lent_is = ap (λ (x : Length × (List ℕ × ℕ)). x.1.0) begun ∙ rw laid
+  lent_is : b.reader.message.now ≡ m
+  unfolding begin_of
+  lent_is = ap (λ (x : Length × (List ℕ × ℕ)). x.1.0) begun ∙ rw begun_laid
 
-    handed-all : handed (record_count m) b.reader ≡ row 0 (record_count m) (record_at m)
-    handed-all =
-        ap (handed (record_count m)) at_first
-        ∙ (handed-from b.reader.message (record_count m) 0 (omega (arith, ap record_count lent_is)) ∙ ap (λ l. row 0 (record_count m) (record_at l)) lent_is)
+  handed-all : handed (record_count m) b.reader ≡ row 0 (record_count m) (record_at m)
+  handed-all =
+      ap (handed (record_count m)) at_first
+      ∙ (handed-from b.reader.message (record_count m) 0 (omega (arith, ap record_count lent_is)) ∙ ap (λ l. row 0 (record_count m) (record_at l)) lent_is)
 
-    -- the records in order, trees before ghosts
-    pub reads_records : handed (record_count m) b.reader ≡ tree_records m ++ ghost_records m
-    reads_records = handed-all ∙ records_are m (layout_size m laid)
+  -- the records in order, trees before ghosts
+  pub reads_records : handed (record_count m) b.reader ≡ tree_records m ++ ghost_records m
+  reads_records = handed-all ∙ records_are m (layout_size m begun_laid)
 
-    -- every byte behind the header, once
-    pub reads_bytes : flatten (handed (record_count m) b.reader) ≡ drop message_header m
-    unfolding read_to
-    reads_bytes =
-        let z : 0 + record_count m ≡ record_count m = omega arith in
-        ap flatten handed-all ∙ (sym (row_joined m (record_count m) 0) ∙ (ap (read_to m) z ∙ read_all m (layout_size m laid)))
+  -- every byte behind the header, once
+  pub reads_bytes : flatten (handed (record_count m) b.reader) ≡ drop message_header m
+  unfolding read_to
+  reads_bytes =
+      let z : 0 + record_count m ≡ record_count m = omega arith in
+      ap flatten handed-all ∙ (sym (row_joined m (record_count m) 0) ∙ (ap (read_to m) z ∙ read_all m (layout_size m begun_laid)))
 
-    -- one fewer remains after each, and none after the last
-    pub reads_remains : remains (record_count m) b.reader ≡ down (record_count m)
-    reads_remains = ap (remains (record_count m)) at_first ∙ remains-from b.reader.message (record_count m) 0 (omega (arith, ap record_count lent_is))
+  -- one fewer remains after each, and none after the last
+  pub reads_remains : remains (record_count m) b.reader ≡ down (record_count m)
+  reads_remains = ap (remains (record_count m)) at_first ∙ remains-from b.reader.message (record_count m) 0 (omega (arith, ap record_count lent_is))
 
-    -- behind the last an empty piece and 0, however often it is asked
-    pub reads_end : next_of (reader_after (record_count m) b.reader) ≡ ([], (0, reader_after (record_count m) b.reader))
-    reads_end =
-        let c : 0 + record_count m ≤ record_count b.reader.message.now = omega (arith, ap record_count lent_is) in
-        let e : reader_after (record_count m) b.reader ≡ reader b.reader.message (0 + record_count m) = ap (reader_after (record_count m)) at_first ∙ reader-from b.reader.message (record_count m) 0 c in
-        rw e (next_past b.reader.message (0 + record_count m) (omega (arith, ap record_count lent_is)))
+  -- behind the last an empty piece and 0, however often it is asked
+  pub reads_end : next_of (reader_after (record_count m) b.reader) ≡ ([], (0, reader_after (record_count m) b.reader))
+  reads_end =
+      let c : 0 + record_count m ≤ record_count b.reader.message.now = omega (arith, ap record_count lent_is) in
+      let e : reader_after (record_count m) b.reader ≡ reader b.reader.message (0 + record_count m) = ap (reader_after (record_count m)) at_first ∙ reader-from b.reader.message (record_count m) 0 c in
+      rw e (next_past b.reader.message (0 + record_count m) (omega (arith, ap record_count lent_is)))
 
-  -- a message out of layout gets 11, and hands out nothing
-  module _ (unlaid : in_layout m ≡ false) where
-    pub reads_refused : b.answer ≡ length_refused 11
-    reads_refused = answer-is ∙ sym (reading_refused m unlaid)
+-- a message in layout gets a reader
+pub reads_begin : (m : List ℕ) (r : Result Begun Refusal) → begun_seen r ≡ begin_of m → in_layout m ≡ true → (b : Begun) × (r ≡ Ok b)
+unfolding begin_of
+reads_begin m (Ok b) begun laid = (b, refl)
+reads_begin m (Err e) begun laid = absurd (clash laid (failed_unlaid m e (ap (λ (x : Length × (List ℕ × ℕ)). x.0) begun)))
 
-    none_lent : b.reader.message.now ≡ []
-    unfolding begin_of
-    none_lent = ap (λ (x : Length × (List ℕ × ℕ)). x.1.0) begun ∙ rw unlaid
-
-    pub reads_nothing : next_of b.reader ≡ ([], (0, b.reader))
-    reads_nothing = rw at_first (next_past b.reader.message 0 (omega (arith, ap record_count none_lent, count_empty)))
+-- and one out of layout 11, and no reader
+pub reads_refused : (m : List ℕ) (r : Result Begun Refusal) → begun_seen r ≡ begin_of m → in_layout m ≡ false → (e : Refusal) × (r ≡ Err e) × (refusal_number e ≡ 11)
+unfolding begin_of
+reads_refused m (Ok b) begun unlaid = absurd (clash (read_laid m b.records (ap (λ (x : Length × (List ℕ × ℕ)). x.0) begun)) unlaid)
+reads_refused m (Err e) begun unlaid = (e, refl, ap (λ (x : Length × (List ℕ × ℕ)). x.0.refusal) begun ∙ ap (λ (l : Length). l.refusal) (sym (reading_unlaid m unlaid)))

@@ -1,6 +1,10 @@
 -- What a reader over a lent message hands out, and where it stands.
-use Rattle.std.specs.Prelude.{ℕ, zero, suc, ◌+◌, cond, List, [], ◌∷◌, ltb}
+use Rattle.std.specs.Prelude.{ℕ, zero, suc, ◌+◌, cond, List, [], ◌∷◌, ltb, Ok, Err}
+use Rattle.std.specs.declared.result.Result.{Result}
+use Rattle.encoding.specs.Answer.{length_refused}
 use Rattle.encoding.specs.Pieces.{piece}
+use Rattle.encoding.specs.Refusals.{refusal_number}
+use Rattle.encoding.specs.declared.refusal.Refusal.{Refusal}
 use Rattle.encoding.specs.declared.answer.Length.{Length}
 use Rattle.records.specs.Record.{tree_size}
 use Rattle.message.specs.Layout.{message_tree_place, message_trees, message_ghosts, message_ghost, in_layout}
@@ -19,9 +23,10 @@ place_after m i = cond {A = ℕ} (ltb i (record_count m)) (i + 1) i
 unfoldable pub begin_of : List ℕ → Length × (List ℕ × ℕ)
 begin_of m = (reading_of m, (cond (in_layout m) m [], 0))
 
--- what the code's struct says of it
-abbrev pub begun_seen : Begun → Length × (List ℕ × ℕ)
-begun_seen b = (b.answer, (b.reader.message.now, b.reader.at))
+-- what the code's answer says of it: where it is refused there is no reader, and no byte is lent
+abbrev pub begun_seen : Result Begun Refusal → Length × (List ℕ × ℕ)
+begun_seen (Ok b) = (record { refusal = 0; length = b.records }, (b.reader.message.now, b.reader.at))
+begun_seen (Err e) = (length_refused (refusal_number e), ([], 0))
 
 -- the reader moved on, over the same lent message
 abbrev pub moved_on : Reader → Reader

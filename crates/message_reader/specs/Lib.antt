@@ -1,3 +1,2 @@
 -- Document 01, "Messages and assembly": a reader over the lent message.
 pub mod Handing
-pub mod Means

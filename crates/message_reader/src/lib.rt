@@ -4,22 +4,22 @@
 ghost use Rattle.std.specs.Prelude.{◌≡◌};
 ghost use Rattle.message_reader.specs.Handing.{begin_of, begun_seen, next_of, step_seen};
 
-use encoding::answer::Length;
+use encoding::refusal::Refusal;
 
 mod cursor;
 pub mod place;
 
-// The lent message and the place of the next record. Its fields are private, so that every reader of a caller comes from `begin`, over a message in layout or over no byte.
+// The lent message and the place of the next record. Its fields are private, so that every reader of a caller comes from `begin`, over a message in layout.
 #[derive(Clone, Copy)]
 pub struct Reader<'a> {
     message: &'a [u8],
     at: u64,
 }
 
-// A reader, and how many records it has or why the message is refused.
+// A reader, and how many records it has.
 #[derive(Clone, Copy)]
 pub struct Begun<'a> {
-    pub answer: Length,
+    pub records: u64,
     pub reader: Reader<'a>,
 }
 
@@ -31,19 +31,13 @@ pub struct Step<'a> {
     pub reader: Reader<'a>,
 }
 
-// Make a reader (11).
-pub fn begin<'a>(message: &'a [u8]) -> Begun<'a>
+// Make a reader (11): over a refused message there is none.
+pub fn begin<'a>(message: &'a [u8]) -> Result<Begun<'a>, Refusal>
     ensures { begun_seen result ≡ begin_of message.now }
 {
-    let answer = message::begin_reading(message);
-    let lent = cursor::lent_unless(message, answer.refusal);
-    Begun {
-        answer,
-        reader: Reader {
-            message: lent,
-            at: 0,
-        },
-    }
+    let records = message::begin_reading(message)?;
+    let reader = Reader { message, at: 0 };
+    Ok(Begun { records, reader })
 }
 
 // The next record, as a part of the lent message: after the last an empty piece and 0.

@@ -1,23 +1,19 @@
-use Rattle.message.proofs.Reading.{reading_refused, reading_begins}
+use Rattle.std.proofs.lemmas.Result.{err_from_is_err_and}
+use Rattle.message.proofs.Reading.{reading_refused, checked_layout, reading_begins}
 use Rattle.message.proofs.Layouts.{size_length, layout_size}
-use borrow.Author.Tests.{not-true, not-false}
 use native.Mathlib.Omega.{arith}
-use mathlib.Core.Path.{sym, ◌∙◌}
-use borrow.Author.Rules.{rules}
 use Rattle.message.proofs.begin_reading.Goals as goal
 
-pub returns-then-not-in_layout : goal.returns-then-not-in_layout
-returns-then-not-in_layout c = c.refused.ensures ∙ reading_refused _ (sym c.in_layout.ensures ∙ c.if-not-in_layout.true)
+pub returns-in_err-check_message : goal.returns-in_err-check_message
+returns-in_err-check_message c =
+    let p = err_from_is_err_and c.from_residual.result c.from_residual.ensures.1 in
+    rw (p.1, p.2) (reading_refused c.args.message.now _ c.in_err-check_message.ensures)
 
 pub tree_count-trees-requires : goal.tree_count-trees-requires
-tree_count-trees-requires c = omega (arith, size_length _ (layout_size _ (sym c.in_layout.ensures ∙ c.if-not-in_layout.false)))
+tree_count-trees-requires c = omega (arith, size_length _ (layout_size _ (checked_layout _ c.in_ok-check_message.ensures)))
 
 pub ghost_count-ghosts-requires : goal.ghost_count-ghosts-requires
-ghost_count-ghosts-requires c = omega (arith, size_length _ (layout_size _ (sym c.in_layout.ensures ∙ c.if-not-in_layout.false)))
+ghost_count-ghosts-requires c = omega (arith, size_length _ (layout_size _ (checked_layout _ c.in_ok-check_message.ensures)))
 
 pub returns : goal.returns
-returns c =
-    let in_layout_call = c.in_layout in
-    let if1 = c.if-not-in_layout in
-    let tree_count_call = c.tree_count-trees in
-    reading_begins _ (sym in_layout_call.ensures ∙ if1.false) tree_count_call.ensures c.ghost_count-ghosts.ensures
+returns c = reading_begins _ (checked_layout _ c.in_ok-check_message.ensures) c.tree_count-trees.ensures c.ghost_count-ghosts.ensures

@@ -1,7 +1,5 @@
 use Rattle.message.specs.Calls.{message_refusal}
 use Rattle.encoding.specs.Refusal.{first_failed}
-use borrow.Author.Tests.{not-true, not-false}
-use borrow.Author.Rules.{rules}
 use Rattle.message.proofs.check_message.Goals as goal
 
 pub returns-then-not-in_layout : goal.returns-then-not-in_layout

@@ -1,6 +1,5 @@
 use Rattle.build_all.proofs.Rows.{from_kept, room_of}
 use Rattle.message_build.proofs.Answers.{range_short, range_done}
-use borrow.Author.Rules.{rules}
 use Rattle.build_all.proofs.each.build_messages.Goals as goal
 
 pub returns-then-out-total : goal.returns-then-out-total

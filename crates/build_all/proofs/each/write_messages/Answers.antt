@@ -1,20 +1,12 @@
-use Rattle.build_all.proofs.Rows.{to_next, Writing, write_start, write_room, rest_room, write_next, write_done, put_written}
-use lib.ListN.{length}
+use Rattle.build_all.proofs.Rows.{to_next, write_start, write_room, rest_room, write_next, write_done, put_written}
 use native.Mathlib.Omega.{arith}
-use mathlib.Core.Path.{◌≡◌, refl, ◌∙◌}
-use Prim.Native.Nat.{◌-◌, ◌^◌, ◌≤◌, ◌<◌}
-use borrow.Author.Rules.{rules}
+use mathlib.Core.Path.{refl, ◌∙◌}
 use Rattle.build_all.proofs.each.write_messages.Goals as goal
-
-pub overflow_cast-q : goal.overflow_cast-q
-overflow_cast-q c =
-    let window-of = c.window_of-window in
-    omega (arith, window-of.ensures.0.ordered, window-of.ensures.1)
 
 pub loop-q-init : goal.loop-q-init
 loop-q-init c =
     let window-of = c.window_of-window in
-    ((window-of.ensures.0.ordered, omega arith), (refl, write_start _ _ _ _ _ _ window-of.ensures.0))
+    (omega arith, (refl, write_start _ _ _ _ _ _ window-of.ensures.0))
 
 pub slice_bounds-write_to-count : goal.slice_bounds-write_to-count
 slice_bounds-write_to-count c =
@@ -23,7 +15,7 @@ slice_bounds-write_to-count c =
     let loop-test = c.loop-q-test in
     let window-of = c.window_of-window in
     let pre = c.requires in
-    omega (arith, write_room args.part.now args.old.now args.new.now args.p args.epoch args.out.now loop.invariant.1.1 loop-test.true window-of.ensures.0 pre.1)
+    omega (arith, write_room args.from.part.now args.from.old.now args.from.new.now args.from.rank args.epoch args.out.now loop.invariant.1.1 loop-test.true window-of.ensures.0 pre.1)
 
 pub slice_bounds-write_to-start : goal.slice_bounds-write_to-start
 slice_bounds-write_to-start c =
@@ -32,7 +24,7 @@ slice_bounds-write_to-start c =
     let loop-test = c.loop-q-test in
     let window-of = c.window_of-window in
     let pre = c.requires in
-    omega (arith, write_room args.part.now args.old.now args.new.now args.p args.epoch args.out.now loop.invariant.1.1 loop-test.true window-of.ensures.0 pre.1)
+    omega (arith, write_room args.from.part.now args.from.old.now args.from.new.now args.from.rank args.epoch args.out.now loop.invariant.1.1 loop-test.true window-of.ensures.0 pre.1)
 
 pub write_to-at-requires : goal.write_to-at-requires
 write_to-at-requires c =
@@ -52,13 +44,7 @@ overflow_add-at c =
     let loop = c.loop-q in
     let loop-test = c.loop-q-test in
     let write-to = c.write_to-at in
-    omega (arith, write_room args.part.now args.old.now args.new.now args.p args.epoch args.out.now loop.invariant.1.1 loop-test.true window-of.ensures.0 pre.1, write-to.ensures.0, loop.invariant.1.1.same_length, loop.invariant.0.1)
-
-pub overflow_add-q : goal.overflow_add-q
-overflow_add-q c = omega (arith, c.loop-q-test.true)
-
-pub loop-q-smaller : goal.loop-q-smaller
-loop-q-smaller c = omega (arith, c.loop-q-test.true)
+    omega (arith, write_room args.from.part.now args.from.old.now args.from.new.now args.from.rank args.epoch args.out.now loop.invariant.1.1 loop-test.true window-of.ensures.0 pre.1, write-to.ensures.0, loop.invariant.1.1.same_length, loop.invariant.0)
 
 pub loop-q-preserved : goal.loop-q-preserved
 loop-q-preserved c =
@@ -68,7 +54,7 @@ loop-q-preserved c =
     let window-of = c.window_of-window in
     let pre = c.requires in
     let write-to = c.write_to-at in
-    ((omega (arith, loop-test.true), loop.invariant.0.1), (marks.given ∙ loop.invariant.1.0, write_next _ _ _ _ _ _ loop.invariant.1.1 loop-test.true window-of.ensures.0 pre.1 write-to.ensures.0 (put_written _ _ _ _ _ _ loop.invariant.1.1 loop-test.true window-of.ensures.0 pre.1 write-to.ensures.1)))
+    (loop.invariant.0, (marks.given ∙ loop.invariant.1.0, write_next _ _ _ _ _ _ loop.invariant.1.1 loop-test.true window-of.ensures.0 pre.1 write-to.ensures.0 (put_written _ _ _ _ _ _ loop.invariant.1.1 loop-test.true window-of.ensures.0 pre.1 write-to.ensures.1)))
 
 pub shape_of-marks : goal.shape_of-marks
 shape_of-marks c = c.loop-q.invariant.1.0
@@ -80,4 +66,4 @@ pub returns : goal.returns
 returns c =
     let loop = c.loop-q in
     let window-of = c.window_of-window in
-    write_done _ _ _ _ _ _ loop.invariant.1.1 loop.invariant.0.0 c.loop-q-test.false window-of.ensures.0
+    write_done _ _ _ _ _ _ loop.invariant.1.1 (loop.auto.q-end window-of.ensures.0.ordered) c.loop-q-test.false window-of.ensures.0

@@ -1,5 +1,4 @@
 use Rattle.message.specs.Layout.{message_dimension}
-use borrow.Author.Rules.{rules}
 use Rattle.message.proofs.header.dimension.Goals as goal
 
 pub returns : goal.returns

@@ -1,5 +1,4 @@
 use Rattle.message.specs.Layout.{message_epoch}
-use borrow.Author.Rules.{rules}
 use Rattle.message.proofs.header.epoch.Goals as goal
 
 pub returns : goal.returns

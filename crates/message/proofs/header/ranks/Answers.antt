@@ -1,5 +1,4 @@
 use Rattle.message.specs.Layout.{message_p}
-use borrow.Author.Rules.{rules}
 use Rattle.message.proofs.header.ranks.Goals as goal
 
 pub returns : goal.returns

@@ -1,5 +1,4 @@
 use Rattle.message.specs.Layout.{message_receiver}
-use borrow.Author.Rules.{rules}
 use Rattle.message.proofs.header.receiver.Goals as goal
 
 pub returns : goal.returns

@@ -1,5 +1,4 @@
 use Rattle.message.specs.Layout.{message_sender}
-use borrow.Author.Rules.{rules}
 use Rattle.message.proofs.header.sender.Goals as goal
 
 pub returns : goal.returns

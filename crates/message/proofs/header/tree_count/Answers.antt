@@ -1,5 +1,4 @@
 use Rattle.message.specs.Layout.{message_trees}
-use borrow.Author.Rules.{rules}
 use Rattle.message.proofs.header.tree_count.Goals as goal
 
 pub returns : goal.returns

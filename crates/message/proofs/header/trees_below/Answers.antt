@@ -1,5 +1,4 @@
 use Rattle.message.specs.Layout.{message_k}
-use borrow.Author.Rules.{rules}
 use Rattle.message.proofs.header.trees_below.Goals as goal
 
 pub returns : goal.returns

@@ -1,5 +1,4 @@
 use Rattle.message.proofs.Checking.{first_read, after_read}
-use borrow.Author.Rules.{rules}
 use Rattle.message.proofs.layout.after_last.Goals as goal
 
 pub returns-then-i-eq0 : goal.returns-then-i-eq0

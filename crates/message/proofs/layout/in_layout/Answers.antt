@@ -1,10 +1,8 @@
 use Rattle.message.proofs.Checking.{trees_fit, ghosts_fit, trees_fail, layout_read}
 use Rattle.message.proofs.Layouts.{size_length}
 use Rattle.message.specs.Layout.{in_layout}
-use borrow.Author.Tests.{not-true, not-false}
 use native.Mathlib.Omega.{arith}
 use mathlib.Core.Path.{sym, ◌∙◌}
-use borrow.Author.Rules.{rules}
 use Rattle.message.proofs.layout.in_layout.Goals as goal
 
 pub returns-then-not-size_laid : goal.returns-then-not-size_laid

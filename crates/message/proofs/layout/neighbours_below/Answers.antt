@@ -1,13 +1,8 @@
-use Prim.Native.Nat.{◌≤◌, ◌-◌}
-use mathlib.Core.Path.{◌≡◌, sym}
-use mathlib.Core.Bool.{true}
+use mathlib.Core.Path.{sym}
 use native.Mathlib.Omega.{arith}
-use lib.Dec.{ltb}
 use borrow.Author.Tests.{lt-ltb, le-ltb}
 use Rattle.encoding.specs.Below.{all_below}
-use Rattle.encoding.specs.Pieces.{piece}
 use Rattle.encoding.proofs.Below.{all_more, all_fails, all_to}
-use Rattle.records.specs.Record.{core_size, neighbour_of}
 use Rattle.message.proofs.Checking.{six_faces}
 use borrow.Author.Rules.{rules}
 use Rattle.message.proofs.layout.neighbours_below.Goals as goal
@@ -23,7 +18,7 @@ pub returns-then-below-neighbour_of : goal.returns-then-below-neighbour_of
 returns-then-below-neighbour_of c = sym (all_fails _ _ _ c.loop-face-test.true (rw (← c.neighbour_of.ensures) (le-ltb _ _ c.if-below-neighbour_of.true)))
 
 pub loop-face-preserved : goal.loop-face-preserved
-loop-face-preserved c = (omega arith, all_more _ _ c.loop-face.invariant.1 (rw (← c.neighbour_of.ensures) (lt-ltb _ _ c.if-below-neighbour_of.false)))
+loop-face-preserved c = all_more _ _ c.loop-face.invariant (rw (← c.neighbour_of.ensures) (lt-ltb _ _ c.if-below-neighbour_of.false))
 
 pub returns : goal.returns
-returns c = sym (all_to _ _ _ c.loop-face.invariant.0 (omega arith) c.loop-face.invariant.1)
+returns c = sym (all_to _ _ _ c.loop-face.auto.face-end (omega arith) c.loop-face.invariant)

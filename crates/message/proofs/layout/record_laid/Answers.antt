@@ -1,5 +1,4 @@
 use Rattle.message.proofs.Checking.{record_read}
-use borrow.Author.Rules.{rules}
 use Rattle.message.proofs.layout.record_laid.Goals as goal
 
 pub returns : goal.returns

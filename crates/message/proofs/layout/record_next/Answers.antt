@@ -1,5 +1,4 @@
 use Rattle.message.proofs.Checking.{next_read}
-use borrow.Author.Rules.{rules}
 use Rattle.message.proofs.layout.record_next.Goals as goal
 
 pub returns : goal.returns

@@ -1,12 +1,12 @@
-use Rattle.message.proofs.Checking.{six_read}
-use borrow.Author.Rules.{rules}
+use native.Mathlib.Numerals.{add-one}
+use mathlib.Core.Path.{refl}
+use Rattle.encoding.specs.Below.{all_below}
 use Rattle.message.proofs.layout.six_below.Goals as goal
 
-pub returns : goal.returns
-returns c =
-    let neighbour_of_call = c.neighbour_of in
-    let neighbour-of2 = c.neighbour_of-2 in
-    let neighbour-of3 = c.neighbour_of-3 in
-    let neighbour-of4 = c.neighbour_of-4 in
-    let neighbour-of5 = c.neighbour_of-5 in
-    six_read _ _ neighbour_of_call.ensures neighbour-of2.ensures neighbour-of3.ensures neighbour-of4.ensures neighbour-of5.ensures c.neighbour_of-6.ensures
+pub loop-face-init : goal.loop-face-init
+unfolding all_below
+loop-face-init c = refl
+
+pub loop-face-preserved : goal.loop-face-preserved
+unfolding all_below
+loop-face-preserved c = simp (c.loop-face.invariant, c.neighbour_of.ensures, add-one)

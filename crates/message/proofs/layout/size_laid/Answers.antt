@@ -1,6 +1,5 @@
 use Rattle.message.proofs.Checking.{size_short, size_read}
 use mathlib.Core.Path.{sym}
-use borrow.Author.Rules.{rules}
 use Rattle.message.proofs.layout.size_laid.Goals as goal
 
 pub returns-then-message-lt32 : goal.returns-then-message-lt32

@@ -1,9 +1,7 @@
 use Rattle.message.proofs.Reading.{record_none, tree_lent, ghost_lent, none_lent}
 use Rattle.message.proofs.Layouts.{size_length}
-use borrow.Author.Tests.{not-true, not-false}
 use native.Mathlib.Omega.{arith}
 use mathlib.Core.Path.{sym, ◌∙◌}
-use borrow.Author.Rules.{rules}
 use Rattle.message.proofs.place.record_at.Goals as goal
 
 pub returns-then-not-size_laid : goal.returns-then-not-size_laid

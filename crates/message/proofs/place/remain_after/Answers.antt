@@ -1,9 +1,7 @@
 use Rattle.message.proofs.Reading.{remain_none, none_remain, some_remain}
 use Rattle.message.proofs.Layouts.{size_length}
-use borrow.Author.Tests.{not-true, not-false}
 use native.Mathlib.Omega.{arith}
 use mathlib.Core.Path.{sym, ◌∙◌}
-use borrow.Author.Rules.{rules}
 use Rattle.message.proofs.place.remain_after.Goals as goal
 
 pub returns-then-not-size_laid : goal.returns-then-not-size_laid

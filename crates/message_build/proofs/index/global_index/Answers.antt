@@ -1,5 +1,4 @@
 use Rattle.message_build.proofs.Writing.{index_unused, index_tree, index_ghost, index_none}
-use borrow.Author.Rules.{rules}
 use Rattle.message_build.proofs.index.global_index.Goals as goal
 
 pub returns-then-j : goal.returns-then-j

@@ -1,5 +1,4 @@
 use Rattle.part.specs.Means.{rows_with}
-use borrow.Author.Rules.{rules}
 use Rattle.message_build.proofs.index.global_rows.Goals as goal
 
 pub returns : goal.returns

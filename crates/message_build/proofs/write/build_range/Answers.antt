@@ -1,6 +1,5 @@
 use Rattle.message_build.proofs.Answers.{message_room, range_short, range_done}
 use mathlib.Core.Path.{◌∙◌}
-use borrow.Author.Rules.{rules}
 use Rattle.message_build.proofs.write.build_range.Goals as goal
 
 pub returns-then-out-size : goal.returns-then-out-size
@@ -16,7 +15,7 @@ write_message-requires c =
     let going = c.going-g in
     let ghost_at = c.ghost_at-size in
     let if1 = c.if-out-size in
-    message_room _ _ _ _ _ _ _ pre.0 _ _ _ _ going.ensures ghost_at.ensures if1.false
+    message_room _ _ _ _ _ _ _ pre.0.0 _ _ _ _ going.ensures ghost_at.ensures if1.false
 
 pub returns : goal.returns
 returns c =

@@ -1,5 +1,4 @@
 use Rattle.message_build.proofs.Writing.{core_written}
-use borrow.Author.Rules.{rules}
 use Rattle.message_build.proofs.write.write_core.Goals as goal
 
 pub returns : goal.returns

@@ -1,13 +1,6 @@
 use Rattle.message_build.proofs.Ghosts.{past_none, past_on}
-use Rattle.message_build.specs.Means.{Past}
-use Rattle.part.specs.Part.{part_core}
-use Rattle.positions.proofs.Members.{member_behind, Going, ghosts_start, ghosts_room, ghosts_next, ghosts_end}
-use Rattle.part.specs.Layout.{ghost_place}
-use Rattle.bits.specs.Bits.{in_set}
+use Rattle.positions.proofs.Members.{member_behind, ghosts_start, ghosts_room, ghosts_next, ghosts_end}
 use native.Mathlib.Omega.{arith}
-use Prim.Native.Nat.{◌*◌, ◌-◌}
-use lib.ListN.{length}
-use borrow.Author.Rules.{rules}
 use Rattle.message_build.proofs.write.write_ghosts.Goals as goal
 
 pub loop-k-init : goal.loop-k-init

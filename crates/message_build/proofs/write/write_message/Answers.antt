@@ -1,6 +1,5 @@
 use Rattle.message.specs.Layout.{message_header_bytes}
 use Rattle.message_build.proofs.Whole.{header_held, header_room, records_room, message_written}
-use borrow.Author.Rules.{rules}
 use Rattle.message_build.proofs.write.write_message.Goals as goal
 
 pub dimension-dimension-requires : goal.dimension-dimension-requires

@@ -1,6 +1,5 @@
 use Rattle.message_build.proofs.Whole.{trees_room, ghosts_room, records_written}
 use mathlib.Core.Path.{refl}
-use borrow.Author.Rules.{rules}
 use Rattle.message_build.proofs.write.write_records.Goals as goal
 
 pub write_trees-requires : goal.write_trees-requires

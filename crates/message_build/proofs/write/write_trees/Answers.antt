@@ -1,7 +1,5 @@
-use Prim.Native.Nat.{◌+◌, ◌-◌}
 use native.Mathlib.Omega.{arith}
-use Rattle.message_build.proofs.Trees.{place_is, TreesSent, trees_start, tree_from_lem, tree_room, trees_next, trees_end}
-use borrow.Author.Rules.{rules}
+use Rattle.message_build.proofs.Trees.{place_is, trees_start, tree_from_lem, tree_room, trees_next, trees_end}
 use Rattle.message_build.proofs.write.write_trees.Goals as goal
 
 pub loop-k-init : goal.loop-k-init

@@ -1,9 +1,6 @@
-use lib.ListN.{length}
-use Prim.Native.Nat.{◌-◌, ◌*◌}
 use native.Mathlib.Omega.{arith}
 use Rattle.positions.proofs.Members.{member_behind}
-use Rattle.message_ghosts.proofs.Walking.{Walk, walk_start, walk_goes, walk_stays, walk_end, member_record, member_fits, member_below}
-use borrow.Author.Rules.{rules}
+use Rattle.message_ghosts.proofs.Walking.{walk_start, walk_goes, walk_stays, walk_end, member_record, member_fits, member_below}
 use Rattle.message_ghosts.proofs.marks.mark_near.Goals as goal
 
 pub overflow_cast-end : goal.overflow_cast-end
@@ -22,7 +19,7 @@ pub number_at-k-requires : goal.number_at-k-requires
 number_at-k-requires c =
     let pre = c.requires in
     let loop = c.loop-j in
-    (member_fits _ _ _ _ _ _ pre.0 pre.1 _ (loop.invariant.member (omega arith)), pre.3)
+    member_fits _ _ _ _ _ _ pre.0 pre.1 _ (loop.invariant.member (omega arith))
 
 pub overflow_add-i : goal.overflow_add-i
 overflow_add-i c = omega (arith, c.requires.1.few)
@@ -35,7 +32,7 @@ goes-requires c =
     let pre = c.requires in
     let loop = c.loop-j in
     let number_at_call = c.number_at-k in
-    (member_record _ _ _ _ _ _ pre.0 pre.1 _ (loop.invariant.member (omega arith)), number_at_call.ensures, pre.3, pre.4)
+    (member_record _ _ _ _ _ _ pre.0 pre.1 _ (loop.invariant.member (omega arith)), number_at_call.ensures, pre.3)
 
 pub add_member-requires : goal.add_member-requires
 add_member-requires c =

@@ -1,21 +1,19 @@
-use Prim.Native.Nat.{◌≤◌, ◌-◌}
-use mathlib.Core.Path.{◌≡◌, refl}
+use mathlib.Core.Path.{refl}
 use native.Mathlib.Omega.{arith}
 use Rattle.encoding.specs.Below.{any_below}
-use Rattle.message_ghosts.specs.Means.{number_in, beside_before}
+use Rattle.message_ghosts.specs.Means.{beside_before}
 use Rattle.message_ghosts.proofs.Reading.{neighbour_before, beside_more, beside_end}
-use borrow.Author.Rules.{rules}
 use Rattle.message_ghosts.proofs.rule.beside_before.Goals as goal
 
 pub loop-face-init : goal.loop-face-init
 unfolding beside_before any_below
-loop-face-init c = (omega arith, refl)
+loop-face-init c = refl
 
 pub across-requires : goal.across-requires
-across-requires c = (c.requires.0.there _ c.loop-face-test.true, c.requires.1)
+across-requires c = c.requires.0.there _ c.loop-face-test.true
 
 pub sent_before-found-requires : goal.sent_before-found-requires
-sent_before-found-requires c = c.requires.2
+sent_before-found-requires c = c.requires.1
 
 pub loop-face-preserved : goal.loop-face-preserved
 loop-face-preserved c =
@@ -23,7 +21,7 @@ loop-face-preserved c =
     let pre = c.requires in
     let loop-test = c.loop-face-test in
     let across = c.across in
-    (omega arith, beside_more _ _ _ _ _ _ _ loop.invariant.1 (neighbour_before _ _ _ _ _ _ _ _ _ pre.0 loop-test.true across.ensures c.sent_before-found.ensures))
+    beside_more _ _ _ _ _ _ _ loop.invariant (neighbour_before _ _ _ _ _ _ _ _ _ pre.0 loop-test.true across.ensures c.sent_before-found.ensures)
 
 pub returns : goal.returns
-returns c = beside_end _ _ _ _ _ _ _ _ c.loop-face.invariant.0 (omega arith) c.loop-face.invariant.1
+returns c = beside_end _ _ _ _ _ _ _ _ c.loop-face.auto.face-end (omega arith) c.loop-face.invariant

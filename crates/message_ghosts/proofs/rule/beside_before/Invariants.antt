@@ -1,14 +1,7 @@
-use Prim.Native.Nat.{◌≤◌, ◌-◌}
-use mathlib.Core.Path.{◌≡◌, refl}
-use native.Mathlib.Omega.{arith}
-use Rattle.encoding.specs.Below.{any_below}
-use Rattle.message_ghosts.specs.Means.{number_in, beside_before}
-use Rattle.message_ghosts.proofs.Reading.{neighbour_before, beside_more, beside_end}
-use borrow.Author.Rules.{rules}
+use mathlib.Core.Path.{◌≡◌}
+use Rattle.message_ghosts.specs.Means.{number_in}
+use Rattle.message_ghosts.specs.MeansSent.{is_beside_before}
 use Rattle.message_ghosts.proofs.rule.beside_before.Given as goal
 
 abbrev pub invariant-loop-face : goal.invariant-loop-face
-invariant-loop-face l = (l.face ≤ l.faces) × (l.found ≡ beside_before l.part l.old l.new l.q l.low (number_in l.part l.count l.j) l.face)
-
-abbrev pub decreases-loop-face : goal.decreases-loop-face
-decreases-loop-face l = l.faces - l.face
+invariant-loop-face l = l.found ≡ is_beside_before l.sending (number_in l.sending.part.now l.count l.local.0) l.face

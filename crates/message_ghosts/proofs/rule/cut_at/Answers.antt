@@ -1,13 +1,11 @@
 use native.Mathlib.Omega.{arith}
 use Rattle.message_ghosts.proofs.Ranging.{cut_made}
-use borrow.Author.Rules.{rules}
 use Rattle.message_ghosts.proofs.rule.cut_at.Goals as goal
 
-pub returns-then-k-low : goal.returns-then-k-low
-returns-then-k-low c = cut_made _ _ _ _ (omega arith) (omega arith) (λ x a b. ((λ d. omega arith), (λ d. omega arith)))
-
-pub returns-then-high-k : goal.returns-then-high-k
-returns-then-high-k c = cut_made _ _ _ _ (omega arith) (omega arith) (λ x a b. ((λ d. omega arith), (λ d. omega arith)))
+pub overflow_cast-result : goal.overflow_cast-result
+overflow_cast-result c = omega (arith, c.clamp.ensures)
 
 pub returns : goal.returns
-returns c = cut_made _ _ _ _ (omega arith) (omega arith) (λ x a b. ((λ d. d), (λ d. d)))
+returns c =
+    let k = c.clamp.ensures in
+    cut_made _ _ _ _ (omega (arith, k)) (omega (arith, k)) (λ x a b. ((λ d. omega (arith, k)), (λ d. omega (arith, k))))

@@ -1,7 +1,6 @@
 use native.Mathlib.Omega.{arith}
 use Rattle.message_ghosts.proofs.Reading.{rank_row, rank_new_row}
 use Rattle.message_ghosts.proofs.Ranging.{new_range, ranged}
-use borrow.Author.Rules.{rules}
 use Rattle.message_ghosts.proofs.rule.ranges_of.Goals as goal
 
 pub first_tree-first-requires : goal.first_tree-first-requires

@@ -1,4 +1,3 @@
-use borrow.Author.Rules.{rules}
 use Rattle.message_ghosts.proofs.rule.sent_before.Goals as goal
 
 pub returns : goal.returns

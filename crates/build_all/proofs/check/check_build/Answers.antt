@@ -1,0 +1,44 @@
+use Rattle.std.proofs.lemmas.Result.{err_from_is_err_and}
+use Rattle.encoding.proofs.Refusals.{number_positive}
+use mathlib.Core.Path.{refl}
+use Rattle.build_all.proofs.Answers.{fails_tables, fails_sender, rank_known, fails_part, none_fails}
+use Rattle.pattern.proofs.Answers.{old_ranks_lem}
+use Rattle.build_all.proofs.check.check_build.Goals as goal
+
+pub returns-in_err-check_tables : goal.returns-in_err-check_tables
+returns-in_err-check_tables c =
+    let p = err_from_is_err_and c.from_residual.result c.from_residual.ensures.1 in
+    rw (p.1, p.2) (fails_tables _ _ _ _ c.in_err-check_tables.ensures (number_positive _))
+
+pub ranks-requires : goal.ranks-requires
+ranks-requires c =
+    let shared-slice-known2 = c.shared_slice_known-2-1 in
+    let shared-slice-known3 = c.shared_slice_known-3-1 in
+    old_ranks_lem _ _ _ c.in_ok-check_tables.ensures (λ i. (shared-slice-known2.given i).fits) (λ i. (shared-slice-known3.given i).fits) refl
+
+pub returns-then-ranks-p : goal.returns-then-ranks-p
+returns-then-ranks-p c =
+    let ranks = c.ranks in
+    fails_sender _ _ _ _ c.in_ok-check_tables.ensures refl ranks.ensures.0 c.if-ranks-p.true
+
+pub part_sound-requires : goal.part_sound-requires
+part_sound-requires c =
+    let args = c.args in
+    let ranks = c.ranks in
+    let shared-slice-known2 = c.shared_slice_known-2-1 in
+    let shared-slice-known3 = c.shared_slice_known-3-1 in
+    rank_known args.part.now _ _ _ c.in_ok-check_tables.ensures refl ranks.ensures.0 c.if-ranks-p.false (λ i. (shared-slice-known2.given i).fits) (λ i. (shared-slice-known3.given i).fits)
+
+pub returns-then-not-part_sound : goal.returns-then-not-part_sound
+returns-then-not-part_sound c =
+    let ranks = c.ranks in
+    let if2 = c.if-ranks-p in
+    let part_sound_call = c.part_sound in
+    fails_part _ _ _ _ c.in_ok-check_tables.ensures refl ranks.ensures.0 if2.false part_sound_call.ensures (c.if-not-part_sound.true)
+
+pub returns : goal.returns
+returns c =
+    let ranks = c.ranks in
+    let if2 = c.if-ranks-p in
+    let part_sound_call = c.part_sound in
+    none_fails _ _ _ _ c.in_ok-check_tables.ensures refl ranks.ensures.0 if2.false part_sound_call.ensures (c.if-not-part_sound.false)

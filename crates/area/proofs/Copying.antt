@@ -1,46 +1,18 @@
--- Laws of copying words.
-use Prim.Native.Nat.{ℕ, ◌+◌, ◌-◌, ◌*◌, ◌≤◌, ◌<◌}
+-- A write to a part of a buffer is a splice.
+use Prim.Native.Nat.{ℕ, ◌+◌, ◌≤◌}
 use native.Mathlib.Omega.{arith}
-use mathlib.Core.Path.{◌≡◌, refl, sym, ap, ◌∙◌}
-use mathlib.Core.List.{List, ◌++◌}
+use mathlib.Core.Path.{◌≡◌}
+use mathlib.Core.List.{List}
 use lib.ListN.{length}
-use lib.Seq.{take_all}
-use Rattle.encoding.specs.Numbers.{u64_at, put_u64, le_put, le_bytes}
-use Rattle.encoding.specs.Pieces.{piece, splice, Bytes}
-use Rattle.encoding.proofs.Numbers.{at_bytes, length_put}
-use Rattle.encoding.proofs.Pieces.{piece_length, piece_add, splice_none, splice_then}
-use Rattle.area.specs.Means.{WordsRoom}
+use lib.Seq.{drop-drop}
+use borrow.Rule.Slice.PartMut.{put_mid}
+use Rattle.encoding.specs.Pieces.{splice}
+use Rattle.encoding.proofs.Pieces.{length_splice}
 
--- the first i words are copied
-pub record Copied (src dst₀ : List ℕ) (words to i : ℕ) (dst : List ℕ) : Type 0 where
-  pub within : i ≤ words
-  pub same_length : length dst ≡ length dst₀
-  pub written : dst ≡ splice dst₀ to (piece src 0 (8 * i))
+module _ (bs : List ℕ) (a k : ℕ) {p q : List ℕ} (is : p ≡ q) (whole : length q ≡ k) where
+  pub part_written : put_mid a k bs p ≡ splice bs a q
+  unfolding splice
+  part_written = rw (is, whole, drop-drop k a bs)
 
-module _ (src dst₀ : List ℕ) (words to : ℕ) (fits : WordsRoom src dst₀ words to) where
-  pub copy_start : Copied src dst₀ words to 0 dst₀
-  unfolding piece
-  copy_start = record { within = omega arith; same_length = refl; written = sym (splice_none dst₀ to) }
-
-  pub copy_more : {i w : ℕ} {dst last : List ℕ} → Bytes src → Copied src dst₀ words to i dst → i < words → w ≡ u64_at src (8 * i) → last ≡ put_u64 dst (to + 8 * i) w → Copied src dst₀ words to (i + 1) last
-  unfolding le_put
-  copy_more {i} {w} {dst} {last} b s h r p =
-      let here : 8 * i + 8 ≤ length src = omega (arith, fits.whole) in
-      let room : to + 8 * i + 8 ≤ length dst₀ = omega (arith, fits.room) in
-      let l : length (piece src 0 (8 * i)) ≡ 8 * i = piece_length src 0 (8 * i) (omega arith) in
-      let q : le_bytes 8 w ≡ piece src (8 * i) 8 = rw r (at_bytes 8 src (8 * i) b here) in
-      let z : 0 + 8 * i ≡ 8 * i = omega arith in
-      let e : 8 * (i + 1) ≡ 8 * i + 8 = omega arith in
-      let j : piece src 0 (8 * (i + 1)) ≡ piece src 0 (8 * i) ++ le_bytes 8 w =
-      ap (piece src 0) e ∙ piece_add src 0 (8 * i) 8 ∙ ap (λ (m : ℕ). piece src 0 (8 * i) ++ piece src m 8) z ∙ ap (λ (x : List ℕ). piece src 0 (8 * i) ++ x) (sym q) in
-      record {
-        within = omega arith;
-        same_length = ap length p ∙ length_put 8 dst (to + 8 * i) w (omega (arith, s.same_length)) ∙ s.same_length;
-        written = splice_then dst₀ to (8 * i) (piece src 0 (8 * i)) (le_bytes 8 w) l (omega arith) s.written p ∙ ap (splice dst₀ to) (sym j);
-      }
-
-  pub copy_done : {i : ℕ} {dst : List ℕ} → Copied src dst₀ words to i dst → words ≤ i → dst ≡ splice dst₀ to src
-  unfolding piece
-  copy_done {i} s h =
-      let e : 8 * i ≡ length src = omega (arith, s.within, fits.whole) in
-      s.written ∙ ap (splice dst₀ to) (take_all (8 * i) src (omega arith))
+  pub part_length : a + k ≤ length bs → length (put_mid a k bs p) ≡ length bs
+  part_length h = rw part_written (length_splice bs a q (omega arith))

@@ -18,7 +18,7 @@ use Rattle.records.specs.Record.{core_size, tree_size}
 use Rattle.mesh.specs.Mesh.{dimension_ok}
 use Rattle.area.specs.Layout.{heard_words, new_place, words_place, slots_place, ghost_slots_place, area_size}
 use Rattle.area.specs.Area.{area_dimension, area_k, area_p, area_rank, area_count, area_old, area_new, area_bound, area_header_sound}
-use Rattle.area.specs.Means.{tables_end, words_end, RankIn, SizedArea, tables_fit, HeaderHolds, Tabled}
+use Rattle.area.specs.Means.{tables_end, words_end, RankIn, TablesRoom, SizedArea, tables_fit, HeaderHolds, Tabled}
 use Rattle.area.proofs.Ranges.{range_fits_lem, count_high_lem}
 
 -- ---- a table in a buffer
@@ -82,25 +82,27 @@ size_long a h = omega (arith, ghosts_place_is (area_p a) (area_count a))
 -- ---- the tables, lent as parts of the area
 
 module _ (a : List ℕ) {P middle end : ℕ} (is_p : P ≡ area_p a) (is-middle : middle ≡ new_place P) (is_end : end ≡ words_place P) where
-  old-lent : take (middle - 32) (drop 32 a) ≡ area_old a
-  unfolding area_old piece new_place
-  old-lent =
+  pub tables_lent : (take (middle - 32) (drop 32 a) ≡ area_old a) × (take (end - middle) (drop middle a) ≡ area_new a)
+  unfolding area_old area_new piece new_place words_place
+  tables_lent =
       let e : middle - 32 ≡ 8 * (area_p a + 1) = omega arith in
-      ap (λ (m : ℕ). take m (drop 32 a)) e
-
-  new-lent : take (end - middle) (drop middle a) ≡ area_new a
-  unfolding area_new piece new_place words_place
-  new-lent =
-      let e : end - middle ≡ 8 * (area_p a + 1) = omega arith in
+      let n : end - middle ≡ 8 * (area_p a + 1) = omega arith in
       let d : middle ≡ 32 + 8 * (area_p a + 1) = omega arith in
-      ap₂ (λ (m o : ℕ). take m (drop o a)) e d
+      (ap (λ (m : ℕ). take m (drop 32 a)) e, ap₂ (λ (m o : ℕ). take m (drop o a)) n d)
 
-  pub tabled : HeaderHolds a → Tabled a (take (middle - 32) (drop 32 a)) (take (end - middle) (drop middle a))
-  tabled h = record { header = h; is_old = old-lent; is_new = new-lent }
+pub tables_room : {a : List ℕ} → HeaderHolds a → TablesRoom a
+tables_room h = record { few = h.ranks_high; tables_long = omega (arith, h.long) }
 
-  pub sized_area : {dimension n size : ℕ} {b : Bool} → dimension ≡ area_dimension a → n ≡ area_count a → b ≡ rank_count_ok P → b ≡ true → size ≡ area_size dimension P n → size ≤ length a
-      → SizedArea a (take (middle - 32) (drop 32 a)) (take (end - middle) (drop middle a))
-  sized_area d m r ok s h = record { ranks_fit = rw (← is_p) (sym r ∙ ok); long = rw (← d, ← is_p, ← m, ← s) h; is_old = old-lent; is_new = new-lent }
+pub tabled : {a old new : List ℕ} → (old ≡ area_old a) × (new ≡ area_new a) → HeaderHolds a → Tabled a old new
+tabled t h = record { header = h; is_old = t.0; is_new = t.1 }
+
+module _ (a : List ℕ) {P : ℕ} (is_p : P ≡ area_p a) where
+  pub sized_room : (d n : ℕ) {size : ℕ} {b : Bool} → b ≡ rank_count_ok P → b ≡ true → size ≡ area_size d P n → size ≤ length a → TablesRoom a
+  sized_room d n r ok s h = record { few = omega (arith, ranks_within P (sym r ∙ ok)); tables_long = omega (arith, size_low d P n, ap words_end is_p) }
+
+  pub sized_area : {dimension n size : ℕ} {b : Bool} {old new : List ℕ} → (old ≡ area_old a) × (new ≡ area_new a) → dimension ≡ area_dimension a → n ≡ area_count a → b ≡ rank_count_ok P → b ≡ true → size ≡ area_size dimension P n → size ≤ length a
+      → SizedArea a old new
+  sized_area t d m r ok s h = record { ranks_fit = rw (← is_p) (sym r ∙ ok); long = rw (← d, ← is_p, ← m, ← s) h; is_old = t.0; is_new = t.1 }
 
 module _ {a old new : List ℕ} (s : SizedArea a old new) where
   pub sized_long : words_end (area_p a) + tree_size * area_count a + core_size * area_bound a ≤ length a

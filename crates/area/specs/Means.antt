@@ -21,12 +21,12 @@ pub record RankIn (t : List ℕ) (p : ℕ) : Type 0 where
   pub is_valid : valid t ≡ true
   pub rank_below : p < ranks t
 
--- words of 8 bytes, and room for them at byte `to`
-pub record WordsRoom (src dst : List ℕ) (words to : ℕ) : Type 0 where
-  pub whole : length src ≡ 8 * words
-  pub room : to + 8 * words ≤ length dst
-
 -- ---- the header of an area
+
+-- an area that is long enough for its tables
+pub record TablesRoom (a : List ℕ) : Type 0 where
+  pub few : area_p a ≤ max_ranks
+  pub tables_long : tables_end (area_p a) ≤ length a
 
 -- an area that is long enough, and what stands where its tables are
 pub record SizedArea (a old new : List ℕ) : Type 0 where

@@ -5,8 +5,8 @@ ghost use Rattle.offsets.specs.Table.{tree_count};
 ghost use Rattle.area.specs.Area.{area_header_sound};
 ghost use Rattle.area.specs.Means.{RankIn, SizedArea, tables_fit};
 
-use crate::layout::{area_size, new_place, words_place};
-use crate::read::{count, dimension, rank, ranks, trees};
+use crate::layout::area_size;
+use crate::read::{count, dimension, rank, ranks, tables_of, trees};
 
 // How many trees a rank has.
 pub fn tree_count(t: &[u8], rank: usize) -> u32
@@ -47,12 +47,9 @@ pub fn header_sound(area: &[u8]) -> bool
     if area.len() < area_size(dimension(area), ranks, count(area)) {
         return false;
     }
-    let middle = new_place(ranks);
-    let end = words_place(ranks);
-    let old = &area[32..middle];
-    let new = &area[middle..end];
-    if !tables_fit(area, old, new) {
+    let tables = tables_of(area);
+    if !tables_fit(area, tables.old, tables.new) {
         return false;
     }
-    (count(area) == tree_count(new, rank(area))) & (encoding::bytes::read_u32(area, 28) == 0)
+    (count(area) == tree_count(tables.new, rank(area))) & (encoding::bytes::read_u32(area, 28) == 0)
 }

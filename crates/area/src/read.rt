@@ -1,10 +1,10 @@
-// Reading an area: the numbers of its header, and whether a sender is heard.
+// Reading an area: the numbers of its header, its tables, and whether a sender is heard.
 ghost use Rattle.std.specs.Prelude.{◌≡◌, ◌*◌, ◌≤◌, ◌<◌, length};
 ghost use Rattle.area.specs.Layout.{area_header, heard_words};
-ghost use Rattle.area.specs.Area.{area_epoch, area_dimension, area_k, area_p, area_rank, area_count, area_ghosts, heard as is_heard};
-ghost use Rattle.area.specs.Means.{HeaderHolds};
+ghost use Rattle.area.specs.Area.{area_epoch, area_dimension, area_k, area_p, area_rank, area_count, area_ghosts, area_old, area_new, heard as is_heard};
+ghost use Rattle.area.specs.Means.{TablesRoom, HeaderHolds};
 
-use crate::layout::words_place;
+use crate::layout::{new_place, words_place};
 
 pub fn epoch(area: &[u8]) -> u32
     requires { area_header ≤ length area.now }
@@ -56,6 +56,26 @@ pub fn ghosts(area: &[u8]) -> u32
     ensures { result ≡ area_ghosts area.now }
 {
     encoding::bytes::read_u32(area, 24)
+}
+
+// The old and the new table of an area.
+#[derive(Clone, Copy)]
+pub struct Tables<'a> {
+    pub old: &'a [u8],
+    pub new: &'a [u8],
+}
+
+pub fn tables_of(area: &[u8]) -> Tables
+    requires { TablesRoom area.now }
+    ensures { (result.old.now ≡ area_old area.now) × (result.new.now ≡ area_new area.now) }
+{
+    let ranks = ranks(area);
+    let middle = new_place(ranks);
+    let end = words_place(ranks);
+    Tables {
+        old: &area[32..middle],
+        new: &area[middle..end],
+    }
 }
 
 // Whether sender s is heard.

@@ -9,6 +9,8 @@ use mathlib.Core.List.{List}
 use lib.Dec.{leb, ltb, eqb}
 use lib.ListN.{length, take, drop}
 use borrow.Author.Tests.{ltb-true, lt-leb, lt-ltb, le-ltb, eq-eqb, ne_eqb}
+use Rattle.std.specs.Prelude.{Some, None}
+use Rattle.std.specs.Bool.{then_some}
 use Rattle.encoding.specs.Below.{all_below, sum_below}
 use Rattle.encoding.specs.Numbers.{u64_at}
 use Rattle.encoding.specs.Pieces.{piece}
@@ -98,6 +100,18 @@ slot_plain a at k is t =
     let plain : plain_form k (piece a at core_size) ≡ true = sym is ∙ t in
     rw (plain_form_lem k (piece a at core_size) plain, eq-eqb (number_of (piece a at core_size)) k (plain_number k (piece a at core_size) plain))
 
+-- how many, where a test passes
+pub found : {b c : Bool} {m n : ℕ} → (b ≡ c) × (m ≡ n) → then_some b m ≡ then_some c n
+found p = ap₂ (λ (b : Bool) (m : ℕ). then_some b m) p.0 p.1
+
+pub found_some : (b : Bool) (m n : ℕ) → Some m ≡ then_some b n → (true ≡ b) × (m ≡ n)
+found_some true m n e = (refl, cc)
+found_some false m n e = absurd (cc)
+
+pub found_none : (b : Bool) (n : ℕ) → None ≡ then_some b n → false ≡ b
+found_none true n e = absurd (cc)
+found_none false n e = refl
+
 module _ {a old new : List ℕ} (t : Tabled a old new) {s rank first count : ℕ} (l : s < area_p a) (is_rank : rank ≡ area_rank a)
     (is_first : first ≡ sent_first old new s rank) (is_count : count ≡ sent_count old new s rank) where
   first_is : first ≡ from_first a s
@@ -170,11 +184,11 @@ pub record Ranges (a : List ℕ) (P filled s : ℕ) : Type 0 where
   pub counted : filled ≡ sum_below s (range_filled a)
 
 module _ (a : List ℕ) where
-  pub ranges_step : {P filled s : ℕ} {r : Bool} {more : ℕ} → Ranges a P filled s → s < P → r ≡ range_sound a s → more ≡ range_filled a s → r ≡ true → Ranges a P (filled + more) (s + 1)
-  ranges_step {P} {filled} {s} R l e q ok =
+  pub ranges_step : {P filled s more : ℕ} → Ranges a P filled s → s < P → true ≡ range_sound a s → more ≡ range_filled a s → Ranges a P (filled + more) (s + 1)
+  ranges_step {P} {filled} {s} R l e q =
       record {
         some = omega arith;
-        sound = all_more s (range_sound a) R.sound (sym e ∙ ok);
+        sound = all_more s (range_sound a) R.sound (sym e);
         counted = rw (R.counted, q) (sym (sum_more s (range_filled a)));
       }
 
@@ -227,9 +241,9 @@ module _ {a old new : List ℕ} (t : Tabled a old new) {rank first end : ℕ} (i
       let q : filled + more ≡ sum_below (s + 1) (range_filled a) = rw (R.counted, e) (sym (sum_more s (range_filled a))) in
       omega (arith, q, filled_few_of a H (s + 1) (omega (arith, window_within)), H.count_high)
 
-  pub ranges_fail : {s : ℕ} {r : Bool} → s < end → r ≡ range_sound a s → r ≡ false → false ≡ (all_below (area_count a) (tree_slot_sound a) && leb (area_ghosts a) (filled_bound a))
-  ranges_fail {s} l e f =
-      let t : all_below (area_count a) (tree_slot_sound a) ≡ false = sym (ranges_slots a H) ∙ all_fails (area_p a) (range_sound a) s (omega (arith, window_within)) (sym e ∙ f) in
+  pub ranges_fail : {s : ℕ} → s < end → false ≡ range_sound a s → false ≡ (all_below (area_count a) (tree_slot_sound a) && leb (area_ghosts a) (filled_bound a))
+  ranges_fail {s} l e =
+      let t : all_below (area_count a) (tree_slot_sound a) ≡ false = sym (ranges_slots a H) ∙ all_fails (area_p a) (range_sound a) s (omega (arith, window_within)) (sym e) in
       rw t
 
   pub ranges_read : {filled s : ℕ} → Ranges a end filled s → end ≤ s → {g d b : ℕ} → g ≡ area_ghosts a → d ≡ area_dimension a → b ≡ ghost_bound (faces_in d) filled

@@ -1,5 +1,6 @@
 // The soundness of an area.
 ghost use Rattle.std.specs.Prelude.{◌≡◌, ◌&&◌, ◌+◌, ◌*◌, ◌≤◌, ◌<◌, leb, length};
+ghost use Rattle.std.specs.Bool.{then_some};
 ghost use Rattle.encoding.specs.Below.{all_below};
 ghost use Rattle.offsets.specs.Limits.{max_trees};
 ghost use Rattle.records.specs.Record.{core_size, tree_size};
@@ -9,17 +10,15 @@ ghost use Rattle.area.specs.Area.{area_p, area_count, area_ghosts, bit_sound, tr
 ghost use Rattle.area.specs.Means.{Tabled, core_at};
 ghost use Rattle.area_check.specs.Means.{word_sound, slot_held, range_sound, range_filled, ghost_held_at};
 
-use area::layout::{
-    ghost_bound, ghost_slots_place, heard_words, new_place, slots_place, words_place,
-};
-use area::read::{count, dimension, ghosts, heard, rank, ranks, trees};
+use area::layout::{ghost_bound, ghost_slots_place, heard_words, slots_place, words_place};
+use area::read::{Tables, count, dimension, ghosts, heard, rank, ranks, tables_of, trees};
 use records::index::{GlobalIndex, to_local};
 
 // ---- the heard senders
 
 // A bit is set only for a rank of the receive set.
-fn bit_sound(area: &[u8], old: &[u8], new: &[u8], s: usize) -> bool
-    requires { Tabled area.now old.now new.now × (s < 64 * heard_words (area_p area.now)) }
+fn bit_sound(area: &[u8], tables: Tables, s: usize) -> bool
+    requires { Tabled area.now tables.old.now tables.new.now × (s < 64 * heard_words (area_p area.now)) }
     ensures { result ≡ bit_sound area.now s }
 {
     if !heard(area, s) {
@@ -28,39 +27,34 @@ fn bit_sound(area: &[u8], old: &[u8], new: &[u8], s: usize) -> bool
     if ranks(area) <= s {
         return false;
     }
-    pattern::range::sends_some(old, new, s, rank(area))
+    pattern::range::sends_some(tables.old, tables.new, s, rank(area))
 }
 
 // The bits of word w; most words are zero.
-fn word_sound(area: &[u8], old: &[u8], new: &[u8], w: usize) -> bool
-    requires { Tabled area.now old.now new.now × (w < heard_words (area_p area.now)) }
+fn word_sound(area: &[u8], tables: Tables, w: usize) -> bool
+    requires { Tabled area.now tables.old.now tables.new.now × (w < heard_words (area_p area.now)) }
     ensures { result ≡ word_sound area.now w }
 {
     let at = words_place(ranks(area)) + 8 * w;
     if encoding::bytes::read_u64(area, at) == 0 {
         return true;
     }
-    let mut b = 0;
-    while b < 64 {
-        if !bit_sound(area, old, new, 64 * w + b) {
+    for b in 0..64 {
+        if !bit_sound(area, tables, 64 * w + b) {
             return false;
         }
-        b += 1;
     }
     true
 }
 
-fn bits_sound(area: &[u8], old: &[u8], new: &[u8]) -> bool
-    requires { Tabled area.now old.now new.now }
+fn bits_sound(area: &[u8], tables: Tables) -> bool
+    requires { Tabled area.now tables.old.now tables.new.now }
     ensures { result ≡ all_below (64 * heard_words (area_p area.now)) (bit_sound area.now) }
 {
-    let end = heard_words(ranks(area));
-    let mut w = 0;
-    while w < end {
-        if !word_sound(area, old, new, w) {
+    for w in 0..heard_words(ranks(area)) {
+        if !word_sound(area, tables, w) {
             return false;
         }
-        w += 1;
     }
     true
 }
@@ -83,72 +77,49 @@ fn slots_held(area: &[u8], at: usize, first: u32, count: u32) -> bool
     requires { (at + tree_size * count ≤ length area.now) × (first + count ≤ max_trees) }
     ensures { result ≡ all_below count (λ j. slot_held area.now (at + tree_size * j) (first + j)) }
 {
-    let mut j = 0;
-    while j < count {
-        let k = first + j;
-        if !slot_held(area, at + 64 * (j as usize), GlobalIndex(k)) {
+    for j in 0..count {
+        if !slot_held(area, at + 64 * (j as usize), GlobalIndex(first + j)) {
             return false;
         }
-        j += 1;
     }
     true
 }
 
-// The slots of the trees due from a sender: whether they are sound, and how many are filled.
-#[derive(Clone, Copy)]
-pub struct SenderSlots {
-    pub sound: bool,
-    pub filled: u32,
-}
-
-// The slots of the trees due from s: held where s is heard, else zero.
-fn range_sound(area: &[u8], old: &[u8], new: &[u8], s: usize) -> SenderSlots
-    requires { Tabled area.now old.now new.now × (s < area_p area.now) }
-    ensures { (result.sound ≡ range_sound area.now s) × (result.filled ≡ range_filled area.now s) }
+// How many slots of the trees due from s are filled, where these are sound: held where s is heard, else zero.
+fn range_filled(area: &[u8], tables: Tables, s: usize) -> Option<u32>
+    requires { Tabled area.now tables.old.now tables.new.now × (s < area_p area.now) }
+    ensures { result ≡ then_some (range_sound area.now s) (range_filled area.now s) }
 {
     let rank = rank(area);
-    let sent = pattern::range::sent(old, new, s, rank);
+    let sent = pattern::range::sent(tables.old, tables.new, s, rank);
     let first = sent.first;
     let count = sent.count;
     if count == 0 {
-        return SenderSlots {
-            sound: true,
-            filled: 0,
-        };
+        return Some(0);
     }
-    let own = offsets::table::first_tree(new, rank) as u32;
+    let own = offsets::table::first_tree(tables.new, rank) as u32;
     let tree = to_local(GlobalIndex(first), GlobalIndex(own));
     let i = tree.0;
     let at = slots_place(ranks(area)) + 64 * (i as usize);
     if heard(area, s) {
-        return SenderSlots {
-            sound: slots_held(area, at, first, count),
-            filled: count,
-        };
+        return slots_held(area, at, first, count).then_some(count);
     }
     let end = at + 64 * (count as usize);
-    SenderSlots {
-        sound: encoding::zero::all_zero(&area[at..end]),
-        filled: 0,
-    }
+    encoding::zero::all_zero(&area[at..end]).then_some(0)
 }
 
 // Every tree slot is sound, and there are at most F ghosts for each that is filled. Only ranks in the window have trees to send.
-fn ranges_sound(area: &[u8], old: &[u8], new: &[u8]) -> bool
-    requires { Tabled area.now old.now new.now }
+fn ranges_sound(area: &[u8], tables: Tables) -> bool
+    requires { Tabled area.now tables.old.now tables.new.now }
     ensures { result ≡ (all_below (area_count area.now) (tree_slot_sound area.now) && leb (area_ghosts area.now) (filled_bound area.now)) }
 {
-    let window = pattern::window::window_of(old, new, rank(area), false);
-    let end = window.end;
+    let window = pattern::window::window_of(tables.old, tables.new, rank(area), false);
     let mut filled = 0;
-    let mut s = window.first;
-    while s < end {
-        let slots = range_sound(area, old, new, s);
-        if !slots.sound {
+    for s in window.first..window.end {
+        let Some(slots) = range_filled(area, tables, s) else {
             return false;
-        }
-        filled += slots.filled;
-        s += 1;
+        };
+        filled += slots;
     }
     ghosts(area) as u64 <= ghost_bound(dimension(area), filled)
 }
@@ -185,27 +156,25 @@ fn ghosts_held(area: &[u8], at: usize, trees: u32, first: u64, end: u64, ghosts:
     requires { at + core_size * ghosts ≤ length area.now }
     ensures { result ≡ all_below ghosts (ghost_held_at area.now at trees first end) }
 {
-    let mut j = 0;
-    while j < ghosts {
+    for j in 0..ghosts {
         if !ghost_held(area, at, trees, first, end, j) {
             return false;
         }
-        j += 1;
     }
     true
 }
 
 // The held ghosts fill the first slots, and the others are zero.
-fn ghosts_sound(area: &[u8], old: &[u8], new: &[u8]) -> bool
-    requires { Tabled area.now old.now new.now × (area_ghosts area.now ≤ area_bound area.now) }
+fn ghosts_sound(area: &[u8], tables: Tables) -> bool
+    requires { Tabled area.now tables.old.now tables.new.now × (area_ghosts area.now ≤ area_bound area.now) }
     ensures { result ≡ all_below (area_bound area.now) (ghost_slot_sound area.now) }
 {
     let ghosts = ghosts(area);
     let count = count(area);
     let bound = ghost_bound(dimension(area), count);
     let rank = rank(area);
-    let first = offsets::table::first_tree(new, rank);
-    let end = offsets::table::end_tree(new, rank);
+    let first = offsets::table::first_tree(tables.new, rank);
+    let end = offsets::table::end_tree(tables.new, rank);
     let at = ghost_slots_place(ranks(area), count);
     if !ghosts_held(area, at, trees(area), first, end, ghosts) {
         return false;
@@ -224,16 +193,12 @@ pub fn area_sound(area: &[u8]) -> bool
     if !area::header::header_sound(area) {
         return false;
     }
-    let ranks = ranks(area);
-    let middle = new_place(ranks);
-    let end = words_place(ranks);
-    let old = &area[32..middle];
-    let new = &area[middle..end];
+    let tables = tables_of(area);
     if ghost_bound(dimension(area), count(area)) < ghosts(area) as u64 {
         return false;
     }
-    if !(bits_sound(area, old, new) & ghosts_sound(area, old, new)) {
+    if !(bits_sound(area, tables) & ghosts_sound(area, tables)) {
         return false;
     }
-    ranges_sound(area, old, new)
+    ranges_sound(area, tables)
 }

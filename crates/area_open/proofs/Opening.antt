@@ -5,7 +5,8 @@ use mathlib.Core.Path.{◌≡◌, refl, sym, ap, ap₂, ◌∙◌}
 use mathlib.Core.Bool.{Bool, true, false, cond, ◌&&◌}
 use mathlib.Core.List.{List, [], ◌∷◌, ◌++◌, append_assoc}
 use lib.Dec.{leb, ltb, eqb}
-use lib.ListN.{length, replicate, length-append, length-replicate, replicate-append-replicate}
+use borrow.Rule.Slice.PartMut.{put_mid}
+use lib.ListN.{length, take, drop, replicate, length-take, length-drop, length-append, length-replicate, replicate-append-replicate}
 use borrow.Author.Tests.{ltb-true, eqb-true, lt-ltb, le-ltb, le-leb, lt-leb, eq-eqb, ne_eqb}
 use Rattle.encoding.specs.Answer.{length_refused, length_answer, written, write_answer}
 use Rattle.encoding.specs.Header.{eight_bytes}
@@ -28,6 +29,7 @@ use Rattle.area.specs.Open.{fresh_area}
 use Rattle.area_open.specs.Calls.{open_checks, area_length_of, open_area_of}
 use Rattle.area.specs.Means.{tables_end, RankIn}
 use Rattle.area_open.specs.Means.{AreaRoom}
+use Rattle.area.proofs.Copying.{part_written, part_length}
 
 -- ---- lists of checks
 
@@ -79,6 +81,30 @@ pub open_fits : {old new out : List ℕ} {rank dimension P n size : ℕ} → Are
 unfolding area_size ghost_slots_place slots_place words_place new_place
 open_fits f p m s =
     record { old_long = rw p (old-long f.tables); new_long = rw p (new-long f.tables); zones = omega arith; room = rw (s, p, m) f.room }
+
+-- the writes behind the header: both tables, and zeros
+module _ (o : List ℕ) {old new out p : List ℕ} {P size middle from : ℕ} (f : OpenFits old new out P size) (m : middle ≡ 32 + 8 * (P + 1)) (e : from ≡ tables_end P) (same : length o ≡ length out) (is_p : p ≡ old) where
+  pub old_put : put_mid 32 (middle - 32) o p ≡ splice o 32 old
+  old_put = part_written o 32 (middle - 32) is_p (omega (arith, f.old_long))
+
+  pub old_put_length : length (put_mid 32 (middle - 32) o p) ≡ length out
+  old_put_length = part_length o 32 (middle - 32) is_p (omega (arith, f.old_long)) (omega (arith, f.zones, f.room)) ∙ same
+
+  module _ {q : List ℕ} (is_q : q ≡ new) where
+    pub new_put : put_mid middle (from - middle) (put_mid 32 (middle - 32) o p) q ≡ splice (put_mid 32 (middle - 32) o p) middle new
+    new_put = part_written (put_mid 32 (middle - 32) o p) middle (from - middle) is_q (omega (arith, f.new_long))
+
+    pub new_put_length : length (put_mid middle (from - middle) (put_mid 32 (middle - 32) o p) q) ≡ length out
+    new_put_length =
+        part_length (put_mid 32 (middle - 32) o p) middle (from - middle) is_q (omega (arith, f.new_long)) (omega (arith, f.zones, f.room, old_put_length))
+        ∙ old_put_length
+
+    pub zeros_put : {z : List ℕ} → z ≡ replicate (length (take (size - from) (drop from (put_mid middle (from - middle) (put_mid 32 (middle - 32) o p) q)))) 0
+        → put_mid from (size - from) (put_mid middle (from - middle) (put_mid 32 (middle - 32) o p) q) z ≡ splice (put_mid middle (from - middle) (put_mid 32 (middle - 32) o p) q) from (replicate (size - from) 0)
+    zeros_put r =
+        let w : List ℕ = put_mid middle (from - middle) (put_mid 32 (middle - 32) o p) q in
+        let l : length (take (size - from) (drop from w)) ≡ size - from = rw (length-take, length-drop, new_put_length) (omega (arith, f.zones, f.room)) in
+        part_written w from (size - from) (r ∙ ap (λ (n : ℕ). replicate n 0) l) (length-replicate _ _)
 
 -- ---- the checks
 

@@ -15,12 +15,9 @@ pub fn heard_ones(area: &[u8]) -> u32
 {
     let ranks = ranks(area);
     let at = words_place(ranks);
-    let words = heard_words(ranks);
     let mut heard = 0;
-    let mut word = 0;
-    while word < words {
+    for word in 0..heard_words(ranks) {
         heard += bits::word::ones(encoding::bytes::read_u64(area, at + 8 * word));
-        word += 1;
     }
     heard
 }

@@ -8,7 +8,7 @@ use mathlib.Core.List.{List, [], ◌∷◌, ◌++◌}
 use lib.Dec.{ltb, eqb}
 use lib.ListN.{length}
 use borrow.Author.Tests.{ltb-true, eqb-true, not-true, ne_eqb}
-use Rattle.encoding.specs.Below.{all_below, any_below, count_below}
+use Rattle.encoding.specs.Below.{all_below, any_below}
 use Rattle.encoding.specs.Pieces.{piece, Bytes}
 use Rattle.encoding.specs.Refusal.{Check, first_failed}
 use Rattle.encoding.specs.Words.{all_zero}

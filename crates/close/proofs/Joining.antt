@@ -22,7 +22,7 @@ use Rattle.records.proofs.Forms.{at_piece, number_at_lem, form_unused, unused_ne
 use Rattle.records.proofs.Shapes.{faces_positive}
 use Rattle.part.specs.Layout.{part_header, header_bytes}
 use Rattle.part.specs.Cut.{renamed, rename_row}
-use Rattle.part.specs.Means.{in_range, number_at, smaller, held}
+use Rattle.part.specs.Means.{in_range, number_at, smaller}
 use Rattle.positions.specs.Means.{Numbered, Counts, Indexed}
 use Rattle.positions.proofs.Positions.{index_smaller}
 use Rattle.part_cut.specs.Means.{local_in, RecordsRoom, records_with}

@@ -1,36 +1,18 @@
--- Laws of what is read of an area before it is joined, and of its ghosts.
+-- Laws of the area's ghosts, copied.
 use Prim.Native.Nat.{ℕ, ◌+◌, ◌-◌, ◌*◌, ◌≤◌}
 use native.Mathlib.Omega.{arith}
 use mathlib.Core.Path.{◌≡◌, ap, ◌∙◌}
 use mathlib.Core.List.{List}
-use lib.ListN.{take, drop}
+use lib.ListN.{length, take, drop}
+use borrow.Rule.Slice.PartMut.{put_mid}
 use Rattle.encoding.specs.Pieces.{piece, splice}
-use Rattle.offsets.specs.Limits.{max_trees}
-use Rattle.offsets.specs.Table.{first_tree}
+use Rattle.encoding.proofs.Pieces.{piece_length}
 use Rattle.records.specs.Record.{core_size}
-use Rattle.area.specs.Layout.{new_place, words_place}
-use Rattle.area.specs.Area.{area_p, area_rank, area_count, area_new, area_first}
-use Rattle.area.specs.Means.{HeaderHolds}
-use Rattle.area.proofs.Headers.{tabled}
-use Rattle.area.proofs.Ranges.{range_trees}
-use Rattle.area_theorems.proofs.Zones.{few_trees}
+use Rattle.area.proofs.Copying.{part_written}
 
--- ---- the range
-
--- its first tree, read from the new table
-pub first_read : (a : List ℕ) → HeaderHolds a → {P middle end rank f : ℕ} → P ≡ area_p a → middle ≡ new_place P → end ≡ words_place P → rank ≡ area_rank a
-    → f ≡ first_tree (take (end - middle) (drop middle a)) rank → (f ≡ area_first a) × (f + area_count a ≤ max_trees)
-unfolding area_first
-first_read a H {P} {middle} {end} {rank} {f} p m e r t =
-    let s : first_tree (take (end - middle) (drop middle a)) rank ≡ first_tree (area_new a) (area_rank a) = rw ((tabled a p m e H).is_new, r) in
-    (t ∙ s, omega (arith, range_trees a H, few_trees _ _ H.tables))
-
--- ---- the ghosts
-
--- core records copied as words
-pub ghosts_copied : (a out : List ℕ) (from count to : ℕ) {last : List ℕ} → last ≡ splice out to (take (from + 8 * (5 * count) - from) (drop from a))
-    → last ≡ splice out to (piece a from (core_size * count))
+pub ghosts_copied : (a out : List ℕ) (from count to : ℕ) {p : List ℕ} → from + core_size * count ≤ length a → p ≡ take (from + 40 * count - from) (drop from a)
+    → put_mid to (to + 40 * count - to) out p ≡ splice out to (piece a from (core_size * count))
 unfolding piece
-ghosts_copied a out from count to p =
-    let e : from + 8 * (5 * count) - from ≡ core_size * count = omega arith in
-    p ∙ ap (λ (m : ℕ). splice out to (take m (drop from a))) e
+ghosts_copied a out from count to h c =
+    let e : from + 40 * count - from ≡ core_size * count = omega arith in
+    part_written out to (to + 40 * count - to) (c ∙ ap (λ (m : ℕ). take m (drop from a)) e) (omega (arith, piece_length a from (core_size * count) h))

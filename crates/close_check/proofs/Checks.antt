@@ -1,12 +1,11 @@
 -- What the functions find is what the checks of a close say.
-use Prim.Native.Nat.{ℕ, ◌-◌, ◌≤◌, ◌<◌}
+use Prim.Native.Nat.{ℕ, ◌≤◌, ◌<◌}
 use native.Mathlib.Omega.{arith}
 use mathlib.Core.Path.{◌≡◌, refl, sym, ◌∙◌}
 use mathlib.Core.Logic.{◌⊎◌, inl, inr}
 use mathlib.Core.Bool.{Bool, true, false}
 use mathlib.Core.List.{List}
 use lib.Dec.{ltb}
-use lib.ListN.{take, drop}
 use borrow.Author.Tests.{ltb-true}
 use Rattle.encoding.specs.Below.{all_below}
 use Rattle.encoding.specs.Pieces.{Bytes}
@@ -16,11 +15,9 @@ use Rattle.pattern.specs.Sets.{sends_to, gets_from}
 use Rattle.pattern.specs.Means.{WindowOf}
 use Rattle.pattern.proofs.Sets.{gets_sends}
 use Rattle.part.specs.Part.{part_sound}
-use Rattle.area.specs.Layout.{new_place, words_place}
 use Rattle.area.specs.Area.{area_p, area_rank, area_old, area_new, heard, area_sound}
 use Rattle.area.specs.Close.{all_heard, joined_part, close_checks}
 use Rattle.area.specs.Means.{Tabled}
-use Rattle.area.proofs.Headers.{tabled}
 use Rattle.area.proofs.Soundness.{sound_holds}
 use Rattle.area_check.proofs.Checking.{window_within, not_due}
 use Rattle.close_check.specs.Means.{sender_heard, join_sound, Complete, early_refusal}
@@ -120,6 +117,3 @@ module _ (a : List ℕ) where
     -- what the joining needs
     pub complete : Bytes a → r ≡ 0 → Complete a (area_new a)
     complete b z = let e = early_complete z in record { header = sound_holds a e.0 b; is_new = refl; sound = e.0; all = e.1 }
-
-    pub complete_new : Bytes a → r ≡ 0 → {P middle end : ℕ} → P ≡ area_p a → middle ≡ new_place P → end ≡ words_place P → Complete a (take (end - middle) (drop middle a))
-    complete_new b z p m e = let C = complete b z in record { header = C.header; is_new = (tabled a p m e C.header).is_new; sound = C.sound; all = C.all }

@@ -1,11 +1,10 @@
 -- Where an area is sound and every due sender is heard, the tests left for its records say that they are those of a sound part.
-use Prim.Native.Nat.{ℕ, ◌+◌, ◌-◌, ◌*◌, ◌≤◌, ◌<◌}
+use Prim.Native.Nat.{ℕ, ◌+◌, ◌-◌, ◌≤◌, ◌<◌}
 use native.Mathlib.Omega.{arith}
 use mathlib.Core.Path.{◌≡◌, refl, sym, ap₂, ◌∙◌}
 use mathlib.Core.Bool.{Bool, true, false, ◌&&◌}
 use mathlib.Core.List.{List}
 use lib.Dec.{eqb}
-use lib.ListN.{length}
 use borrow.Author.Tests.{eqb-false, lt-ltb}
 use Rattle.encoding.specs.Pieces.{Bytes}
 use Rattle.encoding.proofs.Below.{and_fst, either, all_same}
@@ -23,9 +22,9 @@ use Rattle.area.specs.Close.{all_heard}
 use Rattle.area.specs.Means.{HeaderHolds}
 use Rattle.area.proofs.Headers.{slots_place_is}
 use Rattle.area.proofs.Ranges.{range_trees}
-use Rattle.area.proofs.Tabled.{tabled_long}
 use Rattle.area.proofs.Soundness.{sound_holds}
 use Rattle.area_theorems.proofs.Kept.{Ghosts}
+use Rattle.area_theorems.proofs.Zones.{few_trees}
 use Rattle.area_theorems.proofs.Again.{area_parts, sound_ghosts}
 use Rattle.close_check.specs.Means.{tree_from, ghost_from, Slots, SlotsNumbered, link_of_tree, link_of_ghost, tree_joins, ghost_joins, records_join, join_sound, Complete}
 use Rattle.close_check.proofs.AreaSlots.{range_is, tree_slot_lem, tree_number}
@@ -150,21 +149,16 @@ module _ (a : List ℕ) (bytes : Bytes a) (sound : area_sound a ≡ true) where
         ∙ sym (records_by_dimension (area_dimension a) a at first n g (area_k a) tree-shaped ghost-shaped)
 
 -- the same with what the code has read
-module _ (a new : List ℕ) (bytes : Bytes a) (C : Complete a new) {rank first : ℕ} (is_rank : rank ≡ area_rank a) (is_first : first ≡ first_tree new rank) where
-  pub first_is : first ≡ area_first a
-  unfolding area_first
-  first_is = is_first ∙ rw (C.is_new, is_rank)
+module _ (a : List ℕ) (bytes : Bytes a) (C : Complete a (area_new a)) {P at first n g : ℕ} (is_first : first ≡ area_first a) (is_p : P ≡ area_p a) (is_at : at ≡ slots_place P) (is_n : n ≡ area_count a) (is_g : g ≡ area_ghosts a) where
+  pub numbered_read : {K : ℕ} → K ≡ area_k a → SlotsNumbered a at first n g K
+  numbered_read k = rw (is_at, is_p, is_first, is_n, is_g, k) (area_numbered a bytes C.sound C.all)
 
-  pub first_word : first ≤ max_trees
-  first_word = omega (arith, first_is, range_most a bytes C.sound)
+  pub join_read : {D K : ℕ} {r : Bool} → D ≡ area_dimension a → K ≡ area_k a → r ≡ records_join (link_by_dimension D) a at first n g D K → r ≡ join_sound a
+  join_read d k e = e ∙ rw (is_at, is_p, is_first, is_n, is_g, d, k) (sym (join_is a bytes C.sound C.all))
 
-  module _ {P at n g : ℕ} (is_p : P ≡ area_p a) (is_at : at ≡ slots_place P) (is_n : n ≡ area_count a) (is_g : g ≡ area_ghosts a) where
-    pub numbered_read : {K : ℕ} → K ≡ area_k a → SlotsNumbered a at first n g K
-    numbered_read k = rw (is_at, is_p, first_is, is_n, is_g, k) (area_numbered a bytes C.sound C.all)
-
-    pub join_read : {D K : ℕ} {r : Bool} → D ≡ area_dimension a → K ≡ area_k a → r ≡ records_join (link_by_dimension D) a at first n g D K → r ≡ join_sound a
-    join_read d k e = e ∙ rw (is_at, is_p, first_is, is_n, is_g, d, k) (sym (join_is a bytes C.sound C.all))
-
--- the new table has the rank's entries
-pub complete_long : {a new : List ℕ} {rank : ℕ} → Complete a new → rank ≡ area_rank a → 8 * (rank + 1 + 1) ≤ length new
-complete_long C e = tabled_long (record { header = C.header; is_old = refl; is_new = C.is_new }) e
+-- the first tree of the new range, read from the new table
+pub first_read : {a new : List ℕ} → HeaderHolds a → new ≡ area_new a → {rank f : ℕ} → rank ≡ area_rank a → f ≡ first_tree new rank → (f ≡ area_first a) × (f + area_count a ≤ max_trees)
+unfolding area_first
+first_read {a} h e {rank} {f} r t =
+    let s : f ≡ first_tree (area_new a) (area_rank a) = rw (← e, ← r) t in
+    (s, omega (arith, range_trees a h, few_trees _ _ h.tables))

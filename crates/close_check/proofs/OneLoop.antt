@@ -5,10 +5,10 @@ use native.Mathlib.Omega.{arith}
 use mathlib.Core.Path.{◌≡◌, refl, sym, ap, ap₂, fun_ext, ◌∙◌}
 use mathlib.Core.Bool.{Bool, true, false, cond, ◌&&◌}
 use mathlib.Core.List.{List}
-use lib.Dec.{ltb, eqb}
+use lib.Dec.{eqb}
 use lib.ListN.{length}
 use borrow.Author.Tests.{eq-eqb, lt-ltb, le-ltb}
-use Rattle.encoding.specs.Below.{all_below, any_below, least_below}
+use Rattle.encoding.specs.Below.{any_below, least_below}
 use Rattle.encoding.specs.Pieces.{piece, Bytes}
 use Rattle.encoding.proofs.Below.{either, all_same, least_lt, least_none}
 use Rattle.records.specs.Shape.{dimension_of, face_count}
@@ -22,9 +22,8 @@ use Rattle.linked.specs.Means.{tree_of, ghost_of, named, name_of, place_of, tree
 use Rattle.linked.specs.Means.{tree_to as tree_to_at, ghost_to as ghost_to_number}
 use Rattle.linked.proofs.Seeing.{pick_false}
 use Rattle.linked.proofs.Numbers.{few_ascending}
-use Rattle.offsets.specs.Table.{first_tree}
 use Rattle.area.specs.Layout.{ghost_slots_place}
-use Rattle.area.specs.Area.{area_k, area_rank, area_new, area_first}
+use Rattle.area.specs.Area.{area_k, area_new}
 use Rattle.close_check.specs.Means.{tree_from, ghost_from, SlotsNumbered, tree_to, link_of_tree, ghost_to, link_of_ghost, tree_joins, ghost_joins, records_join, join_sound, Complete, GhostsIndexed, SlotsOf}
 use Rattle.close_check.proofs.Joining.{numbered_read, join_read}
 
@@ -146,16 +145,9 @@ module _ (a : List ℕ) (x : Records) (S : SlotsNumbered a x.head x.first.0 x.co
 -- ---- the records in an area's slots
 
 -- in an area that is sound, with every due sender heard
-whole : {a new : List ℕ} → Complete a new → Complete a (area_new a)
-whole C = record { header = C.header; is_new = refl; sound = C.sound; all = C.all }
-
-module _ {a new : List ℕ} (bytes : Bytes a) (C : Complete a new) {first : ℕ} (is_first : first ≡ area_first a) {x : Records} (slots : SlotsOf a first x) where
-  first_entry : x.first.0 ≡ first_tree (area_new a) (area_rank a)
-  unfolding area_first
-  first_entry = slots.number ∙ is_first
-
+module _ {a : List ℕ} (bytes : Bytes a) (C : Complete a (area_new a)) {x : Records} (slots : SlotsOf a x) where
   numbered : SlotsNumbered a x.head x.first.0 x.count x.ghosts x.trees
-  numbered = numbered_read a (area_new a) bytes (whole C) refl first_entry refl slots.head slots.count slots.ghosts slots.trees
+  numbered = numbered_read a bytes C slots.number refl slots.head slots.count slots.ghosts slots.trees
 
   tail-is : x.tail ≡ x.head + tree_size * x.count
   unfolding ghost_slots_place
@@ -181,4 +173,4 @@ module _ {a new : List ℕ} (bytes : Bytes a) (C : Complete a new) {first : ℕ}
 
   pub slots_join : {r : Bool} → r ≡ records_linked a x → r ≡ join_sound a
   slots_join e =
-      join_read a (area_new a) bytes (whole C) refl first_entry refl slots.head slots.count slots.ghosts slots.dimension slots.trees (e ∙ records_join_lem a x numbered tail-is slots.global)
+      join_read a bytes C slots.number refl slots.head slots.count slots.ghosts slots.dimension slots.trees (e ∙ records_join_lem a x numbered tail-is slots.global)

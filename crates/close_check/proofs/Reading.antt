@@ -33,7 +33,7 @@ use Rattle.part_theorems.proofs.Renamed.{renamed_length, renamed_number, renamed
 use Rattle.part_theorems.proofs.SoundParts.{part_view}
 use Rattle.part.proofs.Views.{view_trees, view_ghosts, view_same, core_tree, held_cases, tree_link_held}
 use Rattle.area.specs.Layout.{slots_place, slots_of}
-use Rattle.area.specs.Area.{area_dimension, area_k, area_p, area_rank, area_count, area_ghosts, area_old, area_new, area_first, heard, tree_slot, tree_slot_core, ghost_slot, area_sound}
+use Rattle.area.specs.Area.{area_dimension, area_k, area_p, area_rank, area_count, area_ghosts, area_old, area_new, area_first, tree_slot, tree_slot_core, ghost_slot, area_sound}
 use Rattle.area.specs.Close.{all_heard, join_index, joined_part}
 use Rattle.area.specs.Means.{HeaderHolds}
 use Rattle.area.proofs.Soundness.{sound_holds}

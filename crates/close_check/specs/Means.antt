@@ -7,7 +7,6 @@ use Rattle.pattern.specs.Sets.{gets_from}
 use Rattle.records.specs.Shape.{dimension_of, face_count}
 use Rattle.records.specs.Record.{core_size, tree_size, number_of, shape_of, neighbour_of, in_form}
 use Rattle.mesh.specs.Link.{orientation_ok}
-use Rattle.mesh.specs.Means.{link_by_dimension}
 use Rattle.part.specs.Means.{held, held_core, view_sound, in_range, neighbour_in}
 use Rattle.positions.specs.Means.{Indexed}
 use Rattle.linked.specs.declared.layout.Records.{Records}
@@ -94,10 +93,10 @@ pub record Complete (a new : List ℕ) : Type 0 where
   pub all : all_heard a ≡ true
 
 -- the records in an area's slots
-pub record SlotsOf (a : List ℕ) (first : ℕ) (x : Records) : Type 0 where
+pub record SlotsOf (a : List ℕ) (x : Records) : Type 0 where
   pub head : x.head ≡ slots_place (area_p a)
   pub tail : x.tail ≡ ghost_slots_place (area_p a) (area_count a)
-  pub number : x.first.0 ≡ first
+  pub number : x.first.0 ≡ area_first a
   pub count : x.count ≡ area_count a
   pub ghosts : x.ghosts ≡ area_ghosts a
   pub dimension : x.dimension ≡ area_dimension a

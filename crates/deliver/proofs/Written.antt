@@ -6,7 +6,8 @@ use mathlib.Core.Path.{◌≡◌, sym, ap, ap₂, fun_ext, ◌∙◌}
 use mathlib.Core.Bool.{Bool, true, false, ◌&&◌, ◌||◌, or-false, or_comm}
 use mathlib.Core.List.{List, ◌++◌}
 use lib.Dec.{leb, ltb, eqb}
-use lib.ListN.{length, take, drop}
+use lib.ListN.{length, take, drop, length-take, length-drop}
+use borrow.Rule.Slice.PartMut.{put_mid}
 use borrow.Author.Tests.{eqb-true, eq-eqb, ne_eqb, lt-leb, le-leb, le-ltb}
 use Rattle.encoding.specs.Numbers.{le_bytes, le_put, u64_at, put_u32, put_u64}
 use Rattle.encoding.specs.Pieces.{piece, splice, Bytes}
@@ -26,6 +27,7 @@ use Rattle.area.specs.Layout.{heard_words, words_place, slots_place, ghost_slots
 use Rattle.area.specs.Area.{area_epoch, area_dimension, area_k, area_p, area_rank, area_count, area_ghosts, area_old, area_new, area_first, heard, tree_slot, ghost_slot, area_sound, behind_area}
 use Rattle.area.specs.Deliver.{deliver_checks, slot_after, ghosts_after, delivered, deliver_of}
 use Rattle.area.specs.Means.{from_first, from_place, core_at}
+use Rattle.area.proofs.Copying.{part_written}
 use Rattle.area.proofs.Headers.{words_place_is, slots_place_is, ghosts_place_is, words_enough_lem}
 use Rattle.area.proofs.Ranges.{range_trees}
 use Rattle.area_theorems.proofs.Heard.{word_again, word_same}
@@ -233,15 +235,17 @@ module _ (a m : List ℕ) (b : Bytes a) (A : Accepted a m) (F : Deliverable a m)
         ghosts-written (e3 ∙ (ap (splice o2 ghosts_place) M ∙ ap (λ (l : List ℕ). splice l ghosts_place (ghosts_after a m (area_k a))) q2)) e4
 
 -- the same, as the code writes them
-pub delivery_done : (a m : List ℕ) → Bytes a → first_failed (deliver_checks a m) ≡ 0 → Deliverable a m → {words sender slots trees ghosts held came : ℕ} → Placed a m words sender slots trees ghosts held came → {o1 o2 o3 o4 : List ℕ}
+pub delivery_done : (a m : List ℕ) → Bytes a → first_failed (deliver_checks a m) ≡ 0 → Deliverable a m → {words sender slots trees ghosts held came : ℕ} → Placed a m words sender slots trees ghosts held came → {o1 copied o2 o3 o4 : List ℕ}
     → o1 ≡ put_u64 a (words + 8 * (sender / 64)) (with_bit (u64_at a (words + 8 * (sender / 64))) (sender % 64))
-    → o2 ≡ splice o1 slots (take (32 + 64 * trees - 32) (drop 32 m))
+    → copied ≡ take (32 + 64 * trees - 32) (drop 32 m) → o2 ≡ put_mid slots (slots + 64 * trees - slots) o1 copied
     → o3 ≡ splice o2 ghosts (merged (core_at o2 ghosts) (core_at m (32 + 64 * trees)) held came)
     → o4 ≡ put_u32 o3 24 (held + came) → o4 ≡ delivered a m
 unfolding piece
-delivery_done a m b e F {trees = trees} P e1 e2 e3 e4 =
+delivery_done a m b e F {slots = slots} {trees = trees} P {o1 = o1} e1 c e2 e3 e4 =
     let n : 32 + 64 * trees - 32 ≡ tree_size * message_trees m = omega (arith, P.is_trees) in
     let f : 32 + 64 * trees ≡ 32 + tree_size * message_trees m = omega (arith, P.is_trees) in
+    let l : length (take (32 + 64 * trees - 32) (drop 32 m)) ≡ slots + 64 * trees - slots = rw (length-take, length-drop) (omega (arith, P.message_room)) in
+    let e2 = e2 ∙ part_written o1 slots (slots + 64 * trees - slots) c l in
     delivery_written a m b (accepted_parts a m e) F (rw (P.is_words, P.is_sender) at e1) (rw (P.is_slots, n) at e2) f (rw (P.is_ghosts, P.is_held, P.is_came) at e3) (rw (P.is_held, P.is_came) at e4)
 
 -- ---- the call

@@ -22,6 +22,7 @@ pub fn merge(area: &mut [u8], at: usize, held: usize, message: &[u8], from: usiz
     requires { MergeRoom area.old at held message.now from came }
     ensures { area.new ≡ splice area.old at (merged (core_at area.old at) (core_at message.now from) held came) }
 {
+    // a `while`: i and j fall in turn, as the numbers say
     let mut i = held;
     let mut j = came;
     while 0 < j {

@@ -29,11 +29,9 @@ fn trees_place(area: &[u8], message: &[u8]) -> usize
     ensures { result ≡ from_place area.now (message_sender message.now) }
 {
     let ranks = area::read::ranks(area);
-    let middle = area::layout::new_place(ranks);
-    let end = area::layout::words_place(ranks);
-    let new = &area[middle..end];
+    let tables = area::read::tables_of(area);
     let sent = records::read::number_of(message, 32);
-    let first = offsets::table::first_tree(new, area::read::rank(area)) as u32;
+    let first = offsets::table::first_tree(tables.new, area::read::rank(area)) as u32;
     let tree = to_local(GlobalIndex(sent), GlobalIndex(first));
     area::layout::slots_place(ranks) + 64 * (tree.0 as usize)
 }
@@ -72,8 +70,9 @@ pub fn write_delivery(area: &mut [u8], message: &[u8])
 {
     let at = places(&*area, message);
     let end = 32 + 64 * at.trees;
+    let slots_end = at.slots + 64 * at.trees;
     set_heard(&mut *area, at.words, at.sender);
-    area::copy::copy_words(&message[32..end], 8 * at.trees, &mut *area, at.slots);
+    area[at.slots..slots_end].copy_from_slice(&message[32..end]);
     merge(
         &mut *area,
         at.ghosts,

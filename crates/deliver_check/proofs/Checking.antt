@@ -5,7 +5,6 @@ use mathlib.Core.Path.{◌≡◌, sym, ap, ap₂, ◌∙◌}
 use mathlib.Core.Bool.{Bool, true, false, ◌&&◌}
 use mathlib.Core.List.{List}
 use lib.Dec.{ltb, eqb}
-use lib.ListN.{length}
 use borrow.Author.Tests.{lt-ltb, le-ltb, ltb-true, eqb-true, eq-eqb, ne_eqb}
 use Rattle.encoding.specs.Below.{all_below}
 use Rattle.encoding.specs.Pieces.{piece, Bytes}
@@ -15,8 +14,7 @@ use Rattle.pattern.specs.Sender.{sent_first, sent_count}
 use Rattle.pattern.specs.Sets.{sends_to, gets_from}
 use Rattle.pattern.proofs.Sets.{gets_sends}
 use Rattle.records.specs.Record.{core_size, number_of}
-use Rattle.message.specs.Layout.{message_header, message_tree_place, message_ghost_place, message_epoch, message_dimension, message_k, message_p, message_sender, message_receiver, message_trees, message_ghosts, message_tree, in_layout}
-use Rattle.message.proofs.Layouts.{size_length, layout_size}
+use Rattle.message.specs.Layout.{message_tree_place, message_epoch, message_dimension, message_k, message_p, message_sender, message_receiver, message_trees, message_ghosts, message_tree, in_layout}
 use Rattle.area.specs.Layout.{heard_words}
 use Rattle.area.specs.Area.{area_epoch, area_dimension, area_k, area_p, area_rank, area_old, area_new, area_sound, heard}
 use Rattle.area.specs.Means.{Tabled}

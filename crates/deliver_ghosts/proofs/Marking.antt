@@ -29,7 +29,7 @@ use Rattle.area.specs.Area.{area_k, area_p, area_rank, area_count, area_ghosts, 
 use Rattle.area.specs.Deliver.{among, beside_trees, ghost_due, ghost_new}
 use Rattle.area.proofs.Headers.{ghosts_place_is}
 use Rattle.area.proofs.Soundness.{filled_fits}
-use Rattle.deliver_ghosts.specs.Means.{Checkable, across_faces, beside_first, Marked, FacesFit, TreesFit, ghost_beside, Beside, held_at, HeldFit, GhostsFit, ghost_unmarked}
+use Rattle.deliver_ghosts.specs.Means.{Checkable, across_faces, beside_first, Marked, FacesFit, TreesFit, ghost_beside, Beside, held_at, HeldFit, GhostsFit}
 
 -- ---- a set that grows
 
@@ -206,17 +206,10 @@ module _ (a : List ℕ) (at : ℕ) where
   unfolding number_at
   number_low t i h e = omega (arith, t.low i h)
 
-module _ (m ws : List ℕ) {n : ℕ} (j : ℕ) (is_n : n ≡ message_trees m) {at v : ℕ} (here : at ≡ message_ghost_place n j) (number : v ≡ number_of (piece m at core_size)) where
-  ghost_is_lem : v ≡ number_of (message_ghost m j)
-  unfolding message_ghost
-  ghost_is_lem = number ∙ rw (here, is_n)
-
-  pub unmarked_is : {b : Bool} → b ≡ in_set ws v → ghost_unmarked ws m j ≡ not b
-  unfolding ghost_unmarked
-  unmarked_is e = rw (e, ghost_is_lem)
-
-  pub ghost_low_lem : GhostsFit m ws → {g : ℕ} → g ≡ message_ghosts m → j < g → v < 64 * length ws
-  ghost_low_lem t e h = omega (arith, ghost_is_lem, t.low j (omega arith))
+-- a ghost's number as it is read
+pub ghost_number : (m : List ℕ) {n : ℕ} (j : ℕ) → n ≡ message_trees m → {at v : ℕ} → at ≡ message_ghost_place n j → v ≡ number_of (piece m at core_size) → v ≡ number_of (message_ghost m j)
+unfolding message_ghost
+ghost_number m j e q r = r ∙ rw (q, e)
 
 module _ {a m : List ℕ} (R : Checkable a m) where
   sound_ghosts : (area_ghosts a ≤ area_bound a) × (all_below (area_bound a) (ghost_slot_sound a) ≡ true)
@@ -271,14 +264,17 @@ module _ {a m : List ℕ} (R : Checkable a m) where
         }
 
     -- a ghost of the message is new where it is not found
-    pub new_is : (j : ℕ) {c to v : ℕ} {b : Bool} → c ≡ message_trees m → to ≡ message_ghost_place c j → v ≡ number_of (piece m to core_size) → b ≡ held_at a at g v → ghost_new a m j ≡ not b
-    unfolding ghost_new among message_ghost held_at
-    new_is j {c} {to} {v} {b} e q r s =
-        let k : number_of (piece m (message_ghost_place (message_trees m) j) core_size) ≡ v = sym (r ∙ rw (q, e)) in
-        let t : any_below (area_ghosts a) (λ i. eqb (number_of (ghost_slot a i)) v) ≡ b =
+    new_is : (j : ℕ) → ghost_new a m j ≡ not (held_at a at g (number_of (message_ghost m j)))
+    unfolding ghost_new among held_at
+    new_is j =
+        let v : ℕ = number_of (message_ghost m j) in
+        let t : any_below (area_ghosts a) (λ i. eqb (number_of (ghost_slot a i)) v) ≡ any_below g (λ i. eqb (number_at a at i) v) =
         any_same (area_ghosts a) (λ i. eqb (number_of (ghost_slot a i)) v) (λ i. eqb (number_at a at i) v) (λ i l. ap (λ (x : ℕ). eqb x v) (sym (slot-number i)))
-        ∙ ap (λ (x : ℕ). any_below x (λ i. eqb (number_at a at i) v)) (sym is_g) ∙ sym s in
-        rw (k, t)
+        ∙ ap (λ (x : ℕ). any_below x (λ i. eqb (number_at a at i) v)) (sym is_g) in
+        ap not t
+
+    pub new_found : {r : Bool} → r ≡ all_below (message_ghosts m) (λ j. not (held_at a at g (number_of (message_ghost m j)))) → r ≡ all_below (message_ghosts m) (ghost_new a m)
+    new_found e = e ∙ all_same (message_ghosts m) (λ j. not (held_at a at g (number_of (message_ghost m j)))) (ghost_new a m) (λ j l. sym (new_is j))
 
     -- the numbers of those held added to the empty set
     pub held_fit : (w : ℕ) → max_trees ≤ 64 * w → HeldFit a at g (replicate w 0)
@@ -305,11 +301,10 @@ module _ {a m : List ℕ} (R : Checkable a m) where
                 omega arith);
           }
 
-      pub new_marked : {r : Bool} → r ≡ all_below (message_ghosts m) (ghost_unmarked ws m) → r ≡ all_below (message_ghosts m) (ghost_new a m)
-      unfolding ghost_unmarked message_ghost
+      pub new_marked : {r : Bool} → r ≡ all_below (message_ghosts m) (λ j. not (in_set ws (number_of (message_ghost m j)))) → r ≡ all_below (message_ghosts m) (ghost_new a m)
       new_marked e =
-          e
-          ∙ all_same (message_ghosts m) (ghost_unmarked ws m) (ghost_new a m)
+          let same : all_below (message_ghosts m) (λ j. not (in_set ws (number_of (message_ghost m j)))) ≡ all_below (message_ghosts m) (λ j. not (held_at a at g (number_of (message_ghost m j)))) =
+          all_same (message_ghosts m) (λ j. not (in_set ws (number_of (message_ghost m j)))) (λ j. not (held_at a at g (number_of (message_ghost m j))))
           (λ j l. let v : ℕ = number_of (message_ghost m j) in
-          let h : in_set ws v ≡ held_at a at g v = p.members v ∙ ap (λ (b : Bool). b || held_at a at g v) (in_none w v) in
-          sym (new_is j {c = message_trees m} {to = message_ghost_place (message_trees m) j} {v = v} {b = in_set ws v} refl refl refl h))
+          ap not (p.members v ∙ ap (λ (b : Bool). b || held_at a at g v) (in_none w v))) in
+          new_found (e ∙ same)

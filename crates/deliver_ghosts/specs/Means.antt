@@ -70,7 +70,3 @@ pub record HeldFit (a : List ℕ) (at count : ℕ) (ws : List ℕ) : Type 0 wher
 pub record GhostsFit (m ws : List ℕ) : Type 0 where
   pub laid : in_layout m ≡ true
   pub low : (j : ℕ) → j < message_ghosts m → number_of (message_ghost m j) < 64 * length ws
-
--- ghost j is not in the set
-unfoldable pub ghost_unmarked : List ℕ → List ℕ → ℕ → Bool
-ghost_unmarked ws m j = not (in_set ws (number_of (message_ghost m j)))

@@ -1,30 +1,22 @@
-use Rattle.close.proofs.Closing.{close_refused}
-use Rattle.close_check.proofs.Checks.{early_refused, complete}
-use Rattle.positions.proofs.Positions.{blank}
+use Rattle.std.proofs.lemmas.Result.{err_from_is_err_and}
+use mathlib.Core.Path.{refl}
+use Rattle.encoding.proofs.Refusals.{number_positive}
 use native.Mathlib.Omega.{arith}
-use borrow.Author.Rules.{rules}
+use Rattle.close.proofs.Closing.{close_refused}
+use Rattle.close.proofs.Joining.{trees_few}
+use Rattle.close_check.proofs.Checks.{early_refused, complete}
 use Rattle.close.proofs.close_area.Goals as goal
 
-pub returns-then-refusal-ne0 : goal.returns-then-refusal-ne0
-returns-then-refusal-ne0 c = close_refused _ _ (early_refused _ c.early_refusal-refusal.ensures c.if-refusal-ne0.true) c.if-refusal-ne0.true
+pub returns-in_err-check_early : goal.returns-in_err-check_early
+returns-in_err-check_early c =
+    let p = err_from_is_err_and c.from_residual.result c.from_residual.ensures.1 in
+    rw (p.1, p.2) (close_refused _ _ (early_refused _ c.in_err-check_early.ensures (number_positive _)) (number_positive _))
 
 pub trees-requires : goal.trees-requires
-trees-requires c =
-    let early-refusal = c.early_refusal-refusal in
-    let shared-slice-known = c.shared_slice_known-1 in
-    omega (arith, (complete _ early-refusal.ensures (λ i. (shared-slice-known.given i).fits) c.if-refusal-ne0.false).header.long)
+trees-requires c = omega (arith, (complete _ c.in_ok-check_early.ensures (λ i. (c.type_inv.area i).fits) refl).header.long)
 
-pub close_by-requires : goal.close_by-requires
-close_by-requires c =
-    let early-refusal = c.early_refusal-refusal in
-    let shared-slice-known = c.shared_slice_known-1 in
-    let if1 = c.if-refusal-ne0 in
-    let trees = c.trees in
-    (complete _ early-refusal.ensures (λ i. (shared-slice-known.given i).fits) if1.false, omega (arith, trees.ensures), blank 1024 (omega arith))
+pub close_with-requires : goal.close_with-requires
+close_with-requires c = (complete _ c.in_ok-check_early.ensures (λ i. (c.type_inv.area i).fits) refl, omega (arith, c.trees.ensures, c.if-trees-le65536.true), omega arith)
 
-pub close_many-requires : goal.close_many-requires
-close_many-requires c =
-    let early-refusal = c.early_refusal-refusal in
-    let shared-slice-known = c.shared_slice_known-1 in
-    let if1 = c.if-refusal-ne0 in
-    complete _ early-refusal.ensures (λ i. (shared-slice-known.given i).fits) if1.false
+pub close_with-requires-2 : goal.close_with-requires-2
+close_with-requires-2 c = let k = complete _ c.in_ok-check_early.ensures (λ i. (c.type_inv.area i).fits) refl in (k, omega (arith, trees_few _ (λ i. (c.type_inv.area i).fits) k.sound), omega arith)

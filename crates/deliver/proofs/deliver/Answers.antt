@@ -1,7 +1,5 @@
 use Rattle.deliver.proofs.Written.{deliver_unsound}
-use borrow.Author.Tests.{not-true, not-false}
 use mathlib.Core.Path.{sym, ◌∙◌}
-use borrow.Author.Rules.{rules}
 use Rattle.deliver.proofs.deliver.Goals as goal
 
 pub returns-then-not-area_sound : goal.returns-then-not-area_sound

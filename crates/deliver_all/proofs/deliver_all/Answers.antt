@@ -1,7 +1,5 @@
 use native.Mathlib.Omega.{arith}
-use borrow.Author.Tests.{not-true, not-false}
 use Rattle.deliver_all.proofs.Delivering.{all_unsound, all_short, all_receivable, all_small, all_done}
-use borrow.Author.Rules.{rules}
 use Rattle.deliver_all.proofs.deliver_all.Goals as goal
 
 pub returns-then-not-area_sound : goal.returns-then-not-area_sound

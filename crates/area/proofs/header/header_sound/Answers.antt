@@ -1,9 +1,6 @@
-use Rattle.area.proofs.Headers.{size_low, sized_area, fit_rank, header_short, header_dimension, header_ranks, header_size, header_tables, header_read}
+use Rattle.area.proofs.Headers.{sized_room, sized_area, fit_rank, header_short, header_dimension, header_ranks, header_size, header_tables, header_read}
 use Rattle.offsets.proofs.Tables.{ranks_within}
-use borrow.Author.Tests.{not-true, not-false}
 use mathlib.Core.Path.{sym, ◌∙◌}
-use native.Mathlib.Omega.{arith}
-use borrow.Author.Rules.{rules}
 use Rattle.area.proofs.header.header_sound.Goals as goal
 
 pub returns-then-area-lt32 : goal.returns-then-area-lt32
@@ -43,50 +40,24 @@ returns-then-area-area_size c =
     let area-size = c.area_size in
     header_size _ if1.false dimension.ensures dimension_ok_call.ensures (if2.false) ranks.ensures rank-count-ok.ensures (if3.false) dimension2.ensures count.ensures area-size.ensures c.if-area-area_size.true
 
-pub new_place-middle-requires : goal.new_place-middle-requires
-new_place-middle-requires c =
-    let rank-count-ok = c.rank_count_ok in
-    let if3 = c.if-not-rank_count_ok in
-    (ranks_within _ (sym rank-count-ok.ensures ∙ if3.false)).1
-
-pub words_place-end-requires : goal.words_place-end-requires
-words_place-end-requires c =
-    let rank-count-ok = c.rank_count_ok in
-    let if3 = c.if-not-rank_count_ok in
-    (ranks_within _ (sym rank-count-ok.ensures ∙ if3.false)).1
-
-pub slice_bounds-old-end : goal.slice_bounds-old-end
-slice_bounds-old-end c =
-    let dimension2 = c.dimension-2 in
+pub tables_of-tables-requires : goal.tables_of-tables-requires
+tables_of-tables-requires c =
     let ranks = c.ranks-ranks in
-    let count = c.count in
+    let rank-count-ok = c.rank_count_ok in
     let area-size = c.area_size in
-    let if4 = c.if-area-area_size in
-    let new-place = c.new_place-middle in
-    omega (arith, size_low dimension2.result ranks.result count.result, area-size.ensures, if4.false, new-place.ensures.1)
-
-pub slice_bounds-new-end : goal.slice_bounds-new-end
-slice_bounds-new-end c =
-    let dimension2 = c.dimension-2 in
-    let ranks = c.ranks-ranks in
-    let count = c.count in
-    let area-size = c.area_size in
-    let if4 = c.if-area-area_size in
-    let words-place = c.words_place-end in
-    omega (arith, size_low dimension2.result ranks.result count.result, area-size.ensures, if4.false, words-place.ensures.1)
+    sized_room _ ranks.ensures _ _ rank-count-ok.ensures c.if-not-rank_count_ok.false area-size.ensures c.if-area-area_size.false
 
 pub tables_fit-requires : goal.tables_fit-requires
 tables_fit-requires c =
     let ranks = c.ranks-ranks in
-    let new-place = c.new_place-middle in
-    let words-place = c.words_place-end in
+    let tables = c.tables_of-tables in
     let dimension2 = c.dimension-2 in
     let count = c.count in
     let rank-count-ok = c.rank_count_ok in
     let if3 = c.if-not-rank_count_ok in
     let area-size = c.area_size in
     let if4 = c.if-area-area_size in
-    sized_area _ ranks.ensures new-place.ensures.0 words-place.ensures.0 dimension2.ensures count.ensures rank-count-ok.ensures (if3.false) area-size.ensures if4.false
+    sized_area _ ranks.ensures tables.ensures dimension2.ensures count.ensures rank-count-ok.ensures (if3.false) area-size.ensures if4.false
 
 pub returns-then-not-tables_fit : goal.returns-then-not-tables_fit
 returns-then-not-tables_fit c =
@@ -107,8 +78,7 @@ returns-then-not-tables_fit c =
 pub tree_count-requires : goal.tree_count-requires
 tree_count-requires c =
     let ranks = c.ranks-ranks in
-    let new-place = c.new_place-middle in
-    let words-place = c.words_place-end in
+    let tables = c.tables_of-tables in
     let dimension2 = c.dimension-2 in
     let count = c.count in
     let rank-count-ok = c.rank_count_ok in
@@ -117,7 +87,7 @@ tree_count-requires c =
     let if4 = c.if-area-area_size in
     let tables-fit = c.tables_fit in
     let if5 = c.if-not-tables_fit in
-    fit_rank (sized_area _ ranks.ensures new-place.ensures.0 words-place.ensures.0 dimension2.ensures count.ensures rank-count-ok.ensures (if3.false) area-size.ensures if4.false) c.rank.ensures (sym tables-fit.ensures ∙ if5.false)
+    fit_rank (sized_area _ ranks.ensures tables.ensures dimension2.ensures count.ensures rank-count-ok.ensures (if3.false) area-size.ensures if4.false) c.rank.ensures (sym tables-fit.ensures ∙ if5.false)
 
 pub returns : goal.returns
 returns c =
@@ -134,12 +104,11 @@ returns c =
     let if4 = c.if-area-area_size in
     let tables-fit = c.tables_fit in
     let if5 = c.if-not-tables_fit in
-    let new-place = c.new_place-middle in
-    let words-place = c.words_place-end in
+    let tables = c.tables_of-tables in
     let rank = c.rank in
     let count2 = c.count-2 in
     let tree_count_call = c.tree_count in
     header_read _ if1.false dimension.ensures dimension_ok_call.ensures (if2.false) ranks.ensures rank-count-ok.ensures (if3.false) dimension2.ensures
     count.ensures area-size.ensures if4.false tables-fit.ensures (if5.false)
-    (sized_area _ ranks.ensures new-place.ensures.0 words-place.ensures.0 dimension2.ensures count.ensures rank-count-ok.ensures (if3.false) area-size.ensures if4.false).is_new
+    (sized_area _ ranks.ensures tables.ensures dimension2.ensures count.ensures rank-count-ok.ensures (if3.false) area-size.ensures if4.false).is_new
     rank.ensures count2.ensures tree_count_call.ensures.0 c.read_u32.ensures

@@ -1,6 +1,5 @@
 use Rattle.area.proofs.Headers.{sized_long, sized_old, sized_new, fit_read}
 use native.Mathlib.Omega.{arith}
-use borrow.Author.Rules.{rules}
 use Rattle.area.proofs.header.tables_fit.Goals as goal
 
 pub trees-k-requires : goal.trees-k-requires

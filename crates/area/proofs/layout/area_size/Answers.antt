@@ -1,6 +1,5 @@
 use Rattle.area.specs.Layout.{area_size}
 use native.Mathlib.Omega.{arith}
-use borrow.Author.Rules.{rules}
 use Rattle.area.proofs.layout.area_size.Goals as goal
 
 pub returns : goal.returns

@@ -1,6 +1,5 @@
 use Rattle.area.proofs.Ranges.{bound_read}
 use native.Mathlib.Omega.{arith}
-use borrow.Author.Rules.{rules}
 use Rattle.area.proofs.layout.ghost_bound.Goals as goal
 
 pub overflow_mul-result : goal.overflow_mul-result

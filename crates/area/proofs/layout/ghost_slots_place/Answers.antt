@@ -1,6 +1,5 @@
 use Rattle.area.specs.Layout.{ghost_slots_place}
 use native.Mathlib.Omega.{arith}
-use borrow.Author.Rules.{rules}
 use Rattle.area.proofs.layout.ghost_slots_place.Goals as goal
 
 pub returns : goal.returns

@@ -1,6 +1,5 @@
 use Rattle.area.specs.Layout.{new_place}
 use native.Mathlib.Omega.{arith}
-use borrow.Author.Rules.{rules}
 use Rattle.area.proofs.layout.new_place.Goals as goal
 
 pub returns : goal.returns

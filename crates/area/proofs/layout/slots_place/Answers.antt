@@ -1,6 +1,5 @@
 use Rattle.area.specs.Layout.{slots_place}
 use native.Mathlib.Omega.{arith}
-use borrow.Author.Rules.{rules}
 use Rattle.area.proofs.layout.slots_place.Goals as goal
 
 pub returns : goal.returns

@@ -1,5 +1,4 @@
 use Rattle.area.specs.Area.{area_count}
-use borrow.Author.Rules.{rules}
 use Rattle.area.proofs.read.count.Goals as goal
 
 pub returns : goal.returns

@@ -1,5 +1,4 @@
 use Rattle.area.specs.Area.{area_dimension}
-use borrow.Author.Rules.{rules}
 use Rattle.area.proofs.read.dimension.Goals as goal
 
 pub returns : goal.returns

@@ -1,5 +1,4 @@
 use Rattle.area.specs.Area.{area_epoch}
-use borrow.Author.Rules.{rules}
 use Rattle.area.proofs.read.epoch.Goals as goal
 
 pub returns : goal.returns

@@ -1,5 +1,4 @@
 use Rattle.area.specs.Area.{area_ghosts}
-use borrow.Author.Rules.{rules}
 use Rattle.area.proofs.read.ghosts.Goals as goal
 
 pub returns : goal.returns

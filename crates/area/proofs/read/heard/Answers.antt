@@ -1,5 +1,4 @@
 use Rattle.area.proofs.Tabled.{heard_read}
-use borrow.Author.Rules.{rules}
 use Rattle.area.proofs.read.heard.Goals as goal
 
 pub returns : goal.returns

@@ -1,5 +1,4 @@
 use Rattle.area.specs.Area.{area_rank}
-use borrow.Author.Rules.{rules}
 use Rattle.area.proofs.read.rank.Goals as goal
 
 pub returns : goal.returns

@@ -1,5 +1,4 @@
 use Rattle.area.specs.Area.{area_p}
-use borrow.Author.Rules.{rules}
 use Rattle.area.proofs.read.ranks.Goals as goal
 
 pub returns : goal.returns

@@ -1,5 +1,4 @@
 use Rattle.area.specs.Area.{area_k}
-use borrow.Author.Rules.{rules}
 use Rattle.area.proofs.read.trees.Goals as goal
 
 pub returns : goal.returns

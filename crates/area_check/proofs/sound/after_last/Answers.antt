@@ -1,5 +1,4 @@
 use Rattle.area_check.proofs.Checking.{after_first, after_read}
-use borrow.Author.Rules.{rules}
 use Rattle.area_check.proofs.sound.after_last.Goals as goal
 
 pub returns-then-j-eq0 : goal.returns-then-j-eq0

@@ -1,52 +1,18 @@
 use Rattle.area_check.proofs.Checking.{area_header_fails, area_crowded, area_fails, area_read, area_fits}
-use Rattle.area.proofs.Headers.{header_holds, tabled}
-use borrow.Author.Tests.{not-true, not-false}
+use Rattle.area.proofs.Headers.{header_holds, tables_room, tabled}
 use mathlib.Core.Path.{sym, ◌∙◌}
 use native.Mathlib.Omega.{arith}
-use borrow.Author.Rules.{rules}
 use Rattle.area_check.proofs.sound.area_sound.Goals as goal
 
 pub returns-then-not-header_sound : goal.returns-then-not-header_sound
 returns-then-not-header_sound c = area_header_fails _ (sym c.header_sound.ensures ∙ c.if-not-header_sound.true)
 
-pub ranks-ranks-requires : goal.ranks-ranks-requires
-ranks-ranks-requires c =
-    let shared-slice-known = c.shared_slice_known-1 in
-    let header-sound = c.header_sound in
-    omega (arith, (header_holds _ (λ i. (shared-slice-known.given i).fits) (sym header-sound.ensures ∙ c.if-not-header_sound.false)).long)
-
-pub new_place-middle-requires : goal.new_place-middle-requires
-new_place-middle-requires c =
+pub tables_of-tables-requires : goal.tables_of-tables-requires
+tables_of-tables-requires c =
     let shared-slice-known = c.shared_slice_known-1 in
     let header-sound = c.header_sound in
     let if1 = c.if-not-header_sound in
-    omega (arith, (header_holds _ (λ i. (shared-slice-known.given i).fits) (sym header-sound.ensures ∙ if1.false)).ranks_high, c.ranks-ranks.ensures)
-
-pub words_place-end-requires : goal.words_place-end-requires
-words_place-end-requires c =
-    let shared-slice-known = c.shared_slice_known-1 in
-    let header-sound = c.header_sound in
-    let if1 = c.if-not-header_sound in
-    let ranks = c.ranks-ranks in
-    omega (arith, (header_holds _ (λ i. (shared-slice-known.given i).fits) (sym header-sound.ensures ∙ if1.false)).ranks_high, ranks.ensures)
-
-pub slice_bounds-old-end : goal.slice_bounds-old-end
-slice_bounds-old-end c =
-    let shared-slice-known = c.shared_slice_known-1 in
-    let header-sound = c.header_sound in
-    let if1 = c.if-not-header_sound in
-    let ranks = c.ranks-ranks in
-    let new-place = c.new_place-middle in
-    omega (arith, (header_holds _ (λ i. (shared-slice-known.given i).fits) (sym header-sound.ensures ∙ if1.false)).long, ranks.ensures, new-place.ensures.1)
-
-pub slice_bounds-new-end : goal.slice_bounds-new-end
-slice_bounds-new-end c =
-    let shared-slice-known = c.shared_slice_known-1 in
-    let header-sound = c.header_sound in
-    let if1 = c.if-not-header_sound in
-    let ranks = c.ranks-ranks in
-    let words-place = c.words_place-end in
-    omega (arith, (header_holds _ (λ i. (shared-slice-known.given i).fits) (sym header-sound.ensures ∙ if1.false)).long, ranks.ensures, words-place.ensures.1)
+    tables_room (header_holds _ (λ i. (shared-slice-known.given i).fits) (sym header-sound.ensures ∙ if1.false))
 
 pub dimension-requires : goal.dimension-requires
 dimension-requires c =
@@ -81,19 +47,15 @@ returns-then-ghost_bound-ghosts c =
 
 pub bits_sound-requires : goal.bits_sound-requires
 bits_sound-requires c =
-    let ranks = c.ranks-ranks in
-    let new-place = c.new_place-middle in
-    let words-place = c.words_place-end in
+    let tables = c.tables_of-tables in
     let shared-slice-known = c.shared_slice_known-1 in
     let header-sound = c.header_sound in
     let if1 = c.if-not-header_sound in
-    tabled _ ranks.ensures new-place.ensures.0 words-place.ensures.0 (header_holds _ (λ i. (shared-slice-known.given i).fits) (sym header-sound.ensures ∙ if1.false))
+    tabled tables.ensures (header_holds _ (λ i. (shared-slice-known.given i).fits) (sym header-sound.ensures ∙ if1.false))
 
 pub ghosts_sound-requires : goal.ghosts_sound-requires
 ghosts_sound-requires c =
-    let ranks = c.ranks-ranks in
-    let new-place = c.new_place-middle in
-    let words-place = c.words_place-end in
+    let tables = c.tables_of-tables in
     let shared-slice-known = c.shared_slice_known-1 in
     let header-sound = c.header_sound in
     let if1 = c.if-not-header_sound in
@@ -103,7 +65,7 @@ ghosts_sound-requires c =
     let ghost-bound = c.ghost_bound in
     let if2 = c.if-ghost_bound-ghosts in
     let sound = sym header-sound.ensures ∙ if1.false in (
-      tabled _ ranks.ensures new-place.ensures.0 words-place.ensures.0 (header_holds _ (λ i. (shared-slice-known.given i).fits) sound),
+      tabled tables.ensures (header_holds _ (λ i. (shared-slice-known.given i).fits) sound),
       area_fits _ sound ghosts.ensures dimension.ensures count.ensures ghost-bound.ensures.0 if2.false,
     )
 
@@ -117,13 +79,11 @@ returns-then-not-bits_sound-ghosts_sound c =
 
 pub ranges_sound-requires : goal.ranges_sound-requires
 ranges_sound-requires c =
-    let ranks = c.ranks-ranks in
-    let new-place = c.new_place-middle in
-    let words-place = c.words_place-end in
+    let tables = c.tables_of-tables in
     let shared-slice-known = c.shared_slice_known-1 in
     let header-sound = c.header_sound in
     let if1 = c.if-not-header_sound in
-    tabled _ ranks.ensures new-place.ensures.0 words-place.ensures.0 (header_holds _ (λ i. (shared-slice-known.given i).fits) (sym header-sound.ensures ∙ if1.false))
+    tabled tables.ensures (header_holds _ (λ i. (shared-slice-known.given i).fits) (sym header-sound.ensures ∙ if1.false))
 
 pub returns : goal.returns
 returns c =

@@ -1,8 +1,6 @@
 use Rattle.area.proofs.Tabled.{tabled_pair}
 use Rattle.area_check.proofs.Checking.{bit_silent, bit_past, bit_read}
 use native.Mathlib.Omega.{arith}
-use borrow.Author.Tests.{not-true, not-false}
-use borrow.Author.Rules.{rules}
 use Rattle.area_check.proofs.sound.bit_sound.Goals as goal
 
 pub returns-then-not-heard : goal.returns-then-not-heard

@@ -1,5 +1,4 @@
 use Rattle.area_check.proofs.Checking.{ghost_read}
-use borrow.Author.Rules.{rules}
 use Rattle.area_check.proofs.sound.ghost_held.Goals as goal
 
 pub returns : goal.returns

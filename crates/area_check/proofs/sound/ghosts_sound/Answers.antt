@@ -1,8 +1,6 @@
 use native.Mathlib.Omega.{arith}
-use borrow.Author.Tests.{not-true, not-false}
 use Rattle.area_check.proofs.Checking.{ghosts_room, ghosts_fail, ghosts_read}
 use Rattle.area.proofs.Tabled.{tabled_long}
-use borrow.Author.Rules.{rules}
 use Rattle.area_check.proofs.sound.ghosts_sound.Goals as goal
 
 pub first_tree-first-requires : goal.first_tree-first-requires

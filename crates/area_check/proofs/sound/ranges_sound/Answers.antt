@@ -1,9 +1,7 @@
-use Rattle.area_check.proofs.Checking.{Ranges, ranges_start, ranges_step, ranges_fit_lem, ranges_fail, ranges_read, window_within}
+use mathlib.Core.Path.{sym, ◌∙◌}
+use Rattle.area_check.proofs.Checking.{found_some, found_none, ranges_start, ranges_step, ranges_fit_lem, ranges_fail, ranges_read, window_within}
 use Rattle.area.proofs.Tabled.{tabled_rank}
-use borrow.Author.Tests.{not-true, not-false}
 use native.Mathlib.Omega.{arith}
-use Prim.Native.Nat.{◌-◌}
-use borrow.Author.Rules.{rules}
 use Rattle.area_check.proofs.sound.ranges_sound.Goals as goal
 
 pub window_of-window-requires : goal.window_of-window-requires
@@ -12,21 +10,15 @@ window_of-window-requires c = tabled_rank c.requires c.rank.ensures
 pub loop-s-init : goal.loop-s-init
 loop-s-init c = ranges_start c.requires c.rank.ensures c.window_of-window.ensures.0
 
-pub range_sound-slots-requires : goal.range_sound-slots-requires
-range_sound-slots-requires c =
+pub range_filled-requires : goal.range_filled-requires
+range_filled-requires c =
     let pre = c.requires in
     let rank = c.rank in
     let window-of = c.window_of-window in
     (pre, omega (arith, window_within pre rank.ensures window-of.ensures.0))
 
-pub returns-then-not-slots : goal.returns-then-not-slots
-returns-then-not-slots c =
-    let pre = c.requires in
-    let rank = c.rank in
-    let window-of = c.window_of-window in
-    let loop-test = c.loop-s-test in
-    let range-sound = c.range_sound-slots in
-    ranges_fail pre rank.ensures window-of.ensures.0 loop-test.true range-sound.ensures.0 (not-true _ c.if-not-slots.true)
+pub returns-in_default : goal.returns-in_default
+returns-in_default c = ranges_fail c.requires c.rank.ensures c.window_of-window.ensures.0 c.loop-s-test.true (found_none _ _ (sym c.in_default.is ∙ c.range_filled.ensures))
 
 pub overflow_add-filled : goal.overflow_add-filled
 overflow_add-filled c =
@@ -35,16 +27,15 @@ overflow_add-filled c =
     let window-of = c.window_of-window in
     let loop = c.loop-s in
     let loop-test = c.loop-s-test in
-    let range-sound = c.range_sound-slots in
-    omega (arith, ranges_fit_lem pre rank.ensures window-of.ensures.0 loop.invariant loop-test.true range-sound.ensures.1)
+    let found = found_some _ _ _ c.in-Some.ensures in
+    omega (arith, ranges_fit_lem pre rank.ensures window-of.ensures.0 loop.invariant loop-test.true found.1)
 
 pub loop-s-preserved : goal.loop-s-preserved
 loop-s-preserved c =
     let loop = c.loop-s in
     let loop-test = c.loop-s-test in
-    let range-sound = c.range_sound-slots in
-    let if1 = c.if-not-slots in
-    ranges_step _ loop.invariant loop-test.true range-sound.ensures.0 range-sound.ensures.1 (not-false _ if1.false)
+    let found = found_some _ _ _ c.in-Some.ensures in
+    ranges_step _ loop.invariant loop-test.true found.0 found.1
 
 pub returns : goal.returns
 returns c =

@@ -1,5 +1,4 @@
 use Rattle.area_check.proofs.Checking.{slot_plain, slot_read}
-use borrow.Author.Rules.{rules}
 use Rattle.area_check.proofs.sound.slot_held.Goals as goal
 
 pub returns-then-plain : goal.returns-then-plain

@@ -1,12 +1,7 @@
 use Rattle.encoding.proofs.Below.{all_more, all_fails, all_to}
 use Rattle.encoding.specs.Below.{all_below}
-use Rattle.area_check.specs.Means.{slot_held}
-use Rattle.records.specs.Record.{tree_size}
-use borrow.Author.Tests.{not-true, not-false}
 use native.Mathlib.Omega.{arith}
-use mathlib.Core.Bool.{true}
-use mathlib.Core.Path.{◌≡◌, sym, ◌∙◌}
-use Prim.Native.Nat.{◌≤◌, ◌-◌, ◌+◌, ◌*◌}
+use mathlib.Core.Path.{sym, ◌∙◌}
 use borrow.Author.Rules.{rules}
 use Rattle.area_check.proofs.sound.slots_held.Goals as goal
 
@@ -18,7 +13,7 @@ pub returns-then-not-slot_held : goal.returns-then-not-slot_held
 returns-then-not-slot_held c = sym (all_fails _ _ _ c.loop-j-test.true (sym c.slot_held.ensures ∙ c.if-not-slot_held.true))
 
 pub loop-j-preserved : goal.loop-j-preserved
-loop-j-preserved c = (omega arith, all_more _ _ c.loop-j.invariant.1 (sym c.slot_held.ensures ∙ c.if-not-slot_held.false))
+loop-j-preserved c = all_more _ _ c.loop-j.invariant (sym c.slot_held.ensures ∙ c.if-not-slot_held.false)
 
 pub returns : goal.returns
-returns c = sym (all_to _ _ _ c.loop-j.invariant.0 (omega arith) c.loop-j.invariant.1)
+returns c = sym (all_to _ _ _ c.loop-j.auto.j-end (omega arith) c.loop-j.invariant)

@@ -1,12 +1,8 @@
 use Rattle.area.proofs.Headers.{word_below}
 use Rattle.area_check.proofs.Checking.{word_none, word_fail, word_pass}
-use Rattle.area.specs.Area.{bit_sound}
 use Rattle.encoding.proofs.Below.{all_more}
 use Rattle.encoding.specs.Below.{all_below}
-use borrow.Author.Tests.{not-true, not-false}
-use Prim.Native.Nat.{◌+◌, ◌-◌, ◌*◌, ◌≤◌}
-use mathlib.Core.Path.{◌≡◌, sym, ◌∙◌}
-use mathlib.Core.Bool.{true}
+use mathlib.Core.Path.{sym, ◌∙◌}
 use native.Mathlib.Omega.{arith}
 use borrow.Author.Rules.{rules}
 use Rattle.area_check.proofs.sound.word_sound.Goals as goal
@@ -28,7 +24,7 @@ pub returns-then-not-bit_sound : goal.returns-then-not-bit_sound
 returns-then-not-bit_sound c = word_fail _ _ _ c.loop-b-test.true c.bit_sound.ensures (c.if-not-bit_sound.true)
 
 pub loop-b-preserved : goal.loop-b-preserved
-loop-b-preserved c = (omega arith, all_more _ _ c.loop-b.invariant.1 (sym c.bit_sound.ensures ∙ c.if-not-bit_sound.false))
+loop-b-preserved c = all_more _ _ c.loop-b.invariant (sym c.bit_sound.ensures ∙ c.if-not-bit_sound.false)
 
 pub returns : goal.returns
-returns c = word_pass _ _ c.loop-b.invariant.0 c.loop-b-test.false c.loop-b.invariant.1
+returns c = word_pass _ _ c.loop-b.auto.b-end c.loop-b-test.false c.loop-b.invariant

@@ -1,7 +1,7 @@
-use Rattle.area_open.proofs.Opening.{open_fits, fresh_written}
+use Rattle.area_open.proofs.Opening.{open_fits, old_put, old_put_length, new_put, new_put_length, zeros_put, fresh_written}
 use Rattle.offsets.proofs.Tables.{trees_high}
+use lib.ListN.{length-take, length-drop}
 use native.Mathlib.Omega.{arith}
-use borrow.Author.Rules.{rules}
 use Rattle.area_open.proofs.write.write_fresh.Goals as goal
 
 pub overflow_cast-trees : goal.overflow_cast-trees
@@ -18,43 +18,28 @@ write_eight-requires c =
     let area-size = c.area_size-to in
     omega (arith, open_fits pre ranks.ensures.0 tree_count_call.ensures.0 area-size.ensures)
 
-pub copy_words-requires : goal.copy_words-requires
-copy_words-requires c =
-    let pre = c.requires in
-    let ranks = c.ranks-ranks in
-    let tree_count_call = c.tree_count-count in
-    let area-size = c.area_size-to in
-    let f = open_fits pre ranks.ensures.0 tree_count_call.ensures.0 area-size.ensures in record { whole = f.old_long; room = omega (arith, f.zones, f.room) }
+pub slice_bounds-copy_from_slice-end : goal.slice_bounds-copy_from_slice-end
+slice_bounds-copy_from_slice-end c = let f = open_fits c.requires c.ranks-ranks.ensures.0 c.tree_count-count.ensures.0 c.area_size-to.ensures in omega (arith, f.zones, f.room, c.new_place-middle.ensures.1, c.write_eight.auto.out)
 
-pub copy_words-requires-2 : goal.copy_words-requires-2
-copy_words-requires-2 c =
-    let pre = c.requires in
-    let ranks = c.ranks-ranks in
-    let tree_count_call = c.tree_count-count in
-    let area-size = c.area_size-to in
-    let new-place = c.new_place-middle in
-    let f = open_fits pre ranks.ensures.0 tree_count_call.ensures.0 area-size.ensures in record { whole = f.new_long; room = omega (arith, f.zones, f.room, new-place.ensures.1) }
+pub slice_bounds-copy_from_slice-end-2 : goal.slice_bounds-copy_from_slice-end-2
+slice_bounds-copy_from_slice-end-2 c =
+    let f = open_fits c.requires c.ranks-ranks.ensures.0 c.tree_count-count.ensures.0 c.area_size-to.ensures in
+    omega (arith, f.zones, f.room, c.words_place-from.ensures.1, old_put_length _ (open_fits c.requires c.ranks-ranks.ensures.0 c.tree_count-count.ensures.0 c.area_size-to.ensures) c.new_place-middle.ensures.1 c.words_place-from.ensures.1 c.write_eight.auto.out c.copy_from_slice.ensures.after)
 
-pub clear-requires : goal.clear-requires
-clear-requires c =
-    let pre = c.requires in
-    let ranks = c.ranks-ranks in
-    let tree_count_call = c.tree_count-count in
-    let area-size = c.area_size-to in
-    let words-place = c.words_place-from in
-    let f = open_fits pre ranks.ensures.0 tree_count_call.ensures.0 area-size.ensures in (omega (arith, f.zones, words-place.ensures.1), omega (arith, f.room))
+pub copy_from_slice-requires-2 : goal.copy_from_slice-requires-2
+copy_from_slice-requires-2 c =
+    let f = open_fits c.requires c.ranks-ranks.ensures.0 c.tree_count-count.ensures.0 c.area_size-to.ensures in
+    rw (length-take, length-drop) (omega (arith, f.new_long, f.zones, f.room, c.new_place-middle.ensures.1, c.words_place-from.ensures.1, old_put_length _ (open_fits c.requires c.ranks-ranks.ensures.0 c.tree_count-count.ensures.0 c.area_size-to.ensures) c.new_place-middle.ensures.1 c.words_place-from.ensures.1 c.write_eight.auto.out c.copy_from_slice.ensures.after))
+
+pub slice_bounds-fill-count : goal.slice_bounds-fill-count
+slice_bounds-fill-count c = let f = open_fits c.requires c.ranks-ranks.ensures.0 c.tree_count-count.ensures.0 c.area_size-to.ensures in omega (arith, f.zones, c.words_place-from.ensures.1)
+
+pub slice_bounds-fill-start : goal.slice_bounds-fill-start
+slice_bounds-fill-start c = let f = open_fits c.requires c.ranks-ranks.ensures.0 c.tree_count-count.ensures.0 c.area_size-to.ensures in omega (arith, f.zones, f.room, c.words_place-from.ensures.1, new_put_length _ (open_fits c.requires c.ranks-ranks.ensures.0 c.tree_count-count.ensures.0 c.area_size-to.ensures) c.new_place-middle.ensures.1 c.words_place-from.ensures.1 c.write_eight.auto.out c.copy_from_slice.ensures.after c.copy_from_slice-2.ensures.after)
 
 pub returns : goal.returns
 returns c =
-    let pre = c.requires in
-    let ranks = c.ranks-ranks in
-    let trees = c.trees-trees in
-    let tree_count_call = c.tree_count-count in
-    let new-place = c.new_place-middle in
-    let words-place = c.words_place-from in
-    let area-size = c.area_size-to in
-    let write-eight = c.write_eight in
-    let copy-words = c.copy_words in
-    let copy-words2 = c.copy_words-2 in
-    let clear = c.clear in
-    fresh_written _ _ _ _ _ pre.tables _ pre.room ranks.ensures.0 trees.ensures tree_count_call.ensures.0 new-place.ensures.0 words-place.ensures.0 area-size.ensures write-eight.ensures copy-words.ensures copy-words2.ensures clear.ensures
+    let f = open_fits c.requires c.ranks-ranks.ensures.0 c.tree_count-count.ensures.0 c.area_size-to.ensures in
+    fresh_written _ _ _ _ _ c.requires.tables _ c.requires.room c.ranks-ranks.ensures.0 c.trees-trees.ensures c.tree_count-count.ensures.0 c.new_place-middle.ensures.0 c.words_place-from.ensures.0 c.area_size-to.ensures c.write_eight.ensures
+    (old_put _ (open_fits c.requires c.ranks-ranks.ensures.0 c.tree_count-count.ensures.0 c.area_size-to.ensures) c.new_place-middle.ensures.1 c.words_place-from.ensures.1 c.write_eight.auto.out c.copy_from_slice.ensures.after) (new_put _ (open_fits c.requires c.ranks-ranks.ensures.0 c.tree_count-count.ensures.0 c.area_size-to.ensures) c.new_place-middle.ensures.1 c.words_place-from.ensures.1 c.write_eight.auto.out c.copy_from_slice.ensures.after c.copy_from_slice-2.ensures.after)
+    (zeros_put _ (open_fits c.requires c.ranks-ranks.ensures.0 c.tree_count-count.ensures.0 c.area_size-to.ensures) c.new_place-middle.ensures.1 c.words_place-from.ensures.1 c.write_eight.auto.out c.copy_from_slice.ensures.after c.copy_from_slice-2.ensures.after (c.fill.ensures.after (λ y p. p)))

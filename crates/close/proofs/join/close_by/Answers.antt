@@ -1,10 +1,8 @@
 use Rattle.close.proofs.Closing.{close_refused, close_short, join_room, close_done}
 use Rattle.close.proofs.Joining.{numbered_read, index_read}
 use Rattle.close_check.proofs.Checks.{refused_join, not_refused}
-use borrow.Author.Tests.{not-true, not-false}
 use mathlib.Core.Path.{refl, sym, ◌∙◌}
 use native.Mathlib.Omega.{arith}
-use borrow.Author.Rules.{rules}
 use Rattle.close.proofs.join.close_by.Goals as goal
 
 pub make-requires : goal.make-requires
@@ -21,13 +19,12 @@ make-requires c =
 pub join_by-requires : goal.join_by-requires
 join_by-requires c =
     let pre = c.requires in
-    let first_tree_call = c.first_tree in
     let ranks = c.ranks in
     let count = c.count-n in
     let ghosts = c.ghosts-ghosts in
     let ghost-slots-place = c.ghost_slots_place-at in
     let make = c.make in
-    (pre.0, first_tree_call.ensures.0, index_read _ ranks.ensures count.ensures ghosts.ensures ghost-slots-place.ensures.0 make.ensures, omega (arith, pre.1))
+    (pre.0, index_read _ ranks.ensures count.ensures ghosts.ensures ghost-slots-place.ensures.0 make.ensures, omega (arith, pre.1))
 
 pub returns-then-not-join_by : goal.returns-then-not-join_by
 returns-then-not-join_by c =

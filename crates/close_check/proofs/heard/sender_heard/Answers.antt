@@ -1,7 +1,5 @@
-use borrow.Author.Tests.{not-true, not-false}
 use Rattle.area.proofs.Tabled.{tabled_pair}
 use Rattle.close_check.proofs.Checks.{sender_free, sender_due_lem}
-use borrow.Author.Rules.{rules}
 use Rattle.close_check.proofs.heard.sender_heard.Goals as goal
 
 pub sends_some-requires : goal.sends_some-requires

@@ -1,5 +1,4 @@
 use Rattle.deliver.proofs.Merging.{last_none, last_read}
-use borrow.Author.Rules.{rules}
 use Rattle.deliver.proofs.merge.held_last.Goals as goal
 
 pub returns-then-i-eq0 : goal.returns-then-i-eq0

@@ -1,7 +1,5 @@
 use Prim.Native.Nat.{◌+◌}
-use native.Mathlib.Omega.{arith}
-use Rattle.deliver.proofs.Merging.{held_some, Merging, merge_start, last_room, held_turn, came_turn, merge_done}
-use borrow.Author.Rules.{rules}
+use Rattle.deliver.proofs.Merging.{Merging}
 use Rattle.deliver.proofs.merge.merge.Given as goal
 
 abbrev pub invariant-loop-j : goal.invariant-loop-j

@@ -1,13 +1,13 @@
+use Rattle.std.proofs.lemmas.Result.{err_from_is_err_and}
+use mathlib.Core.Path.{refl}
+use Rattle.encoding.proofs.Refusals.{number_positive}
 use Rattle.deliver.proofs.Written.{deliver_refused, deliver_accepted}
-use borrow.Author.Rules.{rules}
 use Rattle.deliver.proofs.sound.deliver_sound.Goals as goal
 
-pub returns-then-refusal-ne0 : goal.returns-then-refusal-ne0
-returns-then-refusal-ne0 c = deliver_refused _ _ c.refusal-refusal.ensures c.if-refusal-ne0.true
+pub returns-in_err-check_delivery : goal.returns-in_err-check_delivery
+returns-in_err-check_delivery c =
+    let p = err_from_is_err_and c.from_residual.result c.from_residual.ensures.1 in
+    rw (p.1, p.2) (deliver_refused _ _ c.in_err-check_delivery.ensures (number_positive _))
 
 pub returns : goal.returns
-returns c =
-    let refusal = c.refusal-refusal in
-    let if1 = c.if-refusal-ne0 in
-    let write-delivery = c.write_delivery in
-    deliver_accepted _ _ refusal.ensures if1.false write-delivery.ensures
+returns c = deliver_accepted _ _ c.in_ok-check_delivery.ensures refl c.write_delivery.ensures

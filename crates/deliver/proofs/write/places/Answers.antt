@@ -1,5 +1,4 @@
 use Rattle.deliver.proofs.Ready.{placed}
-use borrow.Author.Rules.{rules}
 use Rattle.deliver.proofs.write.places.Goals as goal
 
 pub returns : goal.returns

@@ -1,4 +1,3 @@
-use borrow.Author.Rules.{rules}
 use Rattle.deliver.proofs.write.set_heard.Goals as goal
 
 pub returns : goal.returns

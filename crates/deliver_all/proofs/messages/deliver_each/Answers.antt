@@ -1,10 +1,8 @@
 use Rattle.deliver_all.proofs.Parting.{next_most, next_some, part_is}
-use Rattle.deliver_all.proofs.Delivering.{Turn, turn_start, answer_room, turn_next, turn_done}
-use lib.ListN.{length, drop, take}
+use Rattle.deliver_all.proofs.Delivering.{turn_start, answer_room, turn_next, turn_done}
 use native.Mathlib.Omega.{arith}
-use mathlib.Core.Path.{◌≡◌, refl, ◌∙◌, ap}
-use Prim.Native.Nat.{◌+◌, ◌-◌, ◌≤◌}
-use borrow.Author.Rules.{rules}
+use mathlib.Core.Path.{refl, ◌∙◌, ap}
+use Prim.Native.Nat.{ℕ}
 use Rattle.deliver_all.proofs.messages.deliver_each.Goals as goal
 
 pub loop-at-init : goal.loop-at-init
@@ -54,8 +52,8 @@ loop-at-preserved c =
     let args = c.args in
     let loop-test = c.loop-at-test in
     let Front-length = c.front_length in
-    let deliver_sound = c.deliver_sound in
-    (area.given ∙ loop.invariant.0, turn_next _ args.messages.now _ loop.invariant.1 loop-test.true Front-length.ensures.0 (λ i. (c.slice_known-in-loop-at-1.given i).fits) (part_is args.messages.now loop.at Front-length.result) deliver_sound.ensures refl)
+    let told = ap (λ (r : ℕ). (r, c.deliver_sound.new.area)) c.number_of.ensures ∙ c.deliver_sound.ensures in
+    (area.given ∙ loop.invariant.0, turn_next _ args.messages.now _ loop.invariant.1 loop-test.true Front-length.ensures.0 (λ i. (c.slice_known-in-loop-at-1.given i).fits) (part_is args.messages.now loop.at Front-length.result) told refl)
 
 pub shape_of-area : goal.shape_of-area
 shape_of-area c = c.loop-at.invariant.0

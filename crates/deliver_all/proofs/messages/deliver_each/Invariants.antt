@@ -1,10 +1,7 @@
-use Rattle.deliver_all.proofs.Parting.{next_most, next_some, part_is}
-use Rattle.deliver_all.proofs.Delivering.{Turn, turn_start, answer_room, turn_next, turn_done}
-use lib.ListN.{length, drop, take}
-use native.Mathlib.Omega.{arith}
-use mathlib.Core.Path.{◌≡◌, refl, ◌∙◌, ap}
-use Prim.Native.Nat.{◌+◌, ◌-◌, ◌≤◌}
-use borrow.Author.Rules.{rules}
+use Rattle.deliver_all.proofs.Delivering.{Turn}
+use lib.ListN.{length}
+use mathlib.Core.Path.{◌≡◌}
+use Prim.Native.Nat.{◌-◌}
 use Rattle.deliver_all.proofs.messages.deliver_each.Given as goal
 
 abbrev pub invariant-loop-at : goal.invariant-loop-at

@@ -1,6 +1,5 @@
 use native.Mathlib.Omega.{arith}
 use Rattle.deliver_all.proofs.Parting.{front_rest, front_short, front_whole}
-use borrow.Author.Rules.{rules}
 use Rattle.deliver_all.proofs.messages.front_length.Goals as goal
 
 pub returns-then-n-lt32 : goal.returns-then-n-lt32

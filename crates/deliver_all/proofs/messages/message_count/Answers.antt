@@ -1,10 +1,5 @@
 use Rattle.deliver_all.proofs.Parting.{next_most, next_some, count_next, count_end}
-use Rattle.deliver_all.specs.Messages.{messages_in}
-use lib.ListN.{length, drop}
 use native.Mathlib.Omega.{arith}
-use mathlib.Core.Path.{◌≡◌}
-use Prim.Native.Nat.{◌+◌, ◌-◌, ◌≤◌}
-use borrow.Author.Rules.{rules}
 use Rattle.deliver_all.proofs.messages.message_count.Goals as goal
 
 pub loop-at-init : goal.loop-at-init

@@ -1,5 +1,4 @@
 use Rattle.deliver_check.proofs.Checking.{receiver_read}
-use borrow.Author.Rules.{rules}
 use Rattle.deliver_check.proofs.check.receiver_is.Goals as goal
 
 pub returns : goal.returns

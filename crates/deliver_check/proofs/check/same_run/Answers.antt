@@ -1,5 +1,4 @@
 use Rattle.deliver_check.proofs.Checking.{run_read}
-use borrow.Author.Rules.{rules}
 use Rattle.deliver_check.proofs.check.same_run.Goals as goal
 
 pub returns : goal.returns

@@ -1,7 +1,6 @@
 use native.Mathlib.Omega.{arith}
 use Rattle.area.proofs.Tabled.{tabled_pair}
 use Rattle.deliver_check.proofs.Checking.{sender_past, sender_read}
-use borrow.Author.Rules.{rules}
 use Rattle.deliver_check.proofs.check.sender_due.Goals as goal
 
 pub returns-then-ranks-sender : goal.returns-then-ranks-sender

@@ -3,7 +3,6 @@ use mathlib.Core.Path.{sym, ◌∙◌}
 use Rattle.area.proofs.Tabled.{tabled_pair}
 use Rattle.deliver_ghosts.proofs.Rooms.{layout_header, layout_room}
 use Rattle.deliver_check.proofs.Checking.{trees_other, trees_read}
-use borrow.Author.Rules.{rules}
 use Rattle.deliver_check.proofs.check.trees_due.Goals as goal
 
 pub sender-sender-requires : goal.sender-sender-requires

@@ -1,13 +1,8 @@
-use Prim.Native.Nat.{◌≤◌, ◌+◌, ◌-◌}
-use mathlib.Core.Path.{◌≡◌, sym, ◌∙◌}
-use mathlib.Core.Bool.{true}
-use lib.Dec.{eqb}
+use mathlib.Core.Path.{sym, ◌∙◌}
 use native.Mathlib.Omega.{arith}
 use borrow.Author.Tests.{eq-eqb, ne_eqb}
 use Rattle.encoding.specs.Below.{all_below}
 use Rattle.encoding.proofs.Below.{all_more, all_fails, all_to}
-use Rattle.records.specs.Record.{number_of}
-use Rattle.message.specs.Layout.{message_tree}
 use Rattle.deliver_check.proofs.Checking.{numbered_is}
 use borrow.Author.Rules.{rules}
 use Rattle.deliver_check.proofs.check.trees_from.Goals as goal
@@ -28,7 +23,7 @@ loop-i-preserved c =
     let loop = c.loop-i in
     let tree-at = c.tree_at in
     let number_of_call = c.number_of-number in
-    (omega arith, all_more _ _ loop.invariant.1 (numbered_is _ _ _ tree-at.ensures number_of_call.ensures ∙ eq-eqb _ _ c.if-number-first.false))
+    all_more _ _ loop.invariant (numbered_is _ _ _ tree-at.ensures number_of_call.ensures ∙ eq-eqb _ _ c.if-number-first.false)
 
 pub returns : goal.returns
-returns c = sym (all_to _ _ _ c.loop-i.invariant.0 (omega arith) c.loop-i.invariant.1)
+returns c = sym (all_to _ _ _ c.loop-i.auto.i-end (omega arith) c.loop-i.invariant)

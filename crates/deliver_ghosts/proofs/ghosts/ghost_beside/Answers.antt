@@ -1,7 +1,6 @@
 use native.Mathlib.Omega.{arith}
 use Rattle.message.proofs.Layouts.{ghost_fits}
 use Rattle.deliver_ghosts.proofs.Marking.{beside_past, beside_read}
-use borrow.Author.Rules.{rules}
 use Rattle.deliver_ghosts.proofs.ghosts.ghost_beside.Goals as goal
 
 pub number_of-number-requires : goal.number_of-number-requires

@@ -1,11 +1,7 @@
-use Prim.Native.Nat.{◌≤◌, ◌-◌}
-use mathlib.Core.Path.{◌≡◌, sym, ◌∙◌}
-use mathlib.Core.Bool.{true}
+use mathlib.Core.Path.{sym, ◌∙◌}
 use native.Mathlib.Omega.{arith}
-use borrow.Author.Tests.{not-true, not-false}
 use Rattle.encoding.specs.Below.{all_below}
 use Rattle.encoding.proofs.Below.{all_more, all_fails, all_to}
-use Rattle.deliver_ghosts.specs.Means.{ghost_beside}
 use Rattle.deliver_ghosts.proofs.Rooms.{layout_header}
 use borrow.Author.Rules.{rules}
 use Rattle.deliver_ghosts.proofs.ghosts.ghosts_beside.Goals as goal
@@ -16,8 +12,8 @@ trees_below-below-requires c = layout_header _ c.requires.laid
 pub tree_count-count-requires : goal.tree_count-count-requires
 tree_count-count-requires c = layout_header _ c.requires.laid
 
-pub ghost_count-ghosts-requires : goal.ghost_count-ghosts-requires
-ghost_count-ghosts-requires c = layout_header _ c.requires.laid
+pub ghost_count-j-end-requires : goal.ghost_count-j-end-requires
+ghost_count-j-end-requires c = layout_header _ c.requires.laid
 
 pub loop-j-init : goal.loop-j-init
 unfolding all_below
@@ -28,21 +24,21 @@ ghost_beside-requires c =
     let pre = c.requires in
     let trees-below = c.trees_below-below in
     let tree_count_call = c.tree_count-count in
-    let ghost-count = c.ghost_count-ghosts in
+    let ghost-count = c.ghost_count-j-end in
     (pre, trees-below.ensures, tree_count_call.ensures, omega (arith, ghost-count.ensures))
 
 pub returns-then-not-ghost_beside : goal.returns-then-not-ghost_beside
 returns-then-not-ghost_beside c =
     let loop-test = c.loop-j-test in
-    let ghost-count = c.ghost_count-ghosts in
+    let ghost-count = c.ghost_count-j-end in
     let ghost_beside_call = c.ghost_beside in
     sym (all_fails _ _ _ (omega (arith, loop-test.true, ghost-count.ensures)) (sym ghost_beside_call.ensures ∙ c.if-not-ghost_beside.true))
 
 pub loop-j-preserved : goal.loop-j-preserved
-loop-j-preserved c = (omega arith, all_more _ _ c.loop-j.invariant.1 (sym c.ghost_beside.ensures ∙ c.if-not-ghost_beside.false))
+loop-j-preserved c = all_more _ _ c.loop-j.invariant (sym c.ghost_beside.ensures ∙ c.if-not-ghost_beside.false)
 
 pub returns : goal.returns
 returns c =
     let loop = c.loop-j in
-    let ghost-count = c.ghost_count-ghosts in
-    sym (all_to _ _ _ (omega (arith, loop.invariant.0, ghost-count.ensures)) (omega (arith, ghost-count.ensures)) loop.invariant.1)
+    let ghost-count = c.ghost_count-j-end in
+    sym (all_to _ _ _ (omega (arith, loop.auto.j-end, ghost-count.ensures)) (omega (arith, ghost-count.ensures)) loop.invariant)

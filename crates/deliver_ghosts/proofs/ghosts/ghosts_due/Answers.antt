@@ -1,33 +1,13 @@
-use Rattle.deliver_ghosts.proofs.Marking.{trees_fit, beside, due_is}
-use Rattle.deliver_ghosts.proofs.Rooms.{layout_header}
-use borrow.Author.Rules.{rules}
 use native.Mathlib.Omega.{arith}
+use Rattle.deliver_ghosts.proofs.Rooms.{layout_header}
+use Rattle.deliver_ghosts.proofs.Marking.{few_trees}
 use Rattle.deliver_ghosts.proofs.ghosts.ghosts_due.Goals as goal
 
 pub trees_below-requires : goal.trees_below-requires
 trees_below-requires c = layout_header _ c.requires.0.laid
 
-pub mark_trees-requires : goal.mark_trees-requires
-mark_trees-requires c =
-    let pre = c.requires in
-    let trees-below = c.trees_below in
-    let if1 = c.if-trees_below-le65536 in
-    trees_fit pre.0 1024 (omega (arith, trees-below.ensures, if1.true))
+pub due_with-requires : goal.due_with-requires
+due_with-requires c = (c.requires.0, c.requires.1, omega (arith, c.trees_below.ensures, c.if-trees_below-le65536.true), omega arith)
 
-pub ghosts_beside-requires : goal.ghosts_beside-requires
-ghosts_beside-requires c =
-    let pre = c.requires in
-    let rank = c.rank in
-    let trees-below = c.trees_below in
-    let if1 = c.if-trees_below-le65536 in
-    let mark-trees = c.mark_trees in
-    beside pre.0 pre.1 rank.ensures 1024 (omega (arith, trees-below.ensures, if1.true)) mark-trees.ensures
-
-pub returns-then-trees_below-le65536 : goal.returns-then-trees_below-le65536
-returns-then-trees_below-le65536 c =
-    let pre = c.requires in
-    let rank = c.rank in
-    due_is pre.0 pre.1 rank.ensures c.ghosts_beside.ensures
-
-pub returns : goal.returns
-returns c = c.due_of_many.ensures
+pub due_with-requires-2 : goal.due_with-requires-2
+due_with-requires-2 c = (c.requires.0, c.requires.1, omega (arith, few_trees c.requires.0), omega arith)

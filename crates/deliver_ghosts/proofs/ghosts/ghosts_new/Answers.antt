@@ -1,5 +1,4 @@
 use Rattle.deliver_ghosts.proofs.Rooms.{layout_header}
-use borrow.Author.Rules.{rules}
 use Rattle.deliver_ghosts.proofs.ghosts.ghosts_new.Goals as goal
 
 pub ghost_count-ghosts-requires : goal.ghost_count-ghosts-requires

@@ -1,5 +1,4 @@
 use Rattle.deliver_ghosts.proofs.Marking.{held_past, held_read}
-use borrow.Author.Rules.{rules}
 use Rattle.deliver_ghosts.proofs.ghosts.is_held.Goals as goal
 
 pub returns-then-count-position : goal.returns-then-count-position

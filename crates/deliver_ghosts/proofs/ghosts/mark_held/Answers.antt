@@ -1,12 +1,9 @@
 use Rattle.deliver_ghosts.proofs.Marking.{held_start, held_next, held_end, number_low}
-use Rattle.deliver_ghosts.specs.Means.{held_at, Marked}
 use native.Mathlib.Omega.{arith}
-use Prim.Native.Nat.{◌≤◌, ◌-◌}
-use borrow.Author.Rules.{rules}
 use Rattle.deliver_ghosts.proofs.ghosts.mark_held.Goals as goal
 
 pub loop-i-init : goal.loop-i-init
-loop-i-init c = (omega arith, held_start _ _ _)
+loop-i-init c = held_start _ _ _
 
 pub add_member-requires : goal.add_member-requires
 add_member-requires c =
@@ -14,7 +11,7 @@ add_member-requires c =
     let loop-test = c.loop-i-test in
     let read_u32 = c.read_u32-k in
     let loop = c.loop-i in
-    omega (arith, number_low _ _ pre _ loop-test.true read_u32.ensures, loop.invariant.1.same_length)
+    omega (arith, number_low _ _ pre _ loop-test.true read_u32.ensures, loop.invariant.same_length)
 
 pub loop-i-preserved : goal.loop-i-preserved
 loop-i-preserved c =
@@ -23,10 +20,10 @@ loop-i-preserved c =
     let pre = c.requires in
     let loop-test = c.loop-i-test in
     let add-member = c.add_member in
-    (omega arith, held_next _ _ _ loop.invariant.1 read_u32.ensures (number_low _ _ pre _ loop-test.true read_u32.ensures) add-member.ensures)
+    held_next _ _ _ loop.invariant read_u32.ensures (number_low _ _ pre _ loop-test.true read_u32.ensures) add-member.ensures
 
 pub shape_of-marks : goal.shape_of-marks
-shape_of-marks c = c.loop-i.invariant.1.same_length
+shape_of-marks c = c.loop-i.invariant.same_length
 
 pub returns : goal.returns
-returns c = held_end _ _ c.loop-i.invariant.1 c.loop-i.invariant.0 (omega arith)
+returns c = held_end _ _ c.loop-i.invariant c.loop-i.auto.i-end (omega arith)

@@ -1,10 +1,9 @@
-use mathlib.Core.Path.{ap}
+use mathlib.Core.Path.{ap, ◌∙◌}
 use Rattle.area.specs.Layout.{heard_words}
 use Rattle.area.proofs.Tabled.{tabled_pair, tabled_long}
-use Rattle.area_check.proofs.Checking.{range_none, due, range_held, range_zero}
+use Rattle.area_check.proofs.Checking.{found, range_none, due, range_held, range_zero}
 use native.Mathlib.Omega.{arith}
-use borrow.Author.Rules.{rules}
-use Rattle.area_check.proofs.sound.range_sound.Goals as goal
+use Rattle.area_check.proofs.sound.range_filled.Goals as goal
 
 pub sent-sent-requires : goal.sent-sent-requires
 sent-sent-requires c = tabled_pair c.requires.0 c.requires.1 c.rank-rank.ensures
@@ -14,7 +13,7 @@ returns-then-count-eq0 c =
     let pre = c.requires in
     let rank = c.rank-rank in
     let sent = c.sent-sent in
-    range_none pre.0 pre.1 rank.ensures sent.ensures.0 sent.ensures.1 c.if-count-eq0.true
+    found (range_none pre.0 pre.1 rank.ensures sent.ensures.0 sent.ensures.1 c.if-count-eq0.true)
 
 pub first_tree-own-requires : goal.first_tree-own-requires
 first_tree-own-requires c = omega (arith, tabled_long c.requires.0 c.rank-rank.ensures)
@@ -59,7 +58,7 @@ returns-then-heard c =
     let slots-place = c.slots_place in
     let heard = c.heard in
     let if2 = c.if-heard in
-    range_held pre.0 pre.1 rank.ensures sent.ensures.0 sent.ensures.1 if1.false first_tree_call.ensures _ to_local.ensures ranks.ensures slots-place.ensures.0 heard.ensures if2.true c.slots_held.ensures
+    c.then_some.ensures ∙ found (range_held pre.0 pre.1 rank.ensures sent.ensures.0 sent.ensures.1 if1.false first_tree_call.ensures _ to_local.ensures ranks.ensures slots-place.ensures.0 heard.ensures if2.true c.slots_held.ensures)
 
 pub slice_bounds-all_zero-end : goal.slice_bounds-all_zero-end
 slice_bounds-all_zero-end c =
@@ -85,4 +84,4 @@ returns c =
     let slots-place = c.slots_place in
     let heard = c.heard in
     let if2 = c.if-heard in
-    range_zero pre.0 pre.1 rank.ensures sent.ensures.0 sent.ensures.1 if1.false first_tree_call.ensures _ to_local.ensures ranks.ensures slots-place.ensures.0 heard.ensures if2.false c.all_zero.ensures
+    c.then_some-2.ensures ∙ found (range_zero pre.0 pre.1 rank.ensures sent.ensures.0 sent.ensures.1 if1.false first_tree_call.ensures _ to_local.ensures ranks.ensures slots-place.ensures.0 heard.ensures if2.false c.all_zero.ensures)

@@ -1,9 +1,7 @@
 use mathlib.Core.Path.{sym, ◌∙◌}
-use borrow.Author.Tests.{not-true, not-false}
 use Rattle.deliver_ghosts.proofs.Rooms.{layout_header}
 use Rattle.deliver_check.proofs.Checking.{sender_low, sender_rank, fails_sender, fails_heard, fails_trees, fails_ghosts, fails_new, none_fails}
-use borrow.Author.Rules.{rules}
-use Rattle.deliver_check.proofs.check.due_refusal.Goals as goal
+use Rattle.deliver_check.proofs.check.check_due.Goals as goal
 
 pub sender_due-requires : goal.sender_due-requires
 sender_due-requires c = (c.requires.0, layout_header _ c.requires.1.laid)

@@ -2,7 +2,7 @@
 use Prim.Native.Nat.{ℕ, ◌+◌, ◌*◌, ◌≤◌, ◌<◌}
 use native.Mathlib.Omega.{arith}
 use native.Mathlib.Nat.{zero-add}
-use mathlib.Core.Path.{◌≡◌}
+use mathlib.Core.Path.{◌≡◌, ap}
 use mathlib.Core.Bool.{true, false}
 use mathlib.Core.List.{List}
 use lib.Dec.{leb}
@@ -12,7 +12,10 @@ use Rattle.encoding.specs.declared.answer.Length.{Length}
 use Rattle.encoding.specs.Answer.{length_refused, length_answer, written, write_answer}
 use Rattle.encoding.specs.Pieces.{splice}
 use Rattle.encoding.specs.Refusal.{first_failed}
+use Rattle.encoding.specs.Refusals.{refusal_number}
+use Rattle.encoding.specs.declared.refusal.Refusal.{Refusal}
 use Rattle.encoding.proofs.Below.{either}
+use Rattle.encoding.proofs.Refusals.{number_positive}
 use Rattle.encoding.proofs.Pieces.{splice_take}
 use Rattle.mesh.specs.Mesh.{mesh_refusal}
 use Rattle.brick.specs.Brick.{brick_mesh}
@@ -30,10 +33,26 @@ module _ (a b c : ℕ) where
   unfolding brick_length_of length_answer first_failed
   length_inside h e = rw (h, e)
 
+  -- what an accepted length tells
+  pub length_known : {n : ℕ} → record { refusal = 0; length = n } ≡ brick_length_of a b c → (extents_ok a b c ≡ true) × (n ≡ 8 + 64 * (a * b * c))
+  unfolding brick_length_of length_answer first_failed
+  length_known e =
+      either (extents_ok a b c)
+      (λ h. (h, ap (λ (l : Length). l.length) (rw h at e)))
+      (λ h. absurd (let z : ◌≡◌ {A = ℕ} 0 26 = ap (λ (l : Length). l.refusal) (rw h at e) in omega arith))
+
+  -- and a refused one
+  refused_is : (e : Refusal) → length_refused (refusal_number e) ≡ brick_length_of a b c → (extents_ok a b c ≡ false) × (refusal_number e ≡ 26)
+  unfolding brick_length_of length_answer first_failed
+  refused_is e q =
+      either (extents_ok a b c)
+      (λ h. absurd (number_positive e (ap (λ (l : Length). l.refusal) (rw h at q))))
+      (λ h. (h, ap (λ (l : Length). l.refusal) (rw h at q)))
+
   module _ (p q r : ℕ) (out : List ℕ) where
-    pub write_outside : {l : Length} → extents_ok a b c ≡ false → l ≡ length_refused 26 → (l, out) ≡ write_brick_of a b c p q r out
+    pub write_outside : (e : Refusal) → length_refused (refusal_number e) ≡ brick_length_of a b c → (length_refused (refusal_number e), out) ≡ write_brick_of a b c p q r out
     unfolding write_brick_of write_answer written length_answer first_failed
-    write_outside h e = rw (h, e)
+    write_outside e h = let k = refused_is e h in rw (k.0, k.1)
 
     module _ (h : extents_ok a b c ≡ true) where
       long : length (brick_mesh a b c (yes p) (yes q) (yes r)) ≡ 8 + 64 * (a * b * c)

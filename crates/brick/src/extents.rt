@@ -7,7 +7,7 @@ ghost use Rattle.brick.specs.Calls.{extent_ok, extents_ok};
 fn extent_ok(extent: u32) -> bool
     ensures { result ≡ extent_ok extent }
 {
-    (1 <= extent) & (extent <= 64)
+    (1..=64).contains(&extent)
 }
 
 pub fn extents_ok(a: u32, b: u32, c: u32) -> bool

@@ -19,17 +19,13 @@ fn next(at: Place, a: u32, b: u32, k: u32) -> Place
     ensures { Stands a b (k + 1) result.x result.y result.z }
 {
     if at.x + 1 < a {
-        return Place {
-            x: at.x + 1,
-            y: at.y,
-            z: at.z,
-        };
+        return Place { x: at.x + 1, ..at };
     }
     if at.y + 1 < b {
         return Place {
             x: 0,
             y: at.y + 1,
-            z: at.z,
+            ..at
         };
     }
     Place {
@@ -39,7 +35,7 @@ fn next(at: Place, a: u32, b: u32, k: u32) -> Place
     }
 }
 
-// The row of the low face of tree k on an axis.
+// The row of the low face of tree k on an axis. Low and high faces go in opposite directions and are no one rule.
 fn low(k: u32, x: u32, extent: u32, stride: u32, periodic: bool, face: u32) -> [u32; 3]
     requires { OnAxis k x extent stride × (face < 6) }
     ensures { result ≡ low_row k x extent stride periodic face }
@@ -75,8 +71,7 @@ pub fn write_trees(out: &mut [u8], a: u32, b: u32, c: u32, p: bool, q: bool, r: 
     mesh_build::write::header(&mut *out, 2, trees);
     let layer = a * b;
     let mut at = Place { x: 0, y: 0, z: 0 };
-    let mut k = 0;
-    while k < trees {
+    for k in 0..trees {
         let rows = [
             low(k, at.x, a, 1, p, 0),
             high(k, at.x, a, 1, p, 1),
@@ -87,6 +82,5 @@ pub fn write_trees(out: &mut [u8], a: u32, b: u32, c: u32, p: bool, q: bool, r: 
         ];
         mesh_build::write::tree(&mut *out, k, 2, rows);
         at = next(at, a, b, k);
-        k += 1;
     }
 }

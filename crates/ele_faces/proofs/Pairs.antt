@@ -1,9 +1,9 @@
 -- Two vertices in either order.
-use Prim.Native.Nat.{ℕ, ◌+◌, ◌*◌, ◌/◌, ◌%◌, ◌≤◌, ◌<◌}
+use Prim.Native.Nat.{ℕ, ◌+◌, ◌*◌, ◌/◌, ◌%◌, ◌≤◌, ◌<◌, min, max}
 use mathlib.Core.Path.{◌≡◌, refl, sym, ap, ◌∙◌}
 use mathlib.Core.Bool.{Bool, true, false, cond, ◌&&◌, ◌||◌}
 use mathlib.Core.List.{List}
-use native.Mathlib.Nat.{mod-lt}
+use native.Mathlib.Nat.{mod-lt, add-zero}
 use native.Mathlib.Omega.{arith}
 use lib.Dec.{ltb, eqb}
 use lib.ListN.{get_or}
@@ -19,9 +19,9 @@ module _ (vs : List ℕ) (f : ℕ) where
   unfolding first_vertex corner_of
   first_one e = rw (eq-eqb (f % 3) 0 e)
 
-  pub first_zero : (f % 3 ≡ 0 → ⊥) → get_or vs (3 * (f / 3) + 0) 0 ≡ first_vertex vs f
+  pub first_zero : (f % 3 ≡ 0 → ⊥) → get_or vs (3 * (f / 3)) 0 ≡ first_vertex vs f
   unfolding first_vertex corner_of
-  first_zero e = rw (ne_eqb (f % 3) 0 e)
+  first_zero e = rw (ne_eqb (f % 3) 0 e, add-zero)
 
   pub second_one : f % 3 ≡ 2 → get_or vs (3 * (f / 3) + 1) 0 ≡ second_vertex vs f
   unfolding second_vertex corner_of
@@ -130,13 +130,15 @@ module _ (vs : List ℕ) where
       hash-ends m g ∙ (ap (λ (n : ℕ). (4294967296 * n + high_of g) % m) (sym (same_ends f g e).0) ∙ (ap (λ (n : ℕ). (4294967296 * low_of f + n) % m) (sym (same_ends f g e).1) ∙ sym (hash-ends m f)))
 
   module _ (m f : ℕ) (some : 1 ≤ m) {a b : ℕ} (ea : a ≡ first_vertex vs f) (eb : b ≡ second_vertex vs f) where
-    pub hash_rising : a < b → ((4294967296 * a + b) % m ≡ hash_of vs m f) × ((4294967296 * a + b) % m < m)
+    pub hash_read : ((4294967296 * min a b + max a b) % m ≡ hash_of vs m f) × ((4294967296 * min a b + max a b) % m < m)
     unfolding hash_of mixed
-    hash_rising l = (rw (← ea, ← eb, lt-ltb a b l), mod-lt _ some)
-
-    pub hash_falling : b ≤ a → ((4294967296 * b + a) % m ≡ hash_of vs m f) × ((4294967296 * b + a) % m < m)
-    unfolding hash_of mixed
-    hash_falling l = (rw (← ea, ← eb, le-ltb a b l), mod-lt _ some)
+    hash_read = (
+      rw (← ea, ← eb)
+          (either (ltb a b)
+          (λ p. let n : min a b ≡ a = omega tests in let x : max a b ≡ b = omega tests in rw (p, n, x))
+          (λ p. let n : min a b ≡ b = omega tests in let x : max a b ≡ a = omega tests in rw (p, n, x))),
+      mod-lt _ some,
+    )
 
   -- ---- orientation
 

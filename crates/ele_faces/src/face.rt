@@ -1,5 +1,5 @@
 // Faces of triangles, by their vertices.
-ghost use Rattle.std.specs.Prelude.{◌≡◌, ◌≤◌, ◌<◌, ◌^◌, length};
+ghost use Rattle.std.specs.Prelude.{◌≡◌, ◌≤◌, ◌<◌, length};
 ghost use Rattle.ele_faces.specs.Faces.{first_vertex, second_vertex, same_set, turn_of};
 ghost use Rattle.ele_faces.specs.Means.{hash_of, Whole};
 
@@ -9,7 +9,7 @@ pub fn first_vertex(vs: &[u32], f: usize) -> u32
     ensures { result ≡ first_vertex vs.now f }
 {
     let t = 3 * (f / 3);
-    if f % 3 == 0 { vs[t + 1] } else { vs[t + 0] }
+    if f % 3 == 0 { vs[t + 1] } else { vs[t] }
 }
 
 // The vertex at its other corner.
@@ -32,23 +32,14 @@ pub fn same_set(vs: &[u32], f: usize, g: usize) -> bool
     ((a == c) & (b == d)) | ((a == d) & (b == c))
 }
 
-fn wide(x: u32) -> u64
-    ensures { (result ≡ x) × (result < 2 ^ 32) }
-{
-    x as u64
-}
-
 // A hash of a face's vertex set, below m.
 pub fn hash_of(vs: &[u32], m: u64, f: usize) -> usize
     requires { Whole vs.now × (f < length vs.now) × (1 ≤ m) }
     ensures { (result ≡ hash_of vs.now m f) × (result < m) }
 {
-    let a = wide(first_vertex(vs, f));
-    let b = wide(second_vertex(vs, f));
-    if a < b {
-        return ((4294967296 * a + b) % m) as usize;
-    }
-    ((4294967296 * b + a) % m) as usize
+    let a = first_vertex(vs, f) as u64;
+    let b = second_vertex(vs, f) as u64;
+    ((4294967296 * a.min(b) + a.max(b)) % m) as usize
 }
 
 // 0 if the lower-numbered corners of both faces are the same vertex, else 1.

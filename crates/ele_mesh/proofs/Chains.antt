@@ -1,21 +1,23 @@
 -- Chains of faces with one hash, and walks along them.
-use Prim.Native.Nat.{ℕ, zero, suc, ◌+◌, ◌-◌, ◌*◌, ◌/◌, ◌%◌, ◌≤◌, ◌<◌}
+use Prim.Native.Nat.{ℕ, suc, ◌+◌, ◌-◌, ◌*◌, ◌/◌, ◌≤◌, ◌<◌}
 use mathlib.Core.Path.{◌≡◌, refl, sym, ap, ◌∙◌}
 use mathlib.Core.Bool.{Bool, true, false, cond, not, ◌&&◌, ◌||◌}
 use mathlib.Core.List.{List}
-use native.Mathlib.Nat.{zero-add}
+use native.Mathlib.Nat.{zero-add, add-zero}
 use native.Mathlib.Numerals.{add-one}
 use native.Mathlib.Omega.{arith}
-use lib.Dec.{leb, ltb, eqb}
-use lib.ListN.{length, get_or, set, length-set}
+use lib.Dec.{leb, eqb}
+use mir.Val.{bool_byte}
+use lib.ListN.{length, get_or, set, length-set, replicate}
+use Rattle.std.proofs.lemmas.List.{get_or-replicate}
 use lib.Seq.{get_or-set_same, get_or-set_other}
-use borrow.Author.Tests.{ltb-true, eqb-true, eqb-false, eq-eqb, ne_eqb, le-leb, lt-leb}
+use borrow.Author.Tests.{eqb-true, eqb-false, eq-eqb, ne_eqb, le-leb, lt-leb}
 use Rattle.encoding.specs.Below.{all_below, any_below, count_below}
-use Rattle.encoding.proofs.Below.{tests, either, and_fst, and_snd, count_le, count_more, all_same, all_more, all_fails, all_to, any_not}
+use Rattle.encoding.proofs.Below.{either, and_snd, count_le, count_more, all_same, all_more, all_fails, all_to, any_not}
 use Rattle.ele_text.specs.Text.{max_triangles}
 use Rattle.ele_faces.specs.Faces.{corner_of, vertex_twice, vertices_differ, same_set, three_faces, latest_below, meets_face, partner}
 use Rattle.ele_faces.specs.Means.{hash_of, Whole}
-use Rattle.ele_mesh.specs.Means.{hashes, latest_hashed, Modulus, Chained, Blank, Room, Ready}
+use Rattle.ele_mesh.specs.Means.{hashes, latest_hashed, Modulus, Chained, Blank, Ready}
 use Rattle.ele_faces.proofs.Pairs.{same_hash}
 use Rattle.ele_mesh.proofs.Latest.{latest_most, latest_passes, latest_through, count_through, two_count}
 
@@ -86,6 +88,15 @@ chaining_done vs m {heads₀} {links₀} {heads} {links} {f} c w o l =
     record { whole = w; modulus = o; hashed = c.hashed; faces = c.faces; chains = rw (← e) c.chains }
 
 -- ---- walking along a chain
+
+-- a test as a number
+pub one_if : (b : Bool) {c : Bool} → b ≡ c → bool_byte b ≡ cond c 1 0
+one_if true e = rw (← e)
+one_if false e = rw (← e)
+
+pub one_most : (b : Bool) → bool_byte b ≤ 1
+one_most true = omega arith
+one_most false = omega arith
 
 module _ (vs : List ℕ) (m : ℕ) (heads links : List ℕ) (r : Ready vs m heads links) (f : ℕ) (l : f < length vs) where
   -- the place is that of a face with the hash of f, or the end
@@ -172,11 +183,11 @@ module _ (vs : List ℕ) (m : ℕ) (heads links : List ℕ) (r : Ready vs m head
     back : at ≡ suc (at - 1)
     back = omega arith
 
-    pub sought_found : (not (eqb (at - 1) f) && b) ≡ true → at ≡ partner vs f
+    pub sought_found : (not (eqb (at - 1) f) && b) ≡ true → suc (at - 1) ≡ partner vs f
     unfolding latest_below meets_face
     sought_found t =
         let s : latest_below (suc (at - 1)) (meets_face vs f) ≡ suc (at - 1) = rw (← eb, t) in
-        back ∙ sym (c.sought ∙ (ap (λ (i : ℕ). latest_below i (meets_face vs f)) back ∙ s))
+        sym (c.sought ∙ (ap (λ (i : ℕ). latest_below i (meets_face vs f)) back ∙ s))
 
     module _ (t : (not (eqb (at - 1) f) && b) ≡ false) {a : ℕ} (ea : a ≡ get_or links (at - 1) 0) where
       onward : a ≡ latest_hashed vs m (at - 1) (hash_of vs m f)
@@ -213,10 +224,10 @@ edges_pairs vs =
 
 -- ---- vertices twice
 
-module _ (vs : List ℕ) (t : ℕ) {a b c : ℕ} (ea : a ≡ get_or vs (3 * t + 0) 0) (eb : b ≡ get_or vs (3 * t + 1) 0) (ec : c ≡ get_or vs (3 * t + 2) 0) where
+module _ (vs : List ℕ) (t : ℕ) {a b c : ℕ} (ea : a ≡ get_or vs (3 * t) 0) (eb : b ≡ get_or vs (3 * t + 1) 0) (ec : c ≡ get_or vs (3 * t + 2) 0) where
   twice-read : (eqb a b || (eqb a c || eqb b c)) ≡ vertex_twice vs t
   unfolding vertex_twice corner_of
-  twice-read = rw (ea, eb, ec)
+  twice-read = rw (ea, eb, ec, add-zero)
 
   pub differ_more : all_below t (λ t. not (vertex_twice vs t)) ≡ true → (eqb a b || (eqb a c || eqb b c)) ≡ false → all_below (t + 1) (λ t. not (vertex_twice vs t)) ≡ true
   differ_more h e = all_more t (λ t. not (vertex_twice vs t)) h (ap not (sym twice-read ∙ e))
@@ -253,16 +264,5 @@ module _ (vs : List ℕ) where
 
 -- ---- clearing
 
-pub blank_none : (heads : List ℕ) → Blank heads 0
-blank_none heads h l = absurd (omega arith)
-
-pub blank_more : (heads : List ℕ) (n : ℕ) → n < length heads → Blank heads n → Blank (set heads n 0) (n + 1)
-blank_more heads n l b h k =
-    either (eqb h n)
-    (λ p. let q : h ≡ n = eqb-true h n p in rw (q, get_or-set_same heads n 0 0 l))
-    (λ p. let q : (h ≡ n) → ⊥ = eqb-false h n p in rw (get_or-set_other heads n h 0 0 q) (b h (omega arith)))
-
--- ---- trying numbers of hashes
-
-pub trying : (j n : ℕ) → (ltb j 64 && ltb 1572864 n) ≡ true → j < 64
-trying j n e = ltb-true j 64 (and_fst (ltb j 64) _ e)
+pub blank_filled : (n : ℕ) {heads : List ℕ} → hashes ≤ n → heads ≡ replicate n 0 → Blank heads hashes
+blank_filled n a e h l = ap (λ (bs : List ℕ). get_or bs h 0) e ∙ get_or-replicate n h 0 0 (omega arith)

@@ -1,20 +1,19 @@
 -- The links between faces make a sound mesh where no three faces have one vertex set.
-use Prim.Native.Nat.{ℕ, zero, suc, ◌+◌, ◌-◌, ◌*◌, ◌/◌, ◌%◌, ◌≤◌, ◌<◌}
+use Prim.Native.Nat.{ℕ, suc, ◌+◌, ◌-◌, ◌*◌, ◌/◌, ◌%◌, ◌≤◌, ◌<◌}
 use mathlib.Core.Path.{◌≡◌, refl, sym, ap, ◌∙◌}
-use mathlib.Core.Bool.{Bool, true, false, cond, not, ◌&&◌}
+use mathlib.Core.Bool.{true, false, not, ◌&&◌}
 use mathlib.Core.List.{List, [], ◌∷◌}
 use native.Mathlib.Omega.{arith}
 use lib.Dec.{ltb, eqb}
 use lib.ListN.{length}
-use borrow.Author.Tests.{lt-ltb, eqb-true, eqb-false, eq-eqb, ne_eqb, not-true, le-leb}
+use borrow.Author.Tests.{lt-ltb, eqb-true, eqb-false, ne_eqb, not-true, le-leb}
 use Rattle.encoding.specs.Below.{any_below}
 use Rattle.encoding.proofs.Below.{tests, either, clash, and_fst, and_snd, and_intro, any_intro}
 use Rattle.offsets.specs.Limits.{tree_count_ok}
 use Rattle.records.specs.Shape.{face_count, corners_of, corners}
-use Rattle.records.specs.Record.{unused}
 use Rattle.mesh_build.specs.Build.{NewLink, face_row, tree_rows, LinksFit}
 use Rattle.ele_text.specs.Text.{max_triangles}
-use Rattle.ele_faces.specs.Faces.{first_vertex, same_set, three_faces, latest_below, meets_face, partner, turn_of, face_link}
+use Rattle.ele_faces.specs.Faces.{first_vertex, same_set, three_faces, meets_face, partner, turn_of, face_link}
 use Rattle.ele_mesh.specs.Means.{link_row, Drawn}
 use Rattle.ele_faces.proofs.Pairs.{same_turned, same_on, turn_turned}
 use Rattle.ele_mesh.proofs.Latest.{latest_most, latest_passes, latest_least}
@@ -104,11 +103,11 @@ module _ (vs : List ℕ) (t i : ℕ) where
   unfolding face_link
   link_joined g e = let s : suc g - 1 ≡ g = omega arith in rw (e, s, ne_eqb (suc g) 0 (λ q. omega arith))
 
-  pub link_none : {m : ℕ} → m ≡ partner vs (3 * t + i) → m ≡ 0 → t ∷ i ∷ 0 ∷ [] ≡ link_row (face_link vs t i)
-  link_none e z = rw (link_alone (sym e ∙ z))
+  pub link_none : 0 ≡ partner vs (3 * t + i) → t ∷ i ∷ 0 ∷ [] ≡ link_row (face_link vs t i)
+  link_none e = rw (link_alone (sym e))
 
-  pub link_some : {m o : ℕ} → m ≡ partner vs (3 * t + i) → (m ≡ 0 → ⊥) → o ≡ turn_of vs (3 * t + i) (m - 1) → (m - 1) / 3 ∷ (m - 1) % 3 ∷ o ∷ [] ≡ link_row (face_link vs t i)
-  link_some {m} {o} e z q = let s : partner vs (3 * t + i) ≡ suc (m - 1) = sym e ∙ omega arith in rw (link_joined (m - 1) s, q)
+  pub link_some : {g o : ℕ} → suc g ≡ partner vs (3 * t + i) → o ≡ turn_of vs (3 * t + i) g → g / 3 ∷ g % 3 ∷ o ∷ [] ≡ link_row (face_link vs t i)
+  link_some {g} {o} e q = rw (link_joined g (sym e), q)
 
 pub three_rows : (link : ℕ → NewLink) {a b c : List ℕ} → a ≡ link_row (link 0) → b ≡ link_row (link 1) → c ≡ link_row (link 2)
     → a ∷ b ∷ c ∷ (4294967295 ∷ 0 ∷ 0 ∷ []) ∷ (4294967295 ∷ 0 ∷ 0 ∷ []) ∷ (4294967295 ∷ 0 ∷ 0 ∷ []) ∷ [] ≡ tree_rows 1 link

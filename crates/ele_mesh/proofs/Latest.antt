@@ -1,13 +1,13 @@
 -- The greatest number below n that passes a test.
 use Prim.Native.Nat.{ℕ, zero, suc, ◌+◌, ◌≤◌, ◌<◌}
-use mathlib.Core.Path.{◌≡◌, refl, sym, ap, ◌∙◌}
-use mathlib.Core.Bool.{Bool, true, false, cond, not, ◌&&◌, ◌||◌}
+use mathlib.Core.Path.{◌≡◌, refl}
+use mathlib.Core.Bool.{Bool, true, false, not, ◌&&◌, ◌||◌}
 use native.Mathlib.Nat.{add-zero}
 use native.Mathlib.Omega.{arith}
-use lib.Dec.{leb, eqb}
-use borrow.Author.Tests.{le-leb, lt-leb, leb-true, leb-false}
+use lib.Dec.{leb}
+use borrow.Author.Tests.{lt-leb}
 use Rattle.encoding.specs.Below.{any_below, count_below}
-use Rattle.encoding.proofs.Below.{tests, either, clash, below_suc, and_snd, any_intro, any_at, any_none, any_false, count_none, count_lt, count_le}
+use Rattle.encoding.proofs.Below.{either, clash, below_suc, any_at, any_none, any_false, count_none, count_lt}
 use Rattle.ele_faces.specs.Faces.{latest_below}
 
 pub latest_most : (n : ℕ) (p : ℕ → Bool) → latest_below n p ≤ n

@@ -1,29 +1,29 @@
 -- The checks of a text, and the calls' answers.
-use Prim.Native.Nat.{ℕ, zero, suc, ◌+◌, ◌-◌, ◌*◌, ◌/◌, ◌%◌, ◌≤◌, ◌<◌}
+use Prim.Native.Nat.{ℕ, ◌+◌, ◌*◌, ◌≤◌, ◌<◌}
 use mathlib.Core.Path.{◌≡◌, refl, sym, ap, ◌∙◌}
 use mathlib.Core.Bool.{Bool, true, false, cond, not, ◌&&◌, ◌||◌}
 use mathlib.Core.List.{List, [], ◌∷◌}
 use native.Mathlib.Omega.{arith}
 use lib.Dec.{leb, eqb}
 use lib.ListN.{length, take}
-use borrow.Author.Tests.{leb-true, eqb-true, eqb-false, eq-eqb, ne_eqb, not-true, not-false, le-leb, lt-leb}
+use borrow.Author.Tests.{leb-true, eqb-true, ne_eqb, not-true, not-false, le-leb, lt-leb}
 use Rattle.encoding.specs.Answer.{length_refused, length_answer, written, write_answer}
-use Rattle.encoding.specs.declared.answer.Length.{Length}
 use Rattle.encoding.specs.Pieces.{splice}
 use Rattle.encoding.specs.Refusal.{check, first_failed}
 use Rattle.encoding.proofs.Below.{either, clash, and_fst, and_snd}
-use Rattle.records.specs.Record.{tree_size}
-use Rattle.mesh.specs.Mesh.{mesh_header}
 use Rattle.mesh_build.specs.Build.{built_mesh}
 use Rattle.mesh_build.proofs.Building.{built_length}
-use Rattle.ele_text.specs.declared.file.File.{File}
+use Rattle.std.specs.Prelude.{None, Some}
+use Rattle.encoding.specs.declared.refusal.Refusal.{Refusal}
+use Rattle.encoding.specs.Refusals.{refusal_number}
+use Rattle.encoding.proofs.Refusals.{number_positive, refused_first}
 use Rattle.ele_text.specs.Text.{rows as rows_in, lines, ended, row_number, row_ok, max_triangles, head_ok, numbered, rows_ok, text_ok, behind_first, vertices_of, vertices, triangles}
 use Rattle.ele_text.specs.Means.{TextRead}
 use Rattle.ele_mesh.specs.declared.check.Found.{Found}
 use Rattle.ele_faces.specs.Faces.{vertices_differ, three_faces, face_link}
 use Rattle.ele_mesh.specs.Calls.{triangle_mesh, triangle_bytes, triangle_refusal, import_refusal, triangle_length, import_triangle}
 use Rattle.ele_faces.specs.Means.{Whole}
-use Rattle.ele_mesh.specs.Means.{Ready, Surveyed, Drawn}
+use Rattle.ele_mesh.specs.Means.{Ready, Given, Drawn}
 use Rattle.ele_mesh.proofs.Chains.{edges_pairs, paired}
 
 -- ---- how many triangles a text has
@@ -101,66 +101,66 @@ module _ (text : List ℕ) where
 
 -- ---- the survey
 
-refused_survey : (text vs heads links : List ℕ) (n : ℕ) → 1 ≤ n → n ≡ triangle_refusal text → Surveyed text vs heads links (record { refusal = n; count = 0; modulus = 0 })
-refused_survey text vs heads links n h e =
-    record { refusal = e; count = λ z. absurd (omega arith); within = omega arith; filled = λ z. absurd (omega arith); ready = λ z. absurd (omega arith) }
+module _ (text vs : List ℕ) where
+  pub survey_form : TextRead text vs None → 27 ≡ triangle_refusal text
+  survey_form r = refused_form text r
 
-module _ (text vs : List ℕ) (f : File) (r : TextRead text vs f) where
-  pub survey_form : not f.ok ≡ true → {heads links : List ℕ} → Surveyed text vs heads links (record { refusal = 27; count = 0; modulus = 0 })
-  survey_form e {heads} {links} = refused_survey text vs heads links 27 (omega arith) (refused_form text (sym r.ok ∙ not-true f.ok e))
-
-  module _ (ok : not f.ok ≡ false) where
-    good : f.ok ≡ true
-    good = not-false f.ok ok
-
-    form : text_ok text ≡ true
-    form = sym r.ok ∙ good
-
+  module _ (n : ℕ) (r : TextRead text vs (Some n)) where
     -- the vertices of the text
-    pub slice : take (3 * f.count) vs ≡ vertices text
-    slice = r.filled good
+    pub slice : take (3 * n) vs ≡ vertices text
+    slice = r.filled
 
-    pub slice_whole : Whole (take (3 * f.count) vs)
-    slice_whole = rw slice (text_whole text form)
+    pub slice_whole : Whole (take (3 * n) vs)
+    slice_whole = rw slice (text_whole text r.ok)
 
-    pub survey_twice : {b : Bool} → b ≡ vertices_differ (take (3 * f.count) vs) → not b ≡ true → {heads links : List ℕ} → Surveyed text vs heads links (record { refusal = 28; count = 0; modulus = 0 })
-    survey_twice {b} e q {heads} {links} = refused_survey text vs heads links 28 (omega arith) (refused-twice text form (rw (← slice) (sym e ∙ not-true b q)))
+    pub survey_twice : false ≡ vertices_differ (take (3 * n) vs) → 28 ≡ triangle_refusal text
+    survey_twice e = refused-twice text r.ok (rw (← slice) (sym e))
 
-    module _ {d : Bool} (ed : d ≡ vertices_differ (take (3 * f.count) vs)) (pd : not d ≡ false) {m : ℕ} {heads links : List ℕ} (ready : Ready (take (3 * f.count) vs) m heads links) {b : Bool}
-        (e : b ≡ Rattle.encoding.specs.Below.all_below (length (take (3 * f.count) vs)) (paired (take (3 * f.count) vs))) where
+    module _ (ed : true ≡ vertices_differ (take (3 * n) vs)) {m : ℕ} {heads links : List ℕ} (ready : Ready (take (3 * n) vs) m heads links) {b : Bool}
+        (e : b ≡ Rattle.encoding.specs.Below.all_below (length (take (3 * n) vs)) (paired (take (3 * n) vs))) where
       differ : vertices_differ (vertices text) ≡ true
-      differ = rw (← slice) (sym ed ∙ not-false d pd)
+      differ = rw (← slice) (sym ed)
 
       pairs : b ≡ not (three_faces (vertices text))
-      pairs = e ∙ (edges_pairs (take (3 * f.count) vs) ∙ ap (λ (l : List ℕ). not (three_faces l)) slice)
+      pairs = e ∙ (edges_pairs (take (3 * n) vs) ∙ ap (λ (l : List ℕ). not (three_faces l)) slice)
 
-      pub survey_three : not b ≡ true → Surveyed text vs heads links (record { refusal = 29; count = 0; modulus = 0 })
-      survey_three q = refused_survey text vs heads links 29 (omega arith) (refused_three text form differ (not-false _ (sym pairs ∙ not-true b q)))
+      pub survey_three : b ≡ false → 29 ≡ triangle_refusal text
+      survey_three q = refused_three text r.ok differ (not-false _ (sym pairs ∙ q))
 
-      pub survey_good : not b ≡ false → Surveyed text vs heads links (record { refusal = 0; count = f.count; modulus = m })
+      pub survey_good : b ≡ true → Given text vs heads links (record { count = n; modulus = m })
       survey_good q =
           record {
-            refusal = refused_none text form differ (not-true _ (sym pairs ∙ not-false b q));
-            count = λ z. r.count good;
+            refusal = refused_none text r.ok differ (not-true _ (sym pairs ∙ q));
+            count = r.count;
             within = r.within;
-            filled = λ z. slice;
-            ready = λ z. rw (← slice) ready;
+            filled = slice;
+            ready = rw (← slice) ready;
           }
 
 -- ---- the calls
 
-module _ (text vs heads links : List ℕ) (r : Found) (s : Surveyed text vs heads links r) where
-  pub length_refused_lem : {a : Length} → (r.refusal ≡ 0 → ⊥) → a ≡ length_refused r.refusal → a ≡ triangle_length text
-  unfolding triangle_length length_answer
-  length_refused_lem z e = e ∙ rw (← s.refusal, ne_eqb r.refusal 0 z)
+checks-are : (text : List ℕ) → triangle_refusal text ≡ first_failed (check (text_ok text) 27 ∷ check (vertices_differ (vertices text)) 28 ∷ check (not (three_faces (vertices text))) 29 ∷ [])
+unfolding triangle_refusal
+checks-are text = refl
 
-  module _ (z : r.refusal ≡ 0) where
+module _ (text : List ℕ) where
+  pub length_fails : (e : Refusal) → refusal_number e ≡ triangle_refusal text → length_refused (refusal_number e) ≡ triangle_length text
+  unfolding triangle_length length_answer
+  length_fails e s = rw (← s, ne_eqb (refusal_number e) 0 (number_positive e))
+
+  pub import_fails : (e : Refusal) → refusal_number e ≡ triangle_refusal text → (out : List ℕ) → (length_refused (refusal_number e), out) ≡ import_triangle text out
+  unfolding import_triangle write_answer length_answer written import_refusal
+  import_fails e s out =
+      let same : refusal_number e ≡ import_refusal text out = refused_first e (check (text_ok text) 27 ∷ check (vertices_differ (vertices text)) 28 ∷ check (not (three_faces (vertices text))) 29 ∷ []) (check (leb (triangle_bytes text) (length out)) 22 ∷ []) (rw (checks-are text) at s) in
+      rw (← same, ne_eqb (refusal_number e) 0 (number_positive e))
+
+  module _ (vs heads links : List ℕ) (r : Found) (s : Given text vs heads links r) where
     none : triangle_refusal text ≡ 0
-    none = sym s.refusal ∙ z
+    none = sym s.refusal
 
     bytes : 8 + 64 * r.count ≡ triangle_bytes text
     unfolding triangle_bytes
-    bytes = ap (λ (n : ℕ). 8 + 64 * n) (s.count z)
+    bytes = ap (λ (n : ℕ). 8 + 64 * n) s.count
 
     pub length_given : record { refusal = 0; length = 8 + 64 * r.count } ≡ triangle_length text
     unfolding triangle_length length_answer
@@ -170,33 +170,21 @@ module _ (text vs heads links : List ℕ) (r : Found) (s : Surveyed text vs head
     ready_drawn =
         let p : Passes text = refusal_none text none in
         let b : (1 ≤ triangles text) × (triangles text ≤ max_triangles) = triangles_bounds text p.form in
-        rw (s.filled z)
-        record { some = omega (arith, s.count z); many = vertices_many text ∙ ap (λ (n : ℕ). 3 * n) (sym (s.count z)); ready = s.ready z; pairs = p.pairs }
+        rw s.filled
+        record { some = omega (arith, s.count); many = vertices_many text ∙ ap (λ (n : ℕ). 3 * n) (sym s.count); ready = s.ready; pairs = p.pairs }
 
     -- 22 is asked last
     room : (out : List ℕ) → import_refusal text out ≡ cond (leb (triangle_bytes text) (length out)) 0 22
     unfolding import_refusal first_failed
     room out = let p : Passes text = refusal_none text none in rw (p.form, p.differ, p.pairs)
 
-    pub import_short : (out : List ℕ) {a : Length} → length out < 8 + 64 * r.count → a ≡ length_refused 22 → (a, out) ≡ import_triangle text out
+    pub import_short : (out : List ℕ) → length out < 8 + 64 * r.count → (length_refused 22, out) ≡ import_triangle text out
     unfolding import_triangle write_answer length_answer written
-    import_short out l e = rw (e, room out, lt-leb (triangle_bytes text) (length out) (rw (← bytes) l))
+    import_short out l = rw (room out, lt-leb (triangle_bytes text) (length out) (rw (← bytes) l))
 
     pub import_written : (out exit : List ℕ) → 8 + 64 * r.count ≤ length out → exit ≡ splice out 0 (built_mesh 1 (face_link (take (3 * r.count) vs)) r.count)
         → (record { refusal = 0; length = 8 + 64 * r.count }, exit) ≡ import_triangle text out
     unfolding import_triangle write_answer length_answer written triangle_mesh triangle_bytes
     import_written out exit l e =
-        let w : exit ≡ splice out 0 (triangle_mesh text) = e ∙ (ap (λ (v : List ℕ). splice out 0 (built_mesh 1 (face_link v) r.count)) (s.filled z) ∙ ap (λ (n : ℕ). splice out 0 (built_mesh 1 (face_link (vertices text)) n)) (s.count z)) in
-        rw (room out, le-leb (triangle_bytes text) (length out) (rw (← bytes) l), built_length 1 (face_link (vertices text)) (triangles text), w, s.count z)
-
-  pub import_refused : (out : List ℕ) {a : Length} → (r.refusal ≡ 0 → ⊥) → a ≡ length_refused r.refusal → (a, out) ≡ import_triangle text out
-  unfolding import_triangle write_answer length_answer written import_refusal first_failed
-  import_refused out z e = rw (e, same, ne_eqb r.refusal 0 z)
-    where
-      same : import_refusal text out ≡ r.refusal
-      same =
-          refusal-cases text
-          (λ a. rw (a, s.refusal) (refused_form text a))
-          (λ a b. rw (a, b, s.refusal) (refused-twice text a b))
-          (λ a b c. rw (a, b, c, s.refusal) (refused_three text a b c))
-          (λ a b c. absurd (z (s.refusal ∙ sym (refused_none text a b c))))
+        let w : exit ≡ splice out 0 (triangle_mesh text) = e ∙ (ap (λ (v : List ℕ). splice out 0 (built_mesh 1 (face_link v) r.count)) s.filled ∙ ap (λ (n : ℕ). splice out 0 (built_mesh 1 (face_link (vertices text)) n)) s.count) in
+        rw (room out, le-leb (triangle_bytes text) (length out) (rw (← bytes) l), built_length 1 (face_link (vertices text)) (triangles text), w, s.count)

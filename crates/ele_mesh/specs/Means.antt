@@ -2,6 +2,12 @@
 use Rattle.std.specs.Prelude.{ℕ, ◌*◌, ◌≤◌, ◌<◌, ◌≡◌, false, List, [], ◌∷◌, eqb, length, get_or, take}
 use Rattle.mesh_build.specs.Build.{NewLink}
 use Rattle.ele_text.specs.Text.{max_triangles, vertices, triangles}
+use Rattle.std.specs.Prelude.{None, Some, Ok, Err, suc}
+use Rattle.std.specs.declared.option.Option.{Option}
+use Rattle.std.specs.declared.result.Result.{Result}
+use Rattle.encoding.specs.declared.refusal.Refusal.{Refusal}
+use Rattle.encoding.specs.Refusals.{refusal_number}
+use Rattle.ele_mesh.specs.declared.chain.Chains.{Chains}
 use Rattle.ele_mesh.specs.declared.check.Found.{Found}
 use Rattle.ele_faces.specs.Faces.{latest_below, three_faces}
 use Rattle.ele_faces.specs.Means.{hash_of, Whole}
@@ -46,13 +52,27 @@ pub record Ready (vs : List ℕ) (m : ℕ) (heads links : List ℕ) : Type 0 whe
 abbrev pub link_row : NewLink → List ℕ
 link_row l = l.neighbour ∷ l.face ∷ l.orientation ∷ []
 
--- the refusal of a text, and what is needed to write its mesh
-pub record Surveyed (text vs heads links : List ℕ) (r : Found) : Type 0 where
-  pub refusal : r.refusal ≡ triangle_refusal text
-  pub count : r.refusal ≡ 0 → r.count ≡ triangles text
-  pub within : r.count ≤ max_triangles
-  pub filled : r.refusal ≡ 0 → take (3 * r.count) vs ≡ vertices text
-  pub ready : r.refusal ≡ 0 → Ready (vertices text) r.modulus heads links
+-- all faces of a struct
+abbrev pub AllChained : Chains → Type 0
+AllChained c = Ready c.vs.now c.modulus c.heads.now c.links.now
+
+-- a face that is met, and 1 more; 0 where there is none
+abbrev pub place_of : Option ℕ → ℕ
+place_of None = 0
+place_of (Some g) = suc g
+
+-- what is needed to write the mesh of a text
+pub record Given (text vs heads links : List ℕ) (s : Found) : Type 0 where
+  pub refusal : 0 ≡ triangle_refusal text
+  pub count : s.count ≡ triangles text
+  pub within : s.count ≤ max_triangles
+  pub filled : take (3 * s.count) vs ≡ vertices text
+  pub ready : Ready (vertices text) s.modulus heads links
+
+-- or the refusal of the text
+abbrev pub Surveyed : List ℕ → List ℕ → List ℕ → List ℕ → Result Found Refusal → Type 0
+Surveyed text vs heads links (Err e) = refusal_number e ≡ triangle_refusal text
+Surveyed text vs heads links (Ok s) = Given text vs heads links s
 
 -- n triangles whose mesh can be written
 pub record Drawn (vs : List ℕ) (m : ℕ) (heads links : List ℕ) (n : ℕ) : Type 0 where
@@ -60,3 +80,7 @@ pub record Drawn (vs : List ℕ) (m : ℕ) (heads links : List ℕ) (n : ℕ) : 
   pub many : length vs ≡ 3 * n
   pub ready : Ready vs m heads links
   pub pairs : three_faces vs ≡ false
+
+-- those of a struct
+abbrev pub AllDrawn : Chains → ℕ → Type 0
+AllDrawn c n = Drawn c.vs.now c.modulus c.heads.now c.links.now n

@@ -1,46 +1,26 @@
-// Faces with one hash, chained from the latest back; a place in a chain is a face's number and 1 more, 0 its end.
-ghost use Rattle.std.specs.Prelude.{◌≡◌, cond, ◌≤◌, ◌<◌, ◌^◌, leb, length};
+// Faces with one hash, chained from the latest back; a place in a chain is a face's number and 1 more, 0 its end, so that it fits an array of u32.
+ghost use Rattle.std.specs.Prelude.{◌≡◌, ◌≤◌, ◌<◌, IfSome, leb, length};
 ghost use Rattle.encoding.specs.Below.{all_below, count_below};
 ghost use Rattle.ele_faces.specs.Faces.{same_set, partner};
 ghost use Rattle.ele_faces.specs.Means.{Whole};
-ghost use Rattle.ele_mesh.specs.Means.{hashes, Modulus, Blank, Room, Ready};
+ghost use Rattle.ele_mesh.specs.Means.{hashes, Modulus, Room, Ready, AllChained, place_of};
 
 use ele_faces::face::{hash_of, same_set};
-
-fn wide(x: u32) -> usize
-    ensures { (result ≡ x) × (result < 2 ^ 32) }
-{
-    x as usize
-}
-
-// Clears the place of each hash.
-fn clear(heads: &mut [u32])
-    requires { hashes ≤ length heads.old }
-    ensures { Blank heads.new hashes }
-{
-    let mut h = 0;
-    while h < 65521 {
-        heads[h] = 0;
-        h += 1;
-    }
-}
 
 // How many pairs of faces have one hash; beyond a limit, some number above it.
 fn pairs(vs: &[u32], m: u64, heads: &mut [u32]) -> u64
     requires { Whole vs.now × Modulus m × (hashes ≤ length heads.old) }
 {
-    clear(&mut *heads);
+    heads.fill(0);
     let mut n: u64 = 0;
-    let mut f = 0;
-    while f < vs.len() {
+    for f in 0..vs.len() {
         let h = hash_of(vs, m, f);
-        let c = wide(heads[h]);
+        let c = heads[h];
         if 1000000000 < n + (c as u64) {
             return 1000000001;
         }
-        heads[h] = (c + 1) as u32;
+        heads[h] = c + 1;
         n += c as u64;
-        f += 1;
     }
     n
 }
@@ -52,11 +32,12 @@ pub fn modulus(vs: &[u32], heads: &mut [u32]) -> u64
 {
     let mut best: u64 = 65521;
     let mut fewest = pairs(vs, best, &mut *heads);
-    let mut j: u64 = 1;
-    while (j < 64) & (1572864 < fewest) {
+    for j in 1..64 {
+        if fewest <= 1572864 {
+            return best;
+        }
         let m = 65521 - 2 * j;
         let n = pairs(vs, m, &mut *heads);
-        j += 1;
         if n < fewest {
             fewest = n;
             best = m;
@@ -70,64 +51,67 @@ pub fn chain(vs: &[u32], m: u64, heads: &mut [u32], links: &mut [u32])
     requires { Whole vs.now × Modulus m × Room heads.old links.old }
     ensures { Ready vs.now m heads.new links.new }
 {
-    clear(&mut *heads);
-    let mut f: usize = 0;
-    while f < vs.len() {
+    heads.fill(0);
+    for f in 0..vs.len() {
         let h = hash_of(vs, m, f);
         links[f] = heads[h];
         heads[h] = (f + 1) as u32;
-        f += 1;
     }
 }
 
-fn one(b: bool) -> u32
-    ensures { (result ≡ cond b 1 0) × (result ≤ 1) }
-{
-    if b { 1 } else { 0 }
+// Faces, by the vertices of their triangles, and their chains: for each hash its latest face, for each face the latest before it with its hash.
+#[derive(Clone, Copy)]
+pub struct Chains<'a> {
+    pub vs: &'a [u32],
+    pub modulus: u64,
+    pub heads: &'a [u32],
+    pub links: &'a [u32],
 }
 
-// How many faces before f have its vertex set.
-fn earlier(vs: &[u32], m: u64, heads: &[u32], links: &[u32], f: usize) -> u32
-    requires { Ready vs.now m heads.now links.now × (f < length vs.now) }
-    ensures { result ≡ count_below f (same_set vs.now f) }
-{
-    let mut n: u32 = 0;
-    let mut at = wide(links[f]);
-    while 0 < at {
-        let g = at - 1;
-        n += one(same_set(vs, f, g));
-        at = wide(links[g]);
-    }
-    n
-}
-
-// No vertex set has a third face.
-pub fn edges_ok(vs: &[u32], m: u64, heads: &[u32], links: &[u32]) -> bool
-    requires { Ready vs.now m heads.now links.now }
-    ensures { result ≡ all_below (length vs.now) (λ f. leb (count_below f (same_set vs.now f)) 1) }
-{
-    let mut f = 0;
-    while f < vs.len() {
-        if 1 < earlier(vs, m, heads, links, f) {
-            return false;
+impl<'a> Chains<'a> {
+    // How many faces before f have its vertex set.
+    fn earlier(self, f: usize) -> u32
+        requires { AllChained self × (f < length self.vs.now) }
+        ensures { result ≡ count_below f (same_set self.entry.vs.now f) }
+    {
+        let mut n: u32 = 0;
+        let mut at = self.links[f] as usize;
+        // along the chain, whose places are no range
+        while 0 < at {
+            let g = at - 1;
+            n += same_set(self.vs, f, g) as u32;
+            at = self.links[g] as usize;
         }
-        f += 1;
+        n
     }
-    true
-}
 
-// The face that f meets, and 1 more; 0 where it meets none.
-pub fn partner(vs: &[u32], m: u64, heads: &[u32], links: &[u32], f: usize) -> usize
-    requires { Ready vs.now m heads.now links.now × (f < length vs.now) }
-    ensures { (result ≡ partner vs.now f) × (result ≤ length vs.now) }
-{
-    let mut at = wide(heads[hash_of(vs, m, f)]);
-    while 0 < at {
-        let g = at - 1;
-        if !(g == f) & same_set(vs, f, g) {
-            return at;
+    // No vertex set has a third face.
+    pub fn edges_ok(self) -> bool
+        requires { AllChained self }
+        ensures { result ≡ all_below (length self.entry.vs.now) (λ f. leb (count_below f (same_set self.entry.vs.now f)) 1) }
+    {
+        for f in 0..self.vs.len() {
+            if 1 < self.earlier(f) {
+                return false;
+            }
         }
-        at = wide(links[g]);
+        true
     }
-    0
+
+    // The face that f meets, if any.
+    pub fn partner(self, f: usize) -> Option<usize>
+        requires { AllChained self × (f < length self.vs.now) }
+        ensures { (place_of result ≡ partner self.entry.vs.now f) × IfSome result (λ g. g < length self.entry.vs.now) }
+    {
+        let mut at = self.heads[hash_of(self.vs, self.modulus, f)] as usize;
+        // along the chain, whose places are no range
+        while 0 < at {
+            let g = at - 1;
+            if !(g == f) & same_set(self.vs, f, g) {
+                return Some(g);
+            }
+            at = self.links[g] as usize;
+        }
+        None
+    }
 }

@@ -1,6 +1,6 @@
 -- Numbers of 1 to 8 digits.
 use Prim.Native.Nat.{ℕ, zero, suc, ◌+◌, ◌-◌, ◌*◌, ◌^◌, ◌≤◌, ◌<◌}
-use mathlib.Core.Path.{◌≡◌, refl, sym, ap, ◌∙◌}
+use mathlib.Core.Path.{◌≡◌, refl}
 use mathlib.Core.Bool.{true, false, not, ◌&&◌}
 use mathlib.Core.List.{List}
 use native.Mathlib.Nat.{pow-succ', pow-le-pow_right}
@@ -8,10 +8,10 @@ use native.Mathlib.Numerals.{add-one}
 use native.Mathlib.Omega.{arith}
 use lib.Dec.{leb}
 use lib.ListN.{length, get_or}
-use borrow.Author.Tests.{leb-true, not-true, not-false}
+use borrow.Author.Tests.{leb-true}
 use Rattle.encoding.specs.Below.{all_below}
-use Rattle.encoding.proofs.Below.{and_fst, and_snd, all_at, all_more, all_fails, all_to}
-use Rattle.ele_text.specs.declared.field.Numeral.{Numeral}
+use Rattle.encoding.proofs.Below.{and_fst, and_snd, all_more, all_fails, all_to}
+use Rattle.std.specs.Prelude.{None, Some}
 use Rattle.ele_text.specs.Text.{is_digit, digits_value, is_number, field_number}
 use Rattle.ele_text.specs.Means.{numeral_of}
 
@@ -43,10 +43,10 @@ module _ (s : List ℕ) where
   reading_small i v h l = omega (arith, digits_bound i s h.1.0, pow-le-pow_right {n = 10} (omega arith) l)
 
   abbrev pub Sized : Type 0
-  Sized = not (leb 1 (length s) && leb (length s) 8) ≡ false
+  Sized = (leb 1 (length s) && leb (length s) 8) ≡ true
 
   pub sized_most : Sized → length s ≤ 8
-  sized_most h = leb-true (length s) 8 (and_snd (leb 1 (length s)) _ (not-false _ h))
+  sized_most h = leb-true (length s) 8 (and_snd (leb 1 (length s)) _ h)
 
   pub reading_more : (i v w : ℕ) → Reading i v → i < length s → w ≡ get_or s i 0 → is_digit w ≡ true → Reading (i + 1) (10 * v + (w - 48))
   unfolding digits_value
@@ -56,12 +56,12 @@ module _ (s : List ℕ) where
       (omega arith, (all_more i (λ i. is_digit (get_or s i 0)) h.1.0 z, rw (a, h.1.1, e)))
 
   -- no number: too short or too long
-  pub number_long : not (leb 1 (length s) && leb (length s) 8) ≡ true → record { ok = false; value = 0 } ≡ numeral_of s
+  pub number_long : (leb 1 (length s) && leb (length s) 8) ≡ false → None ≡ numeral_of s
   unfolding numeral_of is_number
-  number_long h = rw (not-true (leb 1 (length s) && leb (length s) 8) h)
+  number_long h = rw h
 
   -- a byte that is no digit
-  pub number_broken : (i : ℕ) → i < length s → is_digit (get_or s i 0) ≡ false → record { ok = false; value = 0 } ≡ numeral_of s
+  pub number_broken : (i : ℕ) → i < length s → is_digit (get_or s i 0) ≡ false → None ≡ numeral_of s
   unfolding numeral_of is_number
   number_broken i l e = rw (all_fails (length s) (λ i. is_digit (get_or s i 0)) i l e, and_false (leb 1 (length s) && leb (length s) 8))
     where
@@ -69,9 +69,9 @@ module _ (s : List ℕ) where
       and_false true = refl
       and_false false = refl
 
-  pub number_done : (i v : ℕ) → Sized → Reading i v → length s ≤ i → record { ok = true; value = v } ≡ numeral_of s
+  pub number_done : (i v : ℕ) → Sized → Reading i v → length s ≤ i → Some v ≡ numeral_of s
   unfolding numeral_of is_number field_number
   number_done i v z h l =
       let q : i ≡ length s = omega arith in
       let d : all_below (length s) (λ i. is_digit (get_or s i 0)) ≡ true = all_to (length s) (λ i. is_digit (get_or s i 0)) i h.0 l h.1.0 in
-      rw (not-false (leb 1 (length s) && leb (length s) 8) z, d, h.1.1, q)
+      rw (z, d, h.1.1, q)

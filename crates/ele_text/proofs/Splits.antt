@@ -57,9 +57,9 @@ module _ (x y : ℕ) where
       let a : i + 1 ≡ suc i = add-one i in
       (omega arith, rw a (h.1 ∙ rw q (omega arith)))
 
-  pub until_end : (s : List ℕ) (i : ℕ) → Passed s i → length s ≤ i → i ≡ until_either x y s
+  pub until_end : (s : List ℕ) (i : ℕ) → Passed s i → length s ≤ i → length s ≡ until_either x y s
   unfolding until_either
-  until_end s i h l = sym (h.1 ∙ rw (drop_of_length-le s l, add-zero))
+  until_end s i h l = let q : i ≡ length s = omega (arith, h.0) in sym (h.1 ∙ rw (drop_of_length-le s l, add-zero, q))
 
   -- ---- the piece at a place, u bytes long
 

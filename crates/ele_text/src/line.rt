@@ -1,14 +1,13 @@
 // Lines, as rows of numbers.
-ghost use Rattle.std.specs.Prelude.{◌≡◌, ◌≤◌};
+ghost use Rattle.std.specs.Prelude.{◌≡◌, ◌≤◌, IfSome};
 ghost use Rattle.ele_text.specs.Text.{pieces};
 ghost use Rattle.ele_text.specs.Means.{empty_row, with_field, with_fields, row_of};
 
 use crate::field::{read_number, until_either};
 
-// How many fields a line has, and the last four of their numbers, d the last. Not in order where a field is no number, or over four.
+// How many fields a line has, at most four, and the last four of their numbers, d the last.
 #[derive(Clone, Copy)]
 pub struct Row {
-    pub ok: bool,
     pub count: u32,
     pub a: u32,
     pub b: u32,
@@ -16,41 +15,32 @@ pub struct Row {
     pub d: u32,
 }
 
-// The row with one more field, unless that is empty.
-fn with_field(r: Row, s: &[u8]) -> Row
+// The row with one more field, unless that is empty. None where the field is no number, or the fifth.
+fn with_field(r: Row, s: &[u8]) -> Option<Row>
     requires { r.count ≤ 4 }
-    ensures { (result ≡ with_field r s.now) × (result.count ≤ 4) }
+    ensures { (result ≡ with_field (Some r) s.now) × IfSome result (λ q. q.count ≤ 4) }
 {
-    if s.len() == 0 {
-        return r;
+    if s.is_empty() {
+        return Some(r);
     }
-    let n = read_number(s);
-    if (r.ok & (r.count < 4)) & n.ok {
-        return Row {
-            ok: true,
-            count: r.count + 1,
-            a: r.b,
-            b: r.c,
-            c: r.d,
-            d: n.value,
-        };
+    if 4 <= r.count {
+        return None;
     }
-    Row {
-        ok: false,
-        count: 0,
-        a: 0,
-        b: 0,
-        c: 0,
-        d: 0,
-    }
+    let d = read_number(s)?;
+    Some(Row {
+        count: r.count + 1,
+        a: r.b,
+        b: r.c,
+        c: r.d,
+        d,
+    })
 }
 
 // The row of a line without its comment.
-fn plain_row(s: &[u8]) -> Row
-    ensures { (result ≡ with_fields empty_row (pieces 32 9 s.now)) × (result.count ≤ 4) }
+fn plain_row(s: &[u8]) -> Option<Row>
+    ensures { result ≡ with_fields (Some empty_row) (pieces 32 9 s.now) }
 {
     let mut r = Row {
-        ok: true,
         count: 0,
         a: 0,
         b: 0,
@@ -58,19 +48,20 @@ fn plain_row(s: &[u8]) -> Row
         d: 0,
     };
     let mut at = 0;
+    // field by field: where one ends is found on the way
     loop {
-        let e = at + until_either(32, 9, &s[at..]);
-        r = with_field(r, &s[at..e]);
+        let e = at + until_either(b' ', b'\t', &s[at..]);
+        r = with_field(r, &s[at..e])?;
         if e == s.len() {
-            return r;
+            return Some(r);
         }
         at = e + 1;
     }
 }
 
-pub fn row_of(line: &[u8]) -> Row
+pub fn row_of(line: &[u8]) -> Option<Row>
     ensures { result ≡ row_of line.now }
 {
-    let e = until_either(35, 35, line);
+    let e = until_either(b'#', b'#', line);
     plain_row(&line[..e])
 }

@@ -8,6 +8,12 @@
 ghost use Rattle.std.specs.Prelude.{◌≡◌, ◌≤◌, length, IfOk};
 
 use encoding::answer::Length;
+use encoding::refusal::{Refusal, number_of};
+use lookup::Found;
+use offsets::Range;
+use part_neighbour::link::NeighbourAnswer;
+use pattern::holder::sender_answer;
+use pattern::set::ranks_answer;
 use records::index::{GlobalIndex, LocalIndex};
 use std::io;
 use std::io::{BufWriter, Read, Write};
@@ -37,17 +43,8 @@ fn signed(to: &mut impl Write, n: u64) -> io::Result<()> {
 
 // A rank below 3, or −1 or −2, which stand for none.
 fn show_rank(to: &mut impl Write, n: i32) -> io::Result<()> {
-    if n == 0 {
-        word(to, 0)
-    } else if n == 1 {
-        word(to, 1)
-    } else if n == 2 {
-        word(to, 2)
-    } else if n == -1 {
-        signed(to, 18446744073709551615)
-    } else {
-        signed(to, 18446744073709551614)
-    }
+    let shown = if (-1 <= n) & (n <= 2) { n } else { -2 };
+    write!(to, " {shown}")
 }
 
 fn refusal(to: &mut impl Write, n: u32) -> io::Result<()> {
@@ -61,7 +58,7 @@ fn show_length(to: &mut impl Write, l: Length) -> io::Result<u64> {
     Ok(l.length)
 }
 
-fn show_range(to: &mut impl Write, r: offsets::Range) -> io::Result<()> {
+fn show_range(to: &mut impl Write, r: Range) -> io::Result<()> {
     refusal(to, r.refusal)?;
     word32(to, r.first)?;
     word32(to, r.count)
@@ -125,60 +122,43 @@ fn store(bs: &mut [u8], at: u64, from: &[u8]) {
     if bs.len() - start < from.len() {
         return;
     }
-    let mut i = 0;
-    while i < from.len() {
-        bs[start + i] = from[i];
-        i += 1;
-    }
+    bs[start..start + from.len()].copy_from_slice(from);
 }
 
 // The place behind the last byte that isn't 170.
 fn written(bs: &[u8]) -> usize {
-    let mut n = bs.len();
-    while 0 < n {
-        if bs[n - 1] != 170 {
-            return n;
-        }
-        n -= 1;
-    }
-    0
+    bs.iter()
+        .rposition(|b| *b != 170)
+        .map_or(0, |last| last + 1)
 }
 
 // The bytes as numbers of 32 bits, and how many there are.
 fn read_list(bs: &[u8], xs: &mut [u32]) -> usize
     ensures { result ≤ length xs.new }
 {
-    let mut i = 0;
-    while i < xs.len() {
-        if bs.len() / 4 <= i {
-            return i;
-        }
+    let count = xs.len().min(bs.len() / 4);
+    for i in 0..count {
         xs[i] = encoding::bytes::read_u32(bs, 4 * i);
-        i += 1;
     }
-    i
+    count
 }
 
 fn show_list(to: &mut impl Write, xs: &[u32]) -> io::Result<()> {
-    let mut i = 0;
-    while i < xs.len() {
-        word32(to, xs[i])?;
-        i += 1;
+    for x in xs {
+        word32(to, *x)?;
     }
     Ok(())
 }
 
 // The numbers in some bytes, of eight bytes each or of four.
 fn show_numbers(to: &mut impl Write, bs: &[u8], wide: bool) -> io::Result<()> {
-    let mut i = 0;
-    while i < bs.len() / 8 {
+    for i in 0..bs.len() / 8 {
         if wide {
             signed(to, encoding::bytes::read_u64(bs, 8 * i))?;
         } else {
             word32(to, encoding::bytes::read_u32(bs, 8 * i))?;
             word32(to, encoding::bytes::read_u32(bs, 8 * i + 4))?;
         }
-        i += 1;
     }
     Ok(())
 }
@@ -208,18 +188,19 @@ fn bytes_call(
     k: usize,
     out: &mut [u8],
 ) -> io::Result<u64> {
-    if op == 1 {
-        return Ok(load(x, z, k, out));
+    match op {
+        0 => Ok(0),
+        1 => Ok(load(x, z, k, out)),
+        2 => {
+            store(out, 0, a);
+            Ok(a.len() as u64)
+        }
+        _ => {
+            text(to, b" =")?;
+            show_numbers(to, a, op == 3)?;
+            Ok(0)
+        }
     }
-    if op == 2 {
-        store(out, 0, a);
-        return Ok(a.len() as u64);
-    }
-    if 3 <= op {
-        text(to, b" =")?;
-        show_numbers(to, a, op == 3)?;
-    }
-    Ok(0)
 }
 
 fn show_sender(to: &mut impl Write, s: pattern::SenderAnswer) -> io::Result<()> {
@@ -247,11 +228,11 @@ fn set_in(
 ) -> io::Result<()> {
     if room <= xs.len() {
         if op == 24 {
-            let r = pattern::send_set(a, b, x, &mut xs[..room]);
-            show_ranks(to, r, xs)?;
+            let answer = pattern::send_set(a, b, x, &mut xs[..room]);
+            show_ranks(to, ranks_answer(answer, &xs[..room]), xs)?;
         } else {
-            let r = pattern::receive_set(a, b, x, &mut xs[..room]);
-            show_ranks(to, r, xs)?;
+            let answer = pattern::receive_set(a, b, x, &mut xs[..room]);
+            show_ranks(to, ranks_answer(answer, &xs[..room]), xs)?;
         }
     }
     Ok(())
@@ -262,7 +243,7 @@ fn set_call(to: &mut impl Write, op: u64, a: &[u8], b: &[u8], x: u32, z: u32) ->
     set_in(to, op, a, b, x, z as usize, &mut xs)
 }
 
-fn show_neighbour(to: &mut impl Write, n: part_neighbour::link::NeighbourAnswer) -> io::Result<()> {
+fn show_neighbour(to: &mut impl Write, n: NeighbourAnswer) -> io::Result<()> {
     refusal(to, n.refusal)?;
     word32(to, n.shape)?;
     word32(to, n.kind)?;
@@ -271,16 +252,17 @@ fn show_neighbour(to: &mut impl Write, n: part_neighbour::link::NeighbourAnswer)
     word32(to, n.orientation)
 }
 
-fn show_found(to: &mut impl Write, f: lookup::Found) -> io::Result<()> {
+fn show_found(to: &mut impl Write, f: Found) -> io::Result<()> {
     refusal(to, f.which)?;
     word(to, f.offset)
 }
 
 // The first record that a reader over the message hands out.
 fn first_record<'a>(message: &'a [u8]) -> &'a [u8] {
-    let begun = message_reader::begin(message);
-    let step = message_reader::next(begun.reader);
-    step.piece
+    match message_reader::begin(message) {
+        Ok(begun) => message_reader::next(begun.reader).piece,
+        Err(_) => &message[..0],
+    }
 }
 
 fn read_call(to: &mut impl Write, message: &[u8], place: u64) -> io::Result<()> {
@@ -301,49 +283,31 @@ fn ask<'a>(
     z: u32,
     place: u64,
 ) -> io::Result<()> {
-    if op == 10 {
-        refusal(to, offsets::check_table(a))
-    } else if op == 11 {
-        show_range(to, offsets::table_range(a, z))
-    } else if op == 12 {
-        show_length(to, offsets_write::table_length(z))?;
-        Ok(())
-    } else if op == 13 {
-        show_sender(to, pattern::sender_of(a, b, z, x))
-    } else if op == 14 {
-        show_range(to, pattern::trees_sent(a, b, x, z))
-    } else if op == 15 {
-        refusal(to, mesh::check_mesh(a))
-    } else if op == 16 {
-        show_length(to, part_cut::part_length(a, b, z))?;
-        Ok(())
-    } else if op == 17 {
-        refusal(to, part_check::check_part(a, b, z))
-    } else if op == 18 {
-        show_neighbour(
+    match op {
+        10 => refusal(to, number_of(offsets::check_table(a))),
+        11 => show_range(to, Range::from(offsets::table_range(a, z))),
+        12 => show_length(to, Length::from(offsets_write::table_length(z))).map(|_| ()),
+        13 => show_sender(to, sender_answer(pattern::sender_of(a, b, z, x))),
+        14 => show_range(to, Range::from(pattern::trees_sent(a, b, x, z))),
+        15 => refusal(to, number_of(mesh::check_mesh(a))),
+        16 => show_length(to, Length::from(part_cut::part_length(a, b, z))).map(|_| ()),
+        17 => refusal(to, number_of(part_check::check_part(a, b, z))),
+        18 => show_neighbour(
             to,
-            part_neighbour::link::flat(part_neighbour::neighbour_of(a, b, x, LocalIndex(y), z)),
-        )
-    } else if op == 19 {
-        show_found(to, lookup::find_record(a, b, GlobalIndex(z)))
-    } else if op == 20 {
-        show_length(to, message::begin_reading(a))?;
-        Ok(())
-    } else if op == 21 {
-        show_record(to, message::place::record_at(a, place))
-    } else if op == 22 {
-        read_call(to, a, place)
-    } else if op == 23 {
-        show_record(to, lookup::lookup(a, b, GlobalIndex(z)))
-    } else if op == 26 {
-        show_record(to, first_record(a))
-    } else {
-        set_call(to, op, a, b, x, z)
+            NeighbourAnswer::from(part_neighbour::neighbour_of(a, b, x, LocalIndex(y), z)),
+        ),
+        19 => show_found(to, Found::from(lookup::find_record(a, b, GlobalIndex(z)))),
+        20 => show_length(to, Length::from(message::begin_reading(a))).map(|_| ()),
+        21 => show_record(to, message::place::record_at(a, place)),
+        22 => read_call(to, a, place),
+        23 => show_record(to, lookup::lookup(a, b, GlobalIndex(z)).unwrap_or(&a[..0])),
+        26 => show_record(to, first_record(a)),
+        _ => set_call(to, op, a, b, x, z),
     }
 }
 
 // A table from leaf counts, or from first trees and counts.
-fn table_call(op: u64, a: &[u8], b: &[u8], z: u32, out: &mut [u8]) -> Length {
+fn table_call(op: u64, a: &[u8], b: &[u8], z: u32, out: &mut [u8]) -> Result<u64, Refusal> {
     let mut xs = numbers();
     let m = read_list(a, &mut xs);
     if op == 50 {
@@ -354,49 +318,34 @@ fn table_call(op: u64, a: &[u8], b: &[u8], z: u32, out: &mut [u8]) -> Length {
     offsets_write::write_table(z, &xs[..m], &ys[..n], out)
 }
 
-// A table with other ranks, a part without trees, or a part under another table and rank.
-fn restart_call(op: u64, a: &[u8], b: &[u8], c: &[u8], x: u32, z: u32, out: &mut [u8]) -> Length {
-    if op == 57 {
-        return restart::pad_table(a, z, out);
-    }
-    if op == 58 {
-        return restart::empty_part(a, x, z, out);
-    }
-    restart::relabel_part(a, b, x, c, z, out)
-}
-
 // Calls that write.
 fn make(op: u64, a: &[u8], b: &[u8], c: &[u8], x: u32, y: u32, z: u32, out: &mut [u8]) -> Length {
-    if op < 52 {
-        return table_call(op, a, b, z, out);
+    match op {
+        50 | 51 => Length::from(table_call(op, a, b, z, out)),
+        52 => Length::from(part_cut::cut_part(a, b, z, out)),
+        53 => Length::from(message_build::build_message(a, b, c, x, y, z, out)),
+        54 => Length::from(area_open::open_area(a, b, x, y, z, out)),
+        55 => {
+            store(&mut *out, 0, a);
+            Length {
+                refusal: number_of(deliver::deliver(out, b)),
+                length: a.len() as u64,
+            }
+        }
+        56 => Length::from(close::close_area(a, out)),
+        57 => Length::from(restart::pad_table(a, z, out)),
+        58 => Length::from(restart::empty_part(a, x, z, out)),
+        _ => Length::from(restart::relabel_part(a, b, x, c, z, out)),
     }
-    if op == 52 {
-        return part_cut::cut_part(a, b, z, out);
-    }
-    if op == 53 {
-        return message_build::build_message(a, b, c, x, y, z, out);
-    }
-    if op == 54 {
-        return area_open::open_area(a, b, x, y, z, out);
-    }
-    if op == 55 {
-        store(&mut *out, 0, a);
-        let refusal = deliver::deliver(out, b);
-        return Length {
-            refusal,
-            length: a.len() as u64,
-        };
-    }
-    if 57 <= op {
-        return restart_call(op, a, b, c, x, z, out);
-    }
-    close::close_area(a, out)
 }
 
 // The plan of the text of so many bytes that begins x bytes in front of the line.
 fn plan_call(to: &mut impl Write, past: &[u8], x: u64, z: u64, out: &mut [u8]) -> io::Result<u64> {
     let start = std::num::wrapping_sub_u64(past.len() as u64, x);
-    let n = show_length(to, plan_text::plan_output(piece(past, start, z), &mut *out))?;
+    let n = show_length(
+        to,
+        Length::from(plan_text::plan_output(piece(past, start, z), &mut *out)),
+    )?;
     text(to, b"\n")?;
     text(to, piece(out, 0, n))?;
     Ok(n)
@@ -450,10 +399,8 @@ fn calls(
         return Ok(0);
     }
     let mut n = call(to, w, 0, past, memory, &mut out[..room])?;
-    let mut k = 26;
-    while k < last {
+    for k in 26..last {
         n = call(to, w, k - 25, past, memory, &mut out[..room])?;
-        k += 1;
     }
     Ok(n)
 }
@@ -531,11 +478,8 @@ fn run_all(to: &mut impl Write, input: &[u8], memory: &mut [u8]) -> io::Result<(
         mask: 0,
     };
     let mut begin = 0;
-    let mut i = 0;
-    while i < input.len() {
-        let here = i;
+    for here in 0..input.len() {
         let c = input[here];
-        i += 1;
         if c == 10 {
             text(to, &input[begin..here])?;
             run(to, &w, s.at, &input[..begin + 1], memory)?;
@@ -558,6 +502,7 @@ fn read_full(reader: &mut impl Read, input: &mut [u8]) -> io::Result<usize>
     ensures { IfOk result (λ n. n ≤ length input.new) }
 {
     let mut done = 0;
+    // as much at a time as the reader gives; the program plan has the same function, since no crate below both reads input
     while done < input.len() {
         let n = reader.read(&mut input[done..])?;
         if n == 0 {

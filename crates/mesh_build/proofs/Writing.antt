@@ -6,6 +6,7 @@ use lib.Dec.{lit≤}
 use mathlib.Core.Path.{◌≡◌, refl, sym, ap, ◌∙◌}
 use mathlib.Core.List.{List, [], ◌∷◌, ◌++◌}
 use lib.ListN.{length}
+use Rattle.std.specs.Int.{w64, from_le_bytes}
 use Rattle.encoding.specs.Numbers.{le_bytes, put_u32, le_put}
 use Rattle.encoding.specs.Pieces.{splice}
 use Rattle.encoding.specs.declared.record.Words40.{Words40}
@@ -50,10 +51,11 @@ six_bytes a b c d e f ha hb hc hd he hf =
 pub codes_word : (rows : List (List ℕ)) (F : ℕ) → Rows rows F → {a b c d e f : ℕ}
     → a ≡ cell rows 0 2 * F + cell rows 0 1 → b ≡ cell rows 1 2 * F + cell rows 1 1 → c ≡ cell rows 2 2 * F + cell rows 2 1
     → d ≡ cell rows 3 2 * F + cell rows 3 1 → e ≡ cell rows 4 2 * F + cell rows 4 1 → f ≡ cell rows 5 2 * F + cell rows 5 1
-    → le_bytes 8 (a + 256 * b + 65536 * c + 16777216 * d + 4294967296 * e + 1099511627776 * f) ≡ code_bytes rows F 6 ++ (0 ∷ 0 ∷ [])
+    → {word : ℕ} → word ≡ from_le_bytes w64 (a ∷ b ∷ c ∷ d ∷ e ∷ f ∷ 0 ∷ 0 ∷ []) → le_bytes 8 word ≡ code_bytes rows F 6 ++ (0 ∷ 0 ∷ [])
 unfolding code_bytes
-codes_word rows F hold {a} {b} {c} {d} {e} {f} pa pb pc pd pe pf =
-    six_bytes a b c d e f
+codes_word rows F hold {a} {b} {c} {d} {e} {f} pa pb pc pd pe pf {word} w =
+    let v : word ≡ a + 256 * b + 65536 * c + 16777216 * d + 4294967296 * e + 1099511627776 * f = w ∙ (omega arith) in
+    ap (le_bytes 8) v ∙ six_bytes a b c d e f
     (omega (arith, hold.codes 0 (lit≤ tt))) (omega (arith, hold.codes 1 (lit≤ tt))) (omega (arith, hold.codes 2 (lit≤ tt)))
     (omega (arith, hold.codes 3 (lit≤ tt))) (omega (arith, hold.codes 4 (lit≤ tt))) (omega (arith, hold.codes 5 (lit≤ tt)))
     ∙ rw (pa, pb, pc, pd, pe, pf)

@@ -22,15 +22,15 @@ pub fn header(out: &mut [u8], shape: u32, trees: u32)
 fn pair(low: u32, high: u32) -> u64
     ensures { le_bytes 8 result ≡ le_bytes 4 low ++ le_bytes 4 high }
 {
-    (low as u64) + 4294967296 * (high as u64)
+    (low as u64) + ((high as u64) << 32)
 }
 
 // The face code of a row.
-fn code(row: [u32; 3], faces: u32) -> u64
+fn code(row: [u32; 3], faces: u32) -> u8
     requires { get_or row 2 0 * faces + get_or row 1 0 < 256 }
-    ensures { (result ≡ get_or row 2 0 * faces + get_or row 1 0) × (result < 256) }
+    ensures { result ≡ get_or row 2 0 * faces + get_or row 1 0 }
 {
-    (row[2] * faces + row[1]) as u64
+    (row[2] * faces + row[1]) as u8
 }
 
 // The six face codes as a word, its high two bytes the region 0.
@@ -38,12 +38,16 @@ fn codes(rows: [[u32; 3]; 6], faces: u32) -> u64
     requires { Rows rows faces }
     ensures { le_bytes 8 result ≡ code_bytes rows faces 6 ++ (0 ∷ 0 ∷ []) }
 {
-    code(rows[0], faces)
-        + 256 * code(rows[1], faces)
-        + 65536 * code(rows[2], faces)
-        + 16777216 * code(rows[3], faces)
-        + 4294967296 * code(rows[4], faces)
-        + 1099511627776 * code(rows[5], faces)
+    u64::from_le_bytes([
+        code(rows[0], faces),
+        code(rows[1], faces),
+        code(rows[2], faces),
+        code(rows[3], faces),
+        code(rows[4], faces),
+        code(rows[5], faces),
+        0,
+        0,
+    ])
 }
 
 // Writes the record of tree k by eight stores, in ascending order.

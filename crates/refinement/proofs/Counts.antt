@@ -13,22 +13,25 @@ use borrow.Author.Tests.{lt-ltb, le-ltb, lt-leb, le-leb, eq-eqb, ne_eqb}
 use Rattle.encoding.proofs.Below.{tests, either}
 use Rattle.encoding.specs.Refusal.{first_failed}
 use Rattle.refinement.specs.declared.walk.TreeLeaves.{TreeLeaves}
-use Rattle.refinement.specs.declared.walk.Walk.{Walk}
+use Rattle.std.specs.Prelude.{None, Some, IfSome}
+use Rattle.std.specs.declared.option.Option.{Option}
+use Rattle.std.proofs.lemmas.Option.{none-some, same_Some}
 use Rattle.refinement.specs.Refinement.{Row, Kind, upright, inverted, one, children, child_kinds, refinable, leaves_in, leaves}
 use Rattle.refinement.specs.Reading.{Reading, stopped, found, after_leaf, after_children, after_refined, read_row, read_children, read_tree, whole, row_read, string_ok, refinement_of}
 use Rattle.refinement.specs.Calls.{upright_leaves, inverted_leaves, tree_leaves, count_refusal, leaves_refused, leaves_answer, count_leaves}
 use Rattle.refinement.specs.Means.Trees.{tree_at, tree_of}
-use Rattle.refinement.specs.Means.Walks.{bit_at, leafed, onward, after_bit, walk_row, walk_of, Passing}
+use Rattle.refinement.proofs.Steps.{halted_row}
+use Rattle.refinement.specs.Means.Walks.{Cursor, bit_at, leafed, onward, after_bit, walk_row, walk_of, Passing}
 
 -- a walk on from w that has come to where reading leaves t, past the leaves of r
-record Come (shape : ℕ) (s : List ℕ) (ks : List Kind) (w : Walk) (r : Row) (t : List ℕ) (v : Walk) : Type 0 where
+record Come (shape : ℕ) (s : List ℕ) (ks : List Kind) (w : Cursor) (r : Row) (t : List ℕ) (v : Cursor) : Type 0 where
   going : v.ok ≡ true
   within : v.at ≤ length s
   rest : drop v.at s ≡ t
   standing : v.upright ≡ w.upright + leaves_in shape upright r ks
   hanging : v.inverted ≡ w.inverted + leaves_in shape inverted r ks
 
-abbrev Agrees : ℕ → List ℕ → List Kind → Walk → Reading → Walk → Type 0
+abbrev Agrees : ℕ → List ℕ → List Kind → Cursor → Reading → Cursor → Type 0
 Agrees shape s ks w stopped v = v.ok ≡ false
 Agrees shape s ks w (found r t) v = Come shape s ks w r t v
 
@@ -37,19 +40,8 @@ unfolding child_kinds children
 kinds_length shape k =
     either (eqb shape 1) (λ e. rw e (let z : shape ≡ 1 = omega tests in rw z)) (λ e. rw e (length-replicate (cond (ltb shape 2) 4 8) k))
 
--- a stopped walk goes nowhere
-halted_walk : (shape depth : ℕ) (k : Kind) (s : List ℕ) (w : Walk) → w.ok ≡ false → (walk_of shape depth k s w).ok ≡ false
-unfolding walk_of after_bit bit_at
-halted_walk shape zero k s w e = rw e
-halted_walk shape (suc d) k s w e = rw e
-
-halted_row : (shape depth : ℕ) (s : List ℕ) (ks : List Kind) (w : Walk) → w.ok ≡ false → (walk_row (λ j v. walk_of shape depth j s v) ks w).ok ≡ false
-unfolding walk_row
-halted_row shape depth s [] w e = e
-halted_row shape depth s (k ∷ ks) w e = halted_row shape depth s ks (walk_of shape depth k s w) (halted_walk shape depth k s w e)
-
 -- the walk at each byte
-module _ (shape : ℕ) (k : Kind) (s : List ℕ) (w : Walk) (going : w.ok ≡ true) where
+module _ (shape : ℕ) (k : Kind) (s : List ℕ) (w : Cursor) (going : w.ok ≡ true) where
   walk_end : (depth : ℕ) → length s ≤ w.at → (walk_of shape depth k s w).ok ≡ false
   unfolding walk_of after_bit bit_at
   walk_end zero h = rw (going, le-ltb w.at (length s) h)
@@ -75,22 +67,22 @@ module _ (shape : ℕ) (k : Kind) (s : List ℕ) (w : Walk) (going : w.ok ≡ tr
 
 module _ (shape : ℕ) (s : List ℕ) where
   -- reading and walking a row from w agree
-  RowAgrees : ℕ → List Kind → Walk → Type 0
+  RowAgrees : ℕ → List Kind → Cursor → Type 0
   RowAgrees depth ks w = Agrees shape s ks w (read_row (read_children (children shape) depth) (length ks) (drop w.at s)) (walk_row (λ j v. walk_of shape depth j s v) ks w)
 
   -- so do the children of a refined element
   Kids : ℕ → Type 0
   Kids depth =
-      (k : Kind) (w : Walk) → w.ok ≡ true → w.at < length s → get_or s w.at 0 ≡ 1 →
+      (k : Kind) (w : Cursor) → w.ok ≡ true → w.at < length s → get_or s w.at 0 ≡ 1 →
       Agrees shape s (child_kinds shape k) (onward w) (read_children (children shape) depth (drop (suc w.at) s)) (walk_of shape depth k s w)
 
-  agrees-leaf : (k : Kind) (ks : List Kind) (w v : Walk) (q : Reading) → Agrees shape s ks (leafed k w) q v → Agrees shape s (k ∷ ks) w (after_leaf q) v
+  agrees-leaf : (k : Kind) (ks : List Kind) (w v : Cursor) (q : Reading) → Agrees shape s ks (leafed k w) q v → Agrees shape s (k ∷ ks) w (after_leaf q) v
   unfolding leaves_in
   agrees-leaf k ks w v stopped a = a
   agrees-leaf k ks w v (found r t) a =
       record { going = a.going; within = a.within; rest = a.rest; standing = a.standing ∙ add_assoc w.upright (one upright k) (leaves_in shape upright r ks); hanging = a.hanging ∙ add_assoc w.inverted (one inverted k) (leaves_in shape inverted r ks) }
 
-  agrees-refined : (k : Kind) (ks : List Kind) (w u v : Walk) (c : Row) (t : List ℕ) → Come shape s (child_kinds shape k) (onward w) c t u → (q : Reading) → Agrees shape s ks u q v → Agrees shape s (k ∷ ks) w (after_children c q) v
+  agrees-refined : (k : Kind) (ks : List Kind) (w u v : Cursor) (c : Row) (t : List ℕ) → Come shape s (child_kinds shape k) (onward w) c t u → (q : Reading) → Agrees shape s ks u q v → Agrees shape s (k ∷ ks) w (after_children c q) v
   unfolding leaves_in
   agrees-refined k ks w u v c t b stopped a = a
   agrees-refined k ks w u v c t b (found r z) a =
@@ -103,7 +95,7 @@ module _ (shape : ℕ) (s : List ℕ) where
       }
 
   -- a refined element and those after it, by what its children were read as
-  agrees-kids : (depth : ℕ) (k : Kind) (ks : List Kind) (w u : Walk) → ((v : Walk) → v.ok ≡ true → v.at ≤ length s → RowAgrees depth ks v) → (q : Reading) → Agrees shape s (child_kinds shape k) (onward w) q u
+  agrees-kids : (depth : ℕ) (k : Kind) (ks : List Kind) (w u : Cursor) → ((v : Cursor) → v.ok ≡ true → v.at ≤ length s → RowAgrees depth ks v) → (q : Reading) → Agrees shape s (child_kinds shape k) (onward w) q u
       → Agrees shape s (k ∷ ks) w (after_refined q (λ t. read_row (read_children (children shape) depth) (length ks) t)) (walk_row (λ j v. walk_of shape depth j s v) ks u)
   unfolding RowAgrees
   agrees-kids depth k ks w u h stopped a = halted_row shape depth s ks u a
@@ -112,7 +104,7 @@ module _ (shape : ℕ) (s : List ℕ) where
       (rw a.rest at (h u a.going a.within))
 
   -- an element and those after it, by its byte
-  agrees-byte : (depth : ℕ) → Kids depth → (k : Kind) (ks : List Kind) (w : Walk) → w.ok ≡ true → w.at < length s → ((v : Walk) → v.ok ≡ true → v.at ≤ length s → RowAgrees depth ks v) → (b : ℕ)
+  agrees-byte : (depth : ℕ) → Kids depth → (k : Kind) (ks : List Kind) (w : Cursor) → w.ok ≡ true → w.at < length s → ((v : Cursor) → v.ok ≡ true → v.at ≤ length s → RowAgrees depth ks v) → (b : ℕ)
       → get_or s w.at 0 ≡ b → Agrees shape s (k ∷ ks) w (read_row (read_children (children shape) depth) (suc (length ks)) (b ∷ drop (suc w.at) s)) (walk_row (λ j v. walk_of shape depth j s v) ks (walk_of shape depth k s w))
   unfolding RowAgrees Kids read_row
   agrees-byte depth kids k ks w o l h zero e =
@@ -122,11 +114,11 @@ module _ (shape : ℕ) (s : List ℕ) where
   agrees-byte depth kids k ks w o l h (suc zero) e = agrees-kids depth k ks w (walk_of shape depth k s w) h (read_children (children shape) depth (drop (suc w.at) s)) (kids k w o l e)
   agrees-byte depth kids k ks w o l h (suc (suc b)) e = halted_row shape depth s ks (walk_of shape depth k s w) (walk_more shape k s w o depth b l e)
 
-  agrees-row : (depth : ℕ) → Kids depth → (ks : List Kind) (w : Walk) → w.ok ≡ true → w.at ≤ length s → RowAgrees depth ks w
+  agrees-row : (depth : ℕ) → Kids depth → (ks : List Kind) (w : Cursor) → w.ok ≡ true → w.at ≤ length s → RowAgrees depth ks w
   unfolding RowAgrees read_row walk_row leaves_in
   agrees-row depth kids [] w o l = record { going = o; within = l; rest = refl; standing = sym (add-zero w.upright); hanging = sym (add-zero w.inverted) }
   agrees-row depth kids (k ∷ ks) w o l =
-      let h : (v : Walk) → v.ok ≡ true → v.at ≤ length s → RowAgrees depth ks v = λ v p q. agrees-row depth kids ks v p q in
+      let h : (v : Cursor) → v.ok ≡ true → v.at ≤ length s → RowAgrees depth ks v = λ v p q. agrees-row depth kids ks v p q in
       either (ltb w.at (length s))
       (λ e.
       let lt : w.at < length s = omega tests in rw (drop-cons s w.at 0 lt) (agrees-byte depth kids k ks w o lt h (get_or s w.at 0) refl))
@@ -142,17 +134,17 @@ module _ (shape : ℕ) (s : List ℕ) where
       (subst (λ (m : ℕ). Agrees shape s (child_kinds shape k) (onward w) (read_row (read_children (children shape) depth) m (drop (w.at + 1) s)) (walk_row (λ j v. walk_of shape depth j s v) (child_kinds shape k) (onward w))) (kinds_length shape k)
       (agrees-row depth (agrees-children depth) (child_kinds shape k) (onward w) refl (omega arith))))
 
-  agrees-all : (depth : ℕ) (ks : List Kind) (w : Walk) → w.ok ≡ true → w.at ≤ length s → RowAgrees depth ks w
+  agrees-all : (depth : ℕ) (ks : List Kind) (w : Cursor) → w.ok ≡ true → w.at ≤ length s → RowAgrees depth ks w
   agrees-all depth = agrees-row depth (agrees-children depth)
 
 -- ---- a tree
 
-abbrev start : Walk
+abbrev start : Cursor
 start = record { ok = true; at = 0; upright = 0; inverted = 0 }
 
-whole_tree : (shape : ℕ) (s : List ℕ) (q : Reading) (v : Walk) → Agrees shape s (upright ∷ []) start q v
+whole_tree : (shape : ℕ) (s : List ℕ) (q : Reading) (v : Cursor) → Agrees shape s (upright ∷ []) start q v
     → tree_at (length s) v.ok v.at v.upright v.inverted
-    ≡ cond (whole q) (record { ok = true; upright = leaves shape upright (row_read q); inverted = leaves shape inverted (row_read q) }) (record { ok = false; upright = 0; inverted = 0 })
+    ≡ cond (whole q) (Some (record { upright = leaves shape upright (row_read q); inverted = leaves shape inverted (row_read q) })) None
 unfolding whole row_read tree_at leaves
 whole_tree shape s stopped v a = rw a
 whole_tree shape s (found r []) v a =
@@ -167,52 +159,68 @@ whole_tree shape s (found r (b ∷ t)) v a =
     rw (a.going, e)
 
 -- a walk over a tree's string finds the tree's leaves
-pub tree_walk : (shape : ℕ) (s : List ℕ) (v : Walk) → v ≡ walk_of shape 20 upright s start → tree_at (length s) v.ok v.at v.upright v.inverted ≡ tree_of shape s
+pub tree_walk : (shape : ℕ) (s : List ℕ) (v : Cursor) → v ≡ walk_of shape 20 upright s start → tree_at (length s) v.ok v.at v.upright v.inverted ≡ tree_of shape s
 unfolding tree_of string_ok upright_leaves inverted_leaves refinement_of read_tree RowAgrees walk_row
 tree_walk shape s v e = whole_tree shape s (read_row (read_children (children shape) 20) 1 s) v (rw e (agrees-all shape s 20 (upright ∷ []) start refl (omega arith)))
 
 -- a tree has no more leaves than its walk has passed
-pub tree_few : (n : ℕ) (ok : Bool) (at u i m : ℕ) → u + i ≤ m → (tree_at n ok at u i).upright + (tree_at n ok at u i).inverted ≤ m
+tree_few : (n : ℕ) (ok : Bool) (at u i m : ℕ) → u + i ≤ m → IfSome (tree_at n ok at u i) (λ t. t.upright + t.inverted ≤ m)
 unfolding tree_at
-tree_few n ok at u i m h = either (ok && eqb at n) (λ e. rw e h) (λ e. rw e (omega arith))
+tree_few n ok at u i m h = either (ok && eqb at n) (λ e. rw e h) (λ e. rw e tt)
 
-pub tree_found : (shape : ℕ) (s : List ℕ) (v : Walk) (r : TreeLeaves) → v ≡ walk_of shape 20 upright s start → Passing s v → r ≡ tree_at (length s) v.ok v.at v.upright v.inverted
-    → (r ≡ tree_of shape s) × (r.upright + r.inverted ≤ length s)
-tree_found shape s v r e p q = (q ∙ tree_walk shape s v e, rw q (tree_few (length s) v.ok v.at v.upright v.inverted (length s) (omega (arith, p.few, p.within))))
+pub tree_found : (shape : ℕ) (s : List ℕ) (v : Cursor) {r : Option TreeLeaves} → v ≡ walk_of shape 20 upright s start → Passing s v → r ≡ tree_at (length s) v.ok v.at v.upright v.inverted
+    → (r ≡ tree_of shape s) × IfSome r (λ t. t.upright + t.inverted ≤ length s)
+tree_found shape s v e p q = (q ∙ tree_walk shape s v e, rw q (tree_few (length s) v.ok v.at v.upright v.inverted (length s) (omega (arith, p.few, p.within))))
 
-pub triangle_found : (shape : ℕ) (s : List ℕ) (v : Walk) (r : TreeLeaves) → shape ≡ 1 → v ≡ walk_of 1 20 upright s start → Passing s v → r ≡ tree_at (length s) v.ok v.at v.upright v.inverted
-    → (r ≡ tree_of shape s) × (r.upright + r.inverted ≤ length s)
-triangle_found shape s v r h e p q = tree_found shape s v r (rw h e) p q
+-- a walk that stopped found nothing
+pub tree_stopped : (shape : ℕ) (s : List ℕ) → (walk_of shape 20 upright s start).ok ≡ false → None ≡ tree_of shape s
+unfolding tree_at
+tree_stopped shape s o = rw o at (tree_walk shape s (walk_of shape 20 upright s start) refl)
+
+-- the same of a triangle's
+pub triangle_found : (shape : ℕ) (s : List ℕ) (v : Cursor) {r : Option TreeLeaves} → shape ≡ 1 → v ≡ walk_of 1 20 upright s start → Passing s v → r ≡ tree_at (length s) v.ok v.at v.upright v.inverted
+    → (r ≡ tree_of shape s) × IfSome r (λ t. t.upright + t.inverted ≤ length s)
+triangle_found shape s v h e p q = tree_found shape s v (rw h e) p q
+
+pub triangle_stopped : (shape : ℕ) (s : List ℕ) → shape ≡ 1 → (walk_of 1 20 upright s start).ok ≡ false → None ≡ tree_of shape s
+triangle_stopped shape s h o = tree_stopped shape s (rw h o)
 
 -- what a tree's result says
-module _ (shape : ℕ) (s : List ℕ) (r : TreeLeaves) (e : r ≡ tree_of shape s) where
-  pub tree_ok : r.ok ≡ string_ok shape s
-  unfolding tree_of
-  tree_ok = rw e (either (string_ok shape s) (λ p. rw p) (λ p. rw p))
+pub tree_none : (shape : ℕ) (s : List ℕ) → None ≡ tree_of shape s → string_ok shape s ≡ false
+unfolding tree_of
+tree_none shape s e = either (string_ok shape s) (λ p. absurd (none-some _ (rw p at e))) (λ p. p)
 
-  pub tree_upright : r.ok ≡ true → r.upright ≡ upright_leaves shape s
-  unfolding tree_of
-  tree_upright h = rw (e, sym tree_ok ∙ h)
+tree_some : (shape : ℕ) (s : List ℕ) (r : TreeLeaves) → Some r ≡ tree_of shape s
+    → (string_ok shape s ≡ true) × (r ≡ record { upright = upright_leaves shape s; inverted = inverted_leaves shape s })
+unfolding tree_of
+tree_some shape s r e = either (string_ok shape s) (λ p. (p, same_Some _ _ (rw p at e))) (λ p. absurd (none-some _ (sym (rw p at e))))
 
-  pub tree_inverted : r.ok ≡ true → r.inverted ≡ inverted_leaves shape s
-  unfolding tree_of
-  tree_inverted h = rw (e, sym tree_ok ∙ h)
+module _ (shape : ℕ) (s : List ℕ) (r : TreeLeaves) (e : Some r ≡ tree_of shape s) where
+  pub tree_ok : string_ok shape s ≡ true
+  tree_ok = (tree_some shape s r e).0
 
-  pub tree_count_lem : r.ok ≡ true → r.upright + r.inverted ≡ tree_leaves shape s
+  tree-upright : r.upright ≡ upright_leaves shape s
+  tree-upright = ap (λ (t : TreeLeaves). t.upright) (tree_some shape s r e).1
+
+  tree-inverted : r.inverted ≡ inverted_leaves shape s
+  tree-inverted = ap (λ (t : TreeLeaves). t.inverted) (tree_some shape s r e).1
+
+  pub tree_count_lem : r.upright + r.inverted ≡ tree_leaves shape s
   unfolding tree_leaves
-  tree_count_lem h = rw (tree_upright h, tree_inverted h)
+  tree_count_lem = rw (tree-upright, tree-inverted)
 
 -- the answers for one tree
-module _ (shape : ℕ) (s : List ℕ) (r : TreeLeaves) (e : r ≡ tree_of shape s) (so : refinable shape ≡ true) where
-  pub refused_string : r.ok ≡ false → leaves_refused 23 ≡ count_leaves shape s
+module _ (shape : ℕ) (s : List ℕ) (so : refinable shape ≡ true) where
+  pub refused_string : None ≡ tree_of shape s → leaves_refused 23 ≡ count_leaves shape s
   unfolding count_leaves count_refusal leaves_answer first_failed
-  refused_string h = rw (so, sym (tree_ok shape s r e) ∙ h)
+  refused_string e = rw (so, tree_none shape s e)
 
-  pub refused_leaves : r.ok ≡ true → 16777216 < r.upright + r.inverted → leaves_refused 25 ≡ count_leaves shape s
-  unfolding count_leaves count_refusal leaves_answer first_failed
-  refused_leaves h l = rw (so, sym (tree_ok shape s r e) ∙ h, lt-leb (tree_leaves shape s) 16777216 (rw (tree_count_lem shape s r e h) at l))
+  module _ (r : TreeLeaves) (e : Some r ≡ tree_of shape s) where
+    pub refused_leaves : 16777216 < r.upright + r.inverted → leaves_refused 25 ≡ count_leaves shape s
+    unfolding count_leaves count_refusal leaves_answer first_failed
+    refused_leaves l = rw (so, tree_ok shape s r e, lt-leb (tree_leaves shape s) 16777216 (rw (tree_count_lem shape s r e) at l))
 
-  pub counted : r.ok ≡ true → r.upright + r.inverted ≤ 16777216 → record { refusal = 0; upright = r.upright; inverted = r.inverted; leaves = r.upright + r.inverted } ≡ count_leaves shape s
-  unfolding count_leaves count_refusal leaves_answer first_failed
-  counted h l =
-      rw (so, sym (tree_ok shape s r e) ∙ h, le-leb (tree_leaves shape s) 16777216 (rw (tree_count_lem shape s r e h) at l), ← tree_upright shape s r e h, ← tree_inverted shape s r e h)
+    pub counted : r.upright + r.inverted ≤ 16777216 → record { refusal = 0; upright = r.upright; inverted = r.inverted; leaves = r.upright + r.inverted } ≡ count_leaves shape s
+    unfolding count_leaves count_refusal leaves_answer first_failed
+    counted l =
+        rw (so, tree_ok shape s r e, le-leb (tree_leaves shape s) 16777216 (rw (tree_count_lem shape s r e) at l), ← tree-upright shape s r e, ← tree-inverted shape s r e)

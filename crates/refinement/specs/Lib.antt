@@ -2,5 +2,6 @@
 pub mod Refinement
 pub mod Reading
 pub mod Calls
+pub mod Answers
 pub mod Promises
 pub mod Means

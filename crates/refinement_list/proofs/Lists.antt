@@ -10,21 +10,24 @@ use lib.ListN.{length, get_or, take, drop, set, length-append, length-set}
 use borrow.Author.Tests.{lt-leb, le-leb, eq-eqb, ne_eqb, leb-true, eqb-true}
 use Rattle.encoding.specs.Answer.{written, count_refused, count_answer}
 use Rattle.encoding.specs.Refusal.{first_failed}
-use Rattle.encoding.specs.declared.answer.Count.{Count}
 use Rattle.encoding.specs.Below.{all_below, sum_below}
 use Rattle.encoding.specs.Pieces.{piece, splice}
 use Rattle.encoding.proofs.Below.{either, and_fst, and_snd, all_at, all_more, all_fails, sum_more, sum_mono}
 use Rattle.encoding.proofs.Pieces.{splice_none, splice_cons, splice_next, length_splice}
 use Rattle.leaf_shares.specs.Leaves.{max_leaves}
 use Rattle.offsets.specs.Limits.{tree_count_ok}
-use Rattle.refinement_list.specs.declared.trees.Seen.{Seen}
+use Rattle.std.specs.Prelude.{None, Some, IsSome}
+use Rattle.std.specs.declared.option.Option.{Option}
+use Rattle.encoding.specs.declared.refusal.Refusal.{Refusal}
+use Rattle.encoding.specs.Refusals.{refusal_number}
+use Rattle.encoding.proofs.Refusals.{number_positive}
 use Rattle.refinement.specs.declared.walk.TreeLeaves.{TreeLeaves}
 use Rattle.refinement.specs.Reading.{string_ok}
 use Rattle.refinement.specs.Calls.{tree_leaves}
 use Rattle.refinement_list.specs.Calls.{list_below, string_start, string_of, trees_ok, shapes_ok, strings_ok, count_of, counts_fit, count_list, counts_refusal, leaf_counts}
 use Rattle.refinement.specs.Means.Trees.{tree_of}
-use Rattle.refinement_list.specs.Means.{seen_of, Walkable}
-use Rattle.refinement.proofs.Counts.{tree_ok, tree_count_lem}
+use Rattle.refinement_list.specs.Means.{strings_refusal, Walkable}
+use Rattle.refinement.proofs.Counts.{tree_ok, tree_none, tree_count_lem}
 
 start_more : (lengths : List ℕ) (i : ℕ) → string_start lengths (i + 1) ≡ string_start lengths i + get_or lengths i 0
 unfolding string_start
@@ -49,13 +52,10 @@ pub record Surveyed (shapes lengths bits : List ℕ) (small : Bool) (at i : ℕ)
   pub strings : all_below i (λ k. string_ok (get_or shapes k 0) (string_of lengths bits k)) ≡ true
   pub counts : small ≡ all_below i (λ k. leb (count_of shapes lengths bits k) max_leaves)
 
-abbrev nothing : Seen
-nothing = record { ok = false; small = false }
-
 module _ (shapes lengths bits : List ℕ) where
-  not_seen : strings_ok shapes lengths bits ≡ false → nothing ≡ seen_of shapes lengths bits
-  unfolding seen_of
-  not_seen e = rw e
+  not-ordered : strings_ok shapes lengths bits ≡ false → 23 ≡ strings_refusal shapes lengths bits
+  unfolding strings_refusal first_failed
+  not-ordered e = rw e
 
   pub surveyed_start : Surveyed shapes lengths bits true 0 0
   unfolding all_below string_start sum_below
@@ -63,56 +63,68 @@ module _ (shapes lengths bits : List ℕ) where
 
   module _ (small : Bool) (at i : ℕ) (v : Surveyed shapes lengths bits small at i) where
     -- a string that ends behind the bytes
-    pub surveyed_short : (n : ℕ) → i < length shapes → n ≡ get_or lengths i 0 → length bits - at < n → nothing ≡ seen_of shapes lengths bits
+    pub surveyed_short : (n : ℕ) → i < length shapes → n ≡ get_or lengths i 0 → length bits - at < n → 23 ≡ strings_refusal shapes lengths bits
     unfolding strings_ok
     surveyed_short n h q l =
         let m : string_start lengths (i + 1) ≤ string_start lengths (length shapes) = start_mono lengths (i + 1) (length shapes) (omega arith) in
         let f : eqb (string_start lengths (length shapes)) (length bits) ≡ false =
         ne_eqb (string_start lengths (length shapes)) (length bits) (λ z. omega (arith, start_more lengths i, v.begins, v.inside)) in
-        not_seen (rw f)
+        not-ordered (rw f)
 
     -- bytes that are left
-    pub surveyed_left : length shapes ≤ i → at < length bits → nothing ≡ seen_of shapes lengths bits
+    pub surveyed_left : length shapes ≤ i → at < length bits → 23 ≡ strings_refusal shapes lengths bits
     unfolding strings_ok
     surveyed_left h l =
         let e : i ≡ length shapes = omega (arith, v.within) in
         let f : eqb (string_start lengths (length shapes)) (length bits) ≡ false =
         ne_eqb (string_start lengths (length shapes)) (length bits) (λ z. omega (arith, rw e at v.begins)) in
-        not_seen (rw f)
+        not-ordered (rw f)
 
-    pub surveyed_done : length shapes ≤ i → length bits ≤ at → record { ok = true; small = small } ≡ seen_of shapes lengths bits
-    unfolding seen_of strings_ok counts_fit
+    pub surveyed_done : length shapes ≤ i → length bits ≤ at → (strings_ok shapes lengths bits ≡ true) × (small ≡ counts_fit shapes lengths bits)
+    unfolding strings_ok counts_fit
     surveyed_done h l =
         let e : i ≡ length shapes = omega (arith, v.within) in
         let f : eqb (string_start lengths (length shapes)) (length bits) ≡ true =
         eq-eqb (string_start lengths (length shapes)) (length bits) (omega (arith, rw e at v.begins, v.inside)) in
-        rw (f, rw e at v.strings, rw e at v.counts)
+        (rw (f, rw e at v.strings), rw e at v.counts)
 
-    module _ (n : ℕ) (r : TreeLeaves) (h : i < length shapes) (q : n ≡ get_or lengths i 0) (t : r ≡ tree_of (get_or shapes i 0) (take (at + n - at) (drop at bits))) where
-      this : r ≡ tree_of (get_or shapes i 0) (string_of lengths bits i)
-      this = t ∙ ap (tree_of (get_or shapes i 0)) (part_string lengths bits at n i v.begins q)
+    pub surveyed_large : length shapes ≤ i → length bits ≤ at → small ≡ false → 25 ≡ strings_refusal shapes lengths bits
+    unfolding strings_refusal first_failed
+    surveyed_large h l z = let d = surveyed_done h l in rw (d.0, ← d.1, z)
+
+    pub surveyed_fit : length shapes ≤ i → length bits ≤ at → small ≡ true → 0 ≡ strings_refusal shapes lengths bits
+    unfolding strings_refusal first_failed
+    surveyed_fit h l z = let d = surveyed_done h l in rw (d.0, ← d.1, z)
+
+    module _ (n : ℕ) (h : i < length shapes) (q : n ≡ get_or lengths i 0) where
+      here : take (at + n - at) (drop at bits) ≡ string_of lengths bits i
+      here = part_string lengths bits at n i v.begins q
 
       -- a string that isn't in order
-      pub surveyed_bad : r.ok ≡ false → nothing ≡ seen_of shapes lengths bits
+      pub surveyed_bad : None ≡ tree_of (get_or shapes i 0) (take (at + n - at) (drop at bits)) → 23 ≡ strings_refusal shapes lengths bits
       unfolding strings_ok
-      surveyed_bad e =
+      surveyed_bad t =
           let f : all_below (length shapes) (λ k. string_ok (get_or shapes k 0) (string_of lengths bits k)) ≡ false =
-          all_fails (length shapes) (λ k. string_ok (get_or shapes k 0) (string_of lengths bits k)) i h (sym (tree_ok (get_or shapes i 0) (string_of lengths bits i) r this) ∙ e) in
-          not_seen (rw (f, and-false))
+          all_fails (length shapes) (λ k. string_ok (get_or shapes k 0) (string_of lengths bits k)) i h (tree_none (get_or shapes i 0) (string_of lengths bits i) (rw here at t)) in
+          not-ordered (rw (f, and-false))
 
-      surveyed-count : r.upright + r.inverted ≡ tree_leaves (get_or shapes i 0) (string_of lengths bits i) → (small && leb (r.upright + r.inverted) 16777216) ≡ all_below (i + 1) (λ k. leb (count_of shapes lengths bits k) max_leaves)
-      unfolding count_of all_below
-      surveyed-count z = rw (z, v.counts, add-one)
+      module _ (r : TreeLeaves) (t : Some r ≡ tree_of (get_or shapes i 0) (take (at + n - at) (drop at bits))) where
+        this : Some r ≡ tree_of (get_or shapes i 0) (string_of lengths bits i)
+        this = rw here at t
 
-      pub surveyed_turn : r.ok ≡ true → n ≤ length bits - at → Surveyed shapes lengths bits (small && leb (r.upright + r.inverted) 16777216) (at + n) (i + 1)
-      surveyed_turn e l =
-          record {
-            within = omega arith;
-            begins = omega (arith, start_more lengths i, v.begins);
-            inside = omega (arith, v.inside);
-            strings = all_more i (λ k. string_ok (get_or shapes k 0) (string_of lengths bits k)) v.strings (sym (tree_ok (get_or shapes i 0) (string_of lengths bits i) r this) ∙ e);
-            counts = surveyed-count (tree_count_lem (get_or shapes i 0) (string_of lengths bits i) r this e);
-          }
+        surveyed-count : r.upright + r.inverted ≡ tree_leaves (get_or shapes i 0) (string_of lengths bits i) → (small && leb (r.upright + r.inverted) 16777216) ≡ all_below (i + 1) (λ k. leb (count_of shapes lengths bits k) max_leaves)
+        unfolding count_of all_below
+        surveyed-count z = rw (z, v.counts, add-one)
+
+        pub surveyed_turn : n ≤ length bits - at → Surveyed shapes lengths bits (small && leb (r.upright + r.inverted) 16777216) (at + n) (i + 1)
+        surveyed_turn l =
+            record {
+              within = omega arith;
+              begins = omega (arith, start_more lengths i, v.begins);
+              inside = omega (arith, v.inside);
+              strings = all_more i (λ k. string_ok (get_or shapes k 0) (string_of lengths bits k)) v.strings (tree_ok (get_or shapes i 0) (string_of lengths bits i) r this);
+              counts = surveyed-count (tree_count_lem (get_or shapes i 0) (string_of lengths bits i) r this);
+            }
 
 -- ---- the counts
 
@@ -164,13 +176,17 @@ module _ (shapes lengths bits : List ℕ) (ready : Walkable shapes lengths bits)
   unfolding string_start sum_below list_below
   writing_start out = record { within = omega arith; begins = refl; same = refl; done = sym (splice_none out 0) }
 
+  -- so it has leaves
+  pub string_there : (at i n : ℕ) → at ≡ string_start lengths i → i < length shapes → n ≡ get_or lengths i 0
+      → {o : Option TreeLeaves} → o ≡ tree_of (get_or shapes i 0) (take (at + n - at) (drop at bits)) → IsSome o
+  unfolding tree_of
+  string_there at i n b h q e = rw (e, part_string lengths bits at n i b q, ready-string i h)
+
   module _ (at i n : ℕ) (r : TreeLeaves) (b : at ≡ string_start lengths i) (h : i < length shapes) (q : n ≡ get_or lengths i 0)
-      (t : r ≡ tree_of (get_or shapes i 0) (take (at + n - at) (drop at bits))) where
+      (t : Some r ≡ tree_of (get_or shapes i 0) (take (at + n - at) (drop at bits))) where
     pub written_count : r.upright + r.inverted ≡ count_of shapes lengths bits i
     unfolding count_of
-    written_count =
-        let e : r ≡ tree_of (get_or shapes i 0) (string_of lengths bits i) = t ∙ ap (tree_of (get_or shapes i 0)) (part_string lengths bits at n i b q) in
-        tree_count_lem (get_or shapes i 0) (string_of lengths bits i) r e (tree_ok (get_or shapes i 0) (string_of lengths bits i) r e ∙ ready-string i h)
+    written_count = tree_count_lem (get_or shapes i 0) (string_of lengths bits i) r (rw (part_string lengths bits at n i b q) at t)
 
     pub written_small : r.upright + r.inverted ≤ 16777216
     written_small = omega (arith, written_count, ready-count i h)
@@ -201,45 +217,42 @@ module _ (shapes lengths bits : List ℕ) (to : trees_ok shapes lengths ≡ true
       leb-true (length shapes) 1048576
       (and_snd (leb 1 (length shapes)) (leb (length shapes) 1048576) (and_snd (eqb (length lengths) (length shapes)) (tree_count_ok (length shapes)) to))
 
-  module _ (v : Seen) (e : v ≡ seen_of shapes lengths bits) where
-    seen-strings : v.ok ≡ strings_ok shapes lengths bits
-    unfolding seen_of
-    seen-strings = rw e (either (strings_ok shapes lengths bits) (λ p. rw p) (λ p. rw p))
+  pub strings_ready : 0 ≡ strings_refusal shapes lengths bits → Walkable shapes lengths bits
+  unfolding strings_refusal first_failed
+  strings_ready e =
+      either (strings_ok shapes lengths bits)
+      (λ p. either (counts_fit shapes lengths bits)
+      (λ q. record { same_length = trees_same; strings = p; counts = q })
+      (λ q. absurd (let z : ◌≡◌ {A = ℕ} 0 25 = rw (p, q) at e in omega arith)))
+      (λ p. absurd (let z : ◌≡◌ {A = ℕ} 0 23 = rw p at e in omega arith))
 
-    seen-counts : v.ok ≡ true → v.small ≡ counts_fit shapes lengths bits
-    unfolding seen_of
-    seen-counts h = rw (e, sym seen-strings ∙ h)
-
-    pub seen_ready : v.ok ≡ true → v.small ≡ true → Walkable shapes lengths bits
-    seen_ready h k = record { same_length = trees_same; strings = sym seen-strings ∙ h; counts = sym (seen-counts h) ∙ k }
-
+-- the checks in their order
 module _ (shapes lengths bits out : List ℕ) where
-  pub refused_trees : (r : Count) → r ≡ count_refused 6 → trees_ok shapes lengths ≡ false → (r, out) ≡ leaf_counts shapes lengths bits out
+  pub refused_trees : trees_ok shapes lengths ≡ false → (count_refused 6, out) ≡ leaf_counts shapes lengths bits out
   unfolding leaf_counts counts_refusal count_answer written first_failed
-  refused_trees r e h = rw (e, h)
+  refused_trees h = rw h
 
-  pub refused_shapes : (r : Count) → r ≡ count_refused 24 → trees_ok shapes lengths ≡ true → shapes_ok shapes ≡ false → (r, out) ≡ leaf_counts shapes lengths bits out
-  unfolding leaf_counts counts_refusal count_answer written first_failed
-  refused_shapes r e t h = rw (e, t, h)
+  module _ (t : trees_ok shapes lengths ≡ true) where
+    pub refused_shapes : shapes_ok shapes ≡ false → (count_refused 24, out) ≡ leaf_counts shapes lengths bits out
+    unfolding leaf_counts counts_refusal count_answer written first_failed
+    refused_shapes h = rw (t, h)
 
-  pub refused_strings : (r : Count) → r ≡ count_refused 23 → trees_ok shapes lengths ≡ true → shapes_ok shapes ≡ true → (v : Seen) → v ≡ seen_of shapes lengths bits → v.ok ≡ false
-      → (r, out) ≡ leaf_counts shapes lengths bits out
-  unfolding leaf_counts counts_refusal count_answer written first_failed
-  refused_strings r e t h v p q = rw (e, t, h, sym (seen-strings shapes lengths bits t v p) ∙ q)
+    module _ (h : shapes_ok shapes ≡ true) where
+      pub refused_strings : (e : Refusal) → refusal_number e ≡ strings_refusal shapes lengths bits → (count_refused (refusal_number e), out) ≡ leaf_counts shapes lengths bits out
+      unfolding leaf_counts counts_refusal count_answer written strings_refusal first_failed
+      refused_strings e q =
+          either (strings_ok shapes lengths bits)
+          (λ p. either (counts_fit shapes lengths bits)
+          (λ k. absurd (number_positive e (rw (p, k) at q)))
+          (λ k. let z : refusal_number e ≡ 25 = rw (p, k) at q in rw (t, h, p, k, z)))
+          (λ p. let z : refusal_number e ≡ 23 = rw p at q in rw (t, h, p, z))
 
-  pub refused_counts : (r : Count) → r ≡ count_refused 25 → trees_ok shapes lengths ≡ true → shapes_ok shapes ≡ true → (v : Seen) → v ≡ seen_of shapes lengths bits → v.ok ≡ true → v.small ≡ false
-      → (r, out) ≡ leaf_counts shapes lengths bits out
-  unfolding leaf_counts counts_refusal count_answer written first_failed
-  refused_counts r e t h v p q k = rw (e, t, h, sym (seen-strings shapes lengths bits t v p) ∙ q, sym (seen-counts shapes lengths bits t v p q) ∙ k)
+      module _ (w : Walkable shapes lengths bits) where
+        pub refused_room : length out < length shapes → (count_refused 22, out) ≡ leaf_counts shapes lengths bits out
+        unfolding leaf_counts counts_refusal count_answer written first_failed
+        refused_room l = rw (t, h, w.strings, w.counts, lt-leb (length shapes) (length out) l)
 
-  pub refused_room : (r : Count) → r ≡ count_refused 22 → trees_ok shapes lengths ≡ true → shapes_ok shapes ≡ true → (v : Seen) → v ≡ seen_of shapes lengths bits → v.ok ≡ true → v.small ≡ true
-      → length out < length shapes → (r, out) ≡ leaf_counts shapes lengths bits out
-  unfolding leaf_counts counts_refusal count_answer written first_failed
-  refused_room r e t h v p q k l =
-      rw (e, t, h, sym (seen-strings shapes lengths bits t v p) ∙ q, sym (seen-counts shapes lengths bits t v p q) ∙ k, lt-leb (length shapes) (length out) l)
-
-  pub all_counted : (last : List ℕ) → last ≡ splice out 0 (count_list shapes lengths bits) → trees_ok shapes lengths ≡ true → shapes_ok shapes ≡ true → (v : Seen) → v ≡ seen_of shapes lengths bits → v.ok ≡ true
-      → v.small ≡ true → length shapes ≤ length out → (record { refusal = 0; count = length shapes }, last) ≡ leaf_counts shapes lengths bits out
-  unfolding leaf_counts counts_refusal count_answer written first_failed
-  all_counted last e t h v p q k l =
-      rw (e, t, h, sym (seen-strings shapes lengths bits t v p) ∙ q, sym (seen-counts shapes lengths bits t v p q) ∙ k, le-leb (length shapes) (length out) l)
+        pub all_counted : {last : List ℕ} → last ≡ splice out 0 (count_list shapes lengths bits) → length shapes ≤ length out
+            → (record { refusal = 0; count = length shapes }, last) ≡ leaf_counts shapes lengths bits out
+        unfolding leaf_counts counts_refusal count_answer written first_failed
+        all_counted e l = rw (e, t, h, w.strings, w.counts, le-leb (length shapes) (length out) l)

@@ -1,12 +1,11 @@
--- Means, no part of what is promised: the result for all trees of a list.
-use Rattle.std.specs.Prelude.{ℕ, ◌≡◌, true, false, cond, List, length}
-use Rattle.refinement_list.specs.declared.trees.Seen.{Seen}
+-- Means, no part of what is promised: the checks of all strings of a list.
+use Rattle.std.specs.Prelude.{ℕ, ◌≡◌, true, List, [], ◌∷◌, length}
+use Rattle.encoding.specs.Refusal.{check, first_failed}
 use Rattle.refinement_list.specs.Calls.{strings_ok, counts_fit}
 
--- whether all strings are in order, and then whether no tree has too many leaves
-unfoldable pub seen_of : List ℕ → List ℕ → List ℕ → Seen
-seen_of shapes lengths bits =
-    cond (strings_ok shapes lengths bits) (record { ok = true; small = counts_fit shapes lengths bits }) (record { ok = false; small = false })
+-- all strings are in order, and then no tree has too many leaves
+unfoldable pub strings_refusal : List ℕ → List ℕ → List ℕ → ℕ
+strings_refusal shapes lengths bits = first_failed (check (strings_ok shapes lengths bits) 23 ∷ check (counts_fit shapes lengths bits) 25 ∷ [])
 
 -- as many lengths as shapes, and strings and counts in order
 pub record Walkable (shapes lengths bits : List ℕ) : Type 0 where

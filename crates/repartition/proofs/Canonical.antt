@@ -1,5 +1,5 @@
 -- The area of a rank, as a function of the senders heard. A heard set is a test of ranks.
-use Prim.Native.Nat.{ℕ, zero, suc, ◌+◌}
+use Prim.Native.Nat.{ℕ, zero, suc}
 use mathlib.Core.Bool.{Bool, cond, ◌&&◌}
 use mathlib.Core.List.{List, [], ◌++◌}
 use Rattle.encoding.specs.Below.{count_below}

@@ -2,14 +2,14 @@
 use Prim.Native.Nat.{ℕ, ◌+◌, ◌<◌}
 use native.Mathlib.Nat.{zero-add, mul-le-mul_left}
 use native.Mathlib.Omega.{arith}
-use mathlib.Core.Path.{◌≡◌, refl, sym, ap, ◌∙◌}
+use mathlib.Core.Path.{◌≡◌, refl, sym, ◌∙◌}
 use mathlib.Core.Bool.{Bool, true, cond, ◌&&◌}
 use mathlib.Core.List.{List, [], ◌∷◌, ◌++◌}
 use lib.Dec.{leb, ltb, eqb}
 use lib.ListN.{length, drop}
 use lib.Seq.{get_or-drop}
 use borrow.Author.Tests.{ltb-true}
-use Rattle.encoding.specs.Answer.{write_answer, length_answer, written}
+use Rattle.encoding.specs.Answer.{write_answer, written}
 use Rattle.encoding.specs.Pieces.{splice, Bytes}
 use Rattle.encoding.specs.Refusal.{check, first_failed}
 use Rattle.encoding.proofs.Below.{either, and_fst, and_snd}
@@ -20,7 +20,7 @@ use Rattle.pattern.proofs.Answers.{tables_agree}
 use Rattle.records.specs.Shape.{faces_in}
 use Rattle.mesh.specs.Mesh.{dimension_ok}
 use Rattle.area.specs.Layout.{ghost_bound, area_size}
-use Rattle.area.specs.Area.{area_dimension, filled_slots, filled_bound, area_sound}
+use Rattle.area.specs.Area.{area_dimension, filled_bound, area_sound}
 use Rattle.area.specs.Deliver.{deliver_of}
 use Rattle.area.specs.Open.{fresh_area}
 use Rattle.area.proofs.Soundness.{filled_few}

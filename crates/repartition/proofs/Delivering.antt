@@ -5,16 +5,16 @@ use native.Mathlib.Omega.{arith}
 use mathlib.Core.Path.{◌≡◌, refl, sym, ap, ap₂, ◌∙◌}
 use mathlib.Core.Bool.{Bool, true, false, cond, not, ◌||◌, and-false, or-false, or-true}
 use mathlib.Core.List.{List, [], ◌++◌}
-use lib.Dec.{leb, ltb, eqb, eqb-suc-zero}
+use lib.Dec.{ltb, eqb, eqb-suc-zero}
 use lib.ListN.{get_or}
-use borrow.Author.Tests.{eqb-true, lt-ltb, le-leb, eq-eqb, not-true}
+use borrow.Author.Tests.{eqb-true, lt-ltb, eq-eqb, not-true}
 use Rattle.encoding.specs.Below.{all_below, any_below, count_below, kept_below}
 use Rattle.encoding.specs.Pieces.{piece}
 use Rattle.encoding.specs.Refusal.{first_failed}
 use Rattle.encoding.proofs.Below.{either, clash, and_fst, and_snd, and_intro, iff_eq, all_intro, any_intro, count_same, kept_found}
 use Rattle.offsets.specs.Table.{ranks, trees, first_tree, tree_count, holds}
 use Rattle.offsets.proofs.Tables.{count_add}
-use Rattle.records.specs.Shape.{face_count, faces_in}
+use Rattle.records.specs.Shape.{face_count}
 use Rattle.records.specs.Record.{tree_size, number_of, shape_of, neighbour_of}
 use Rattle.pattern.specs.Sender.{Tables, sender, sends, sent_first, sent_count}
 use Rattle.pattern.proofs.Counting.{range_true}
@@ -28,8 +28,8 @@ use Rattle.message.specs.Rule.{sends_beside, considers, sends_ghost, ghost_goes}
 use Rattle.message.specs.Means.{ghost_sender, mesh_message}
 use Rattle.message.proofs.Ghosts.{beside_at, no_ghost_sender, one_ghost_sender, sends_considers, considers_ghost}
 use Rattle.message.proofs.Messages.{RecordsLong, mesh_records_long, mesh_in_layout, message_epoch_lem, message_dimension_lem, message_k_lem, message_p_lem, message_sender_lem, message_receiver_lem, message_trees_lem, message_ghosts_lem, message_record, message_tree_lem, message_ghost_lem}
-use Rattle.area.specs.Layout.{ghost_bound, area_with}
-use Rattle.area.specs.Area.{area_rank, area_ghosts, heard, ghost_slot, area_bound, area_sound}
+use Rattle.area.specs.Layout.{area_with}
+use Rattle.area.specs.Area.{area_rank, area_ghosts, heard, ghost_slot, area_sound}
 use Rattle.area.specs.Deliver.{among, one_of, same_run, sender_due, trees_due, beside_trees, ghost_due, ghost_new, deliver_checks, slot_after, ghosts_after, delivered, deliver_of}
 use Rattle.area_theorems.proofs.Zones.{Reads, dimension_small, area_same}
 use Rattle.repartition.specs.Words.{slot_heard}

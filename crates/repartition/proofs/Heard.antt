@@ -19,7 +19,6 @@ use Rattle.records.specs.Shape.{faces_in}
 use Rattle.records.specs.Record.{core_size, tree_size, number_of, in_form}
 use Rattle.records.proofs.Forms.{piece_piece}
 use Rattle.pattern.specs.Sender.{Tables, sender}
-use Rattle.pattern.proofs.Counting.{count_imp}
 use Rattle.mesh.specs.Mesh.{mesh_header, mesh_dimension, mesh_trees, mesh_core, mesh_record}
 use Rattle.mesh.proofs.Soundness.{header_parts, sound_header, sound_fits, sound_core, sound_form, sound_number}
 use Rattle.part.specs.Ghosts.{is_ghost}

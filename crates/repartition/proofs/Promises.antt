@@ -12,10 +12,9 @@ use borrow.Author.Tests.{lt-ltb, le-leb, eq-eqb}
 use Rattle.offsets_write.proofs.Refusals.{six_means, table_written}
 use Rattle.plan_write.proofs.Listing.{moves_printed}
 use Rattle.plan_text.proofs.Texts.{plan_texts}
-use Rattle.encoding.specs.Answer.{length_answer, written, write_answer}
+use Rattle.encoding.specs.Answer.{written, write_answer}
 use Rattle.encoding.specs.Pieces.{Bytes, splice}
 use Rattle.encoding.specs.Refusal.{check, first_failed}
-use Rattle.encoding.specs.declared.answer.Length.{Length}
 use Rattle.encoding.proofs.Below.{either, and_fst, and_snd, and_intro}
 use Rattle.offsets.specs.Limits.{rank_count_ok, tree_count_ok}
 use Rattle.offsets.specs.Table.{table_length, ranks, ranks_ok, trees, first_tree, tree_count, holds, entries_within, counts_ok, valid, entry}
@@ -25,7 +24,7 @@ use Rattle.offsets_write.specs.Calls.{each, partition_ok, write_refusal, write_t
 use Rattle.offsets.proofs.Tables.{size}
 use Rattle.offsets_write.proofs.Partitions.{trees_are, Agree, same_end, same_ranges, same_partition, table_of_lem, table_unique, table_fits, shared_means}
 use Rattle.leaves.proofs.LeafTables.{ranks_counted, ranks_fit_lem, leaf_tables}
-use Rattle.pattern.specs.declared.Sender.TheVariants.{Rank, Nobody}
+use Rattle.std.specs.Prelude.{Some, None, Ok}
 use Rattle.pattern.specs.Sender.{Tables, sender, sender_to, sender_number, sent_first, sent_count}
 use Rattle.pattern.specs.Sets.{send_set, receive_set}
 use Rattle.pattern.specs.Calls.{table_checks, sender_refusal, sender_of, sent_refusal, trees_sent, set_refusal, ranks_answer, set_answer, send_set_of, receive_set_of}
@@ -42,16 +41,14 @@ use Rattle.part_cut.proofs.Cutting.{Cuttable}
 use Rattle.part_neighbour.specs.Neighbour.{flat_answer}
 use Rattle.part_theorems.proofs.CutLinks.{cut_answer}
 use Rattle.part_theorems.proofs.CutSound.{cut_holds, held_below_lem, cut_core, cut_sound}
-use Rattle.message.specs.Layout.{message_trees, message_ghosts, in_layout}
-use Rattle.message.specs.Calls.{message_refusal, reading_of}
 use Rattle.message.proofs.Layouts.{layout_size}
 use Rattle.message.proofs.Reading.{count_all}
 use Rattle.message.proofs.Ghosts.{tree_one_message, ghost_one_message}
 use Rattle.message_reader.specs.Handing.{begin_of, begun_seen}
 use Rattle.message_reader.specs.declared.Begun.{Begun}
-use Rattle.message_reader.proofs.Whole.{reads_records, reads_bytes, reads_remains, reads_end, reads_refused, reads_nothing}
+use Rattle.message_reader.proofs.Whole.{reads_records, reads_bytes, reads_remains, reads_end, reads_begin, reads_count, reads_refused, reads_nothing}
 use Rattle.repartition.specs.Lists.{Built}
-use Rattle.repartition.specs.Promises.{BecomesTable, OneTable, OnlyValid, TableAgain, FirstUnread, SharedFirst, Symmetric, OneSender, OneRange, Received, SetsAscend, SetsEnd, listed, SetsAnswered, RangesAnswered, SenderAnswered, SendersAnswered, CutParts, Messages, BuiltInLayout, ReadsMessages, TreeOneMessage, GhostOneMessage, Demand2}
+use Rattle.repartition.specs.Promises.{ReadToEnd, BecomesTable, OneTable, OnlyValid, TableAgain, FirstUnread, SharedFirst, Symmetric, OneSender, OneRange, Received, SetsAscend, SetsEnd, listed, SetsAnswered, RangesAnswered, SenderAnswered, SendersAnswered, CutParts, Messages, BuiltInLayout, ReadsMessages, TreeOneMessage, GhostOneMessage, Demand2}
 use Rattle.repartition.proofs.Building.{own_record, build_answer}
 use Rattle.repartition.proofs.PartMessages.{part_in_layout}
 use Rattle.repartition.proofs.RuleMessages.{trees_in, goes_in, follows_rule}
@@ -222,26 +219,26 @@ sign (pos n) = 1
 sign (negsuc n) = 0
 
 -- the number of a sender says who it is
-number_rank : (p q : ℕ) → sender_number (Rank p) ≡ sender_number (Rank q) → p ≡ q
+number_rank : (p q : ℕ) → sender_number (Some p) ≡ sender_number (Some q) → p ≡ q
 unfolding sender_number
 number_rank p q e = ap plain e
 
-number_nobody : (p : ℕ) → sender_number (Rank p) ≡ sender_number Nobody → ⊥
+number_nobody : (p : ℕ) → sender_number (Some p) ≡ sender_number None → ⊥
 unfolding sender_number
 number_nobody p e = let z : ◌≡◌ {A = ℕ} 1 0 = ap sign e in omega arith
 
 module _ (old new : List ℕ) (T : Tables old new) (k q : ℕ) (h : k < trees old) (l : q < ranks old) where
-  to-rank : holds new q k ≡ true → (sender_of old new k q).sender ≡ sender_number (Rank (sender old k q))
+  to-rank : holds new q k ≡ true → (sender_of old new k q).sender ≡ sender_number (Some (sender old k q))
   to-rank e = rw (sender-answered old new T k q h l, sender_defined old new T k q e)
 
-  to-nobody : holds new q k ≡ false → (sender_of old new k q).sender ≡ sender_number Nobody
+  to-nobody : holds new q k ≡ false → (sender_of old new k q).sender ≡ sender_number None
   to-nobody e = rw (sender-answered old new T k q h l, sender_nobody old new T k q e)
 
   sender-told : SenderAnswered old new k q
   sender-told =
       record {
         answer = sender-answered old new T k q h l;
-        if_sends = λ p s. let w = sends_true old new T p q k s in to-rank w.0 ∙ ap (λ (r : ℕ). sender_number (Rank r)) w.1;
+        if_sends = λ p s. let w = sends_true old new T p q k s in to-rank w.0 ∙ ap (λ (r : ℕ). sender_number (Some r)) w.1;
         only_sends = λ p e.
             either (holds new q k)
             (λ t. rw (number_rank p (sender old k q) (sym e ∙ to-rank t)) (sends_in old new T q k t))
@@ -304,23 +301,25 @@ part_passes part table rank ok v below e =
 pub built_in_layout : BuiltInLayout
 built_in_layout part old new p q epoch T l r e = part_in_layout part old new p q T l r (part_passes part old p T.old_ranks T.old_valid l e) epoch
 
--- how many records a message in layout has
-answer_read : (m : List ℕ) (b : Begun) → begun_seen b ≡ begin_of m → in_layout m ≡ true → b.answer ≡ record { refusal = 0; length = message_trees m + message_ghosts m }
-unfolding begin_of reading_of message_refusal length_answer first_failed
-answer_read m b begun laid = ap (λ (x : Length × (List ℕ × ℕ)). x.0) begun ∙ rw (laid, count_all m (layout_size m laid))
+-- a message in layout, read to its end
+read_to_end : (m : List ℕ) (b : Begun) → begun_seen (Ok b) ≡ begin_of m → ReadToEnd m b
+read_to_end m b begun = record {
+  records = reads_records m b begun;
+  bytes = reads_bytes m b begun;
+  remain = reads_remains m b begun;
+  end = reads_end m b begun;
+}
 
 pub reads_messages : ReadsMessages
-reads_messages m b begun = (
-  (λ laid. (
-    answer_read m b begun laid,
-    record {
-      records = reads_records m b begun laid;
-      bytes = reads_bytes m b begun laid;
-      remain = reads_remains m b begun laid;
-      end = reads_end m b begun laid;
-    },
-  )),
-  (λ unlaid. (reads_refused m b begun unlaid, reads_nothing m b begun unlaid)),
+reads_messages = (
+  λ m r begun. (
+    (λ laid.
+        let o = reads_begin m r begun laid in
+        let made : begun_seen (Ok o.0) ≡ begin_of m = sym (ap begun_seen o.1) ∙ begun in
+        (o.0, o.1, reads_count m o.0 made ∙ count_all m (layout_size m laid), read_to_end m o.0 made)),
+    (λ unlaid. reads_refused m r begun unlaid),
+  ),
+  λ r none first. reads_nothing r none first,
 )
 
 pub tree_in_one : TreeOneMessage

@@ -25,8 +25,7 @@ use Rattle.refinement.specs.Calls.{leaves_answer, count_leaves}
 use Rattle.refinement_list.specs.Calls.{leaf_counts}
 use Rattle.ele_mesh.specs.Calls.{triangle_length, import_triangle}
 use Rattle.faults.specs.declared.answer.Fault.{Fault}
-use Rattle.faults.specs.declared.answer.Wrong.{Wrong}
-use Rattle.faults.specs.Answer.{wrong, is_fault, fault_at, first_fault}
+use Rattle.faults.specs.Answer.{Wrong, wrong, is_fault, fault_at, first_fault}
 use Rattle.faults.specs.Mesh.{tree_wrong}
 use Rattle.faults.specs.Calls.{fault_answer, mesh_fault_of}
 use Rattle.table_fault.specs.Table.{entry_wrong}
@@ -34,7 +33,6 @@ use Rattle.table_fault.specs.Calls.{table_fault_of}
 use Rattle.part.specs.Checks.{rank_checks}
 use Rattle.part_fault.specs.Wrong.{wrong_in}
 use Rattle.part_fault.specs.Calls.{part_headed, part_fault_of}
-use Rattle.headers.specs.Answer.{first_wrong}
 use Rattle.headers.specs.Fields.{part_fields, mesh_fields}
 use Rattle.headers.specs.Calls.{header_answer, part_header_of, mesh_header_of}
 use Rattle.headers.proofs.Theorems.{wrong_refuses}

@@ -27,7 +27,7 @@ use Rattle.restart.proofs.Checks.{PadKnown, pad_known}
 use Rattle.restart.proofs.Padding.{pads_tables}
 use Rattle.restart.proofs.Empty.{empty_parts}
 use Rattle.restart.proofs.Relabelling.{relabels_parts}
-use Rattle.restart.proofs.Writing.{part_words, relabelled_length}
+use Rattle.restart.proofs.Writing.{part_long, relabelled_length}
 use Rattle.restart.proofs.Accepted.{pair_accepted, relabel_accepted, empty_none, empty_accepted, padded_rank, padded_same, same_padded, padded_bytes}
 use Rattle.repartition.specs.Run.{Run, Setting}
 use Rattle.repartition.specs.Lists.{Call, AllBuilt, all_due}
@@ -67,7 +67,7 @@ module _ (mesh t : List ℕ) (p : ℕ) (o : List ℕ) (q : ℕ) (mesh_bytes : By
       ∙ ap (λ (object : List ℕ). write_answer (cond (leb (length (cut_part mesh t p)) (length out)) 0 22) object out) (relabels.cuts mesh)
 
   as_long : length (cut_part mesh t p) ≡ length (cut_part mesh o q)
-  as_long = sym (relabelled_length (cut_part mesh t p) o q (part_words (cut_part mesh t p) t p sound).long) ∙ ap length (relabels.cuts mesh)
+  as_long = sym (relabelled_length (cut_part mesh t p) o q (part_long (cut_part mesh t p) t p sound)) ∙ ap length (relabels.cuts mesh)
 
 module _ (mesh old new : List ℕ) (M rank epoch : ℕ) (R : Restartable mesh old new M rank epoch) where
   abbrev run : Run

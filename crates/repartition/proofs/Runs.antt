@@ -4,8 +4,8 @@ use native.Mathlib.Nat.{zero-add}
 use native.Mathlib.Omega.{arith}
 use mathlib.Core.Path.{◌≡◌, refl, sym, ap, ap₂, ◌∙◌}
 use mathlib.Core.Bool.{Bool, true, false, cond, ◌&&◌}
-use mathlib.Core.List.{List, [], ◌∷◌, ◌++◌, append_assoc}
-use lib.Dec.{leb, eqb}
+use mathlib.Core.List.{List, [], ◌∷◌, ◌++◌}
+use lib.Dec.{leb}
 use lib.ListN.{length, take, drop, length-append}
 use lib.Seq.{take_at, drop_at}
 use Rattle.encoding.specs.Answer.{written, count_answer}
@@ -24,8 +24,8 @@ use Rattle.deliver_all.specs.Messages.{front_length, messages_in, area_after_eac
 use Rattle.deliver_all.specs.Calls.{max_messages, deliver_all_refusal, deliver_all_count, deliver_all_area, deliver_all_of}
 use Rattle.deliver_all.proofs.Parting.{front_whole, messages_none, messages_step}
 use Rattle.repartition.specs.Run.{Run, Setting}
-use Rattle.repartition.specs.Lists.{Call, deliver, close, Answer, delivery, AllIn, Built, AllBuilt, message_of, opened, area_after, answer_of, area_after_all, answers_of, hears_all, nobody}
-use Rattle.repartition.specs.Demand.{Demand3, size, bytes_after, TwoLists}
+use Rattle.repartition.specs.Lists.{Call, deliver, close, Answer, delivery, AllIn, AllBuilt, message_of, opened, area_after, answer_of, area_after_all, answers_of, hears_all, nobody}
+use Rattle.repartition.specs.Demand.{size}
 use Rattle.repartition.specs.Runs.{ManyCall, one, all, end_to_end, PartedBack, deliveries_told, deliveries, named_by, made_by, named, made, messages_of, area_after_many, answers_of_many, area_after_manys, answers_of_manys, AsSingle, Demand3Runs}
 use Rattle.repartition.proofs.Canonical.{canonical}
 use Rattle.repartition.proofs.Receive.{InReceive, nobody_receive}

@@ -1,7 +1,7 @@
 -- Demand 2: it follows the published rule. One named proposition for each sentence, over the values in the calls' contracts.
 use Rattle.std.specs.Prelude.{ℕ, ◌+◌, ◌≤◌, ◌<◌, ◌≡◌, Bool, true, false, cond, ◌&&◌, ◌||◌, leb, ltb, length, get_or, drop}
 use mathlib.Core.List.{List, [], ◌++◌, flatten}
-use Rattle.encoding.specs.Answer.{length_refused, write_answer}
+use Rattle.encoding.specs.Answer.{write_answer}
 use Rattle.encoding.specs.Below.{member}
 use Rattle.encoding.specs.Pieces.{piece, Bytes}
 use Rattle.offsets.specs.Limits.{rank_count_ok, tree_count_ok}
@@ -12,7 +12,9 @@ use Rattle.offsets.specs.Calls.{table_refusal, table_range}
 use Rattle.offsets_write.specs.Calls.{each, write_table}
 use Rattle.leaves.specs.Promises.{LeafTables}
 use Rattle.pattern.specs.declared.Ranks.{Ranks}
-use Rattle.pattern.specs.declared.Sender.TheVariants.{Rank, Nobody}
+use Rattle.std.specs.Prelude.{Some, None, Ok, Err, Result}
+use Rattle.encoding.specs.declared.refusal.Refusal.{Refusal}
+use Rattle.encoding.specs.Refusals.{refusal_number}
 use Rattle.pattern.specs.Sender.{Tables, sender_to, sender_number, sends, sent_first, sent_count}
 use Rattle.pattern.specs.Sets.{sends_to, send_set, receive_set, smallest, largest, Ends}
 use Rattle.pattern.specs.Calls.{sender_of, trees_sent, send_set_of, receive_set_of}
@@ -35,6 +37,7 @@ use Rattle.message.specs.Calls.{build_message_of}
 use Rattle.message.specs.Reading.{record_count}
 use Rattle.message_reader.specs.Handing.{begin_of, begun_seen, next_of, handed, remains, reader_after, tree_records, ghost_records, down}
 use Rattle.message_reader.specs.declared.Begun.{Begun}
+use Rattle.message_reader.specs.declared.Reader.{Reader}
 use Rattle.repartition.specs.Run.{Run, Setting}
 use Rattle.repartition.specs.Lists.{tree_in, ghost_with, Built, message_of}
 
@@ -140,10 +143,10 @@ RangesAnswered =
 -- that is p exactly where p sends k to q, and −1 exactly where k isn't in f'(q)
 pub record SenderAnswered (old new : List ℕ) (k q : ℕ) : Type 0 where
   pub answer : sender_of old new k q ≡ record { refusal = 0; sender = sender_number (sender_to old new k q) }
-  pub if_sends : (p : ℕ) → sends old new p q k ≡ true → (sender_of old new k q).sender ≡ sender_number (Rank p)
-  pub only_sends : (p : ℕ) → (sender_of old new k q).sender ≡ sender_number (Rank p) → sends old new p q k ≡ true
-  pub if_outside : holds new q k ≡ false → (sender_of old new k q).sender ≡ sender_number Nobody
-  pub only_outside : (sender_of old new k q).sender ≡ sender_number Nobody → holds new q k ≡ false
+  pub if_sends : (p : ℕ) → sends old new p q k ≡ true → (sender_of old new k q).sender ≡ sender_number (Some p)
+  pub only_sends : (p : ℕ) → (sender_of old new k q).sender ≡ sender_number (Some p) → sends old new p q k ≡ true
+  pub if_outside : holds new q k ≡ false → (sender_of old new k q).sender ≡ sender_number None
+  pub only_outside : (sender_of old new k q).sender ≡ sender_number None → holds new q k ≡ false
 
 -- for a tree below K and a rank below P
 abbrev pub SendersAnswered : Type 0
@@ -225,12 +228,13 @@ pub record ReadToEnd (m : List ℕ) (b : Begun) : Type 0 where
   -- and behind the last come an empty piece and 0, however often it is asked
   pub end : next_of (reader_after (record_count m) b.reader) ≡ ([], (0, reader_after (record_count m) b.reader))
 
--- what the begin call gives: how many records there are and a reader over them; 11 out of layout, and a reader without records
+-- what the begin call gives: in layout how many records there are and a reader over them; out of layout 11 and no reader; and a reader over no byte hands out nothing
 abbrev pub ReadsMessages : Type 0
 ReadsMessages =
-    (m : List ℕ) (b : Begun) → begun_seen b ≡ begin_of m
-    → (in_layout m ≡ true → (b.answer ≡ record { refusal = 0; length = message_trees m + message_ghosts m }) × ReadToEnd m b)
-    × (in_layout m ≡ false → (b.answer ≡ length_refused 11) × (next_of b.reader ≡ ([], (0, b.reader))))
+    ((m : List ℕ) (r : Result Begun Refusal) → begun_seen r ≡ begin_of m
+    → (in_layout m ≡ true → (b : Begun) × (r ≡ Ok b) × (b.records ≡ message_trees m + message_ghosts m) × ReadToEnd m b)
+    × (in_layout m ≡ false → (e : Refusal) × (r ≡ Err e) × (refusal_number e ≡ 11)))
+    × ((r : Reader) → r.message.now ≡ [] → r.at ≡ 0 → next_of r ≡ ([], (0, r)))
 
 -- each tree of f'(q), and each ghost of q under f', is in exactly one message to q
 abbrev pub TreeOneMessage : Type 0

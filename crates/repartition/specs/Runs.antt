@@ -1,5 +1,5 @@
 -- Demand 3 for lists in which any run of deliveries is one deliver_all.
-use Rattle.std.specs.Prelude.{ℕ, ◌≤◌, ◌≡◌, Bool, true, cond, ◌&&◌, List, [], ◌∷◌, ◌++◌, leb, length, take}
+use Rattle.std.specs.Prelude.{ℕ, ◌≤◌, ◌≡◌, true, cond, ◌&&◌, List, [], ◌∷◌, ◌++◌, leb, length, take}
 use Rattle.message.specs.Layout.{in_layout}
 use Rattle.deliver_all.specs.Messages.{messages_in}
 use Rattle.deliver_all.specs.Calls.{max_messages, deliver_all_of}

@@ -35,11 +35,14 @@ ghost use Rattle.restart.specs.Calls.{pad_table, empty_part_of, relabel_part};
 use area_open::Progress;
 use build_all::Messages;
 use encoding::answer::{Count, Length};
+use encoding::refusal::number_of;
 use faults::answer::Fault;
 use headers::answer::WrongField;
 use lookup::Found;
 use offsets::Range;
 use part_neighbour::link::NeighbourAnswer;
+use pattern::holder::sender_answer;
+use pattern::set::ranks_answer;
 use pattern::{Ranks, SenderAnswer};
 use probes::Probe;
 use records::index::{GlobalIndex, LocalIndex};
@@ -57,21 +60,21 @@ pub extern "C" fn vejgodat_version() -> u32
 pub extern "C" fn vejgodat_check_table(table: &[u8]) -> u32
     ensures { result ≡ table_refusal table.now }
 {
-    offsets::check_table(table)
+    number_of(offsets::check_table(table))
 }
 
 #[unsafe(no_mangle)]
 pub extern "C" fn vejgodat_table_length(ranks: u32) -> Length
     ensures { result ≡ table_length_answer ranks }
 {
-    offsets_write::table_length(ranks)
+    Length::from(offsets_write::table_length(ranks))
 }
 
 #[unsafe(no_mangle)]
 pub extern "C" fn vejgodat_table_range(table: &[u8], rank: u32) -> Range
     ensures { result ≡ table_range table.now rank }
 {
-    offsets::table_range(table, rank)
+    Range::from(offsets::table_range(table, rank))
 }
 
 #[unsafe(no_mangle)]
@@ -83,14 +86,14 @@ pub extern "C" fn vejgodat_write_table(
 ) -> Length
     ensures { (result, out.new) ≡ write_table ranks first.now count.now out.old }
 {
-    offsets_write::write_table(ranks, first, count, out)
+    Length::from(offsets_write::write_table(ranks, first, count, out))
 }
 
 #[unsafe(no_mangle)]
 pub extern "C" fn vejgodat_table_from_leaves(ranks: u32, leaves: &[u32], out: &mut [u8]) -> Length
     ensures { (result, out.new) ≡ table_from_leaves ranks leaves.now out.old }
 {
-    leaves::table_from_leaves(ranks, leaves, out)
+    Length::from(leaves::table_from_leaves(ranks, leaves, out))
 }
 
 #[unsafe(no_mangle)]
@@ -102,28 +105,30 @@ pub extern "C" fn vejgodat_sender_of(
 ) -> SenderAnswer
     ensures { result ≡ sender_of old.now new.now tree receiver }
 {
-    pattern::sender_of(old, new, tree, receiver)
+    sender_answer(pattern::sender_of(old, new, tree, receiver))
 }
 
 #[unsafe(no_mangle)]
 pub extern "C" fn vejgodat_trees_sent(old: &[u8], new: &[u8], sender: u32, receiver: u32) -> Range
     ensures { result ≡ trees_sent old.now new.now sender receiver }
 {
-    pattern::trees_sent(old, new, sender, receiver)
+    Range::from(pattern::trees_sent(old, new, sender, receiver))
 }
 
 #[unsafe(no_mangle)]
 pub extern "C" fn vejgodat_send_set(old: &[u8], new: &[u8], rank: u32, out: &mut [u32]) -> Ranks
     ensures { (result, out.new) ≡ send_set_of old.now new.now rank out.old }
 {
-    pattern::send_set(old, new, rank, out)
+    let answer = pattern::send_set(old, new, rank, &mut *out);
+    ranks_answer(answer, out)
 }
 
 #[unsafe(no_mangle)]
 pub extern "C" fn vejgodat_receive_set(old: &[u8], new: &[u8], rank: u32, out: &mut [u32]) -> Ranks
     ensures { (result, out.new) ≡ receive_set_of old.now new.now rank out.old }
 {
-    pattern::receive_set(old, new, rank, out)
+    let answer = pattern::receive_set(old, new, rank, &mut *out);
+    ranks_answer(answer, out)
 }
 
 #[unsafe(no_mangle)]
@@ -137,14 +142,14 @@ pub extern "C" fn vejgodat_corners(shape: u32, face: u32) -> u32
 pub extern "C" fn vejgodat_check_mesh(mesh: &[u8]) -> u32
     ensures { result ≡ mesh_refusal mesh.now }
 {
-    mesh::check_mesh(mesh)
+    number_of(mesh::check_mesh(mesh))
 }
 
 #[unsafe(no_mangle)]
 pub extern "C" fn vejgodat_brick_length(a: u32, b: u32, c: u32) -> Length
     ensures { result ≡ brick_length_of a b c }
 {
-    brick::brick_length(a, b, c)
+    Length::from(brick::brick_length(a, b, c))
 }
 
 #[unsafe(no_mangle)]
@@ -159,28 +164,28 @@ pub extern "C" fn vejgodat_write_brick(
 ) -> Length
     ensures { (result, out.new) ≡ write_brick_of a b c p q r out.old }
 {
-    brick::write_brick(a, b, c, p, q, r, out)
+    Length::from(brick::write_brick(a, b, c, p, q, r, out))
 }
 
 #[unsafe(no_mangle)]
 pub extern "C" fn vejgodat_part_length(mesh: &[u8], table: &[u8], rank: u32) -> Length
     ensures { result ≡ part_length_of mesh.now table.now rank }
 {
-    part_cut::part_length(mesh, table, rank)
+    Length::from(part_cut::part_length(mesh, table, rank))
 }
 
 #[unsafe(no_mangle)]
 pub extern "C" fn vejgodat_cut_part(mesh: &[u8], table: &[u8], rank: u32, out: &mut [u8]) -> Length
     ensures { (result, out.new) ≡ cut_part_of mesh.now table.now rank out.old }
 {
-    part_cut::cut_part(mesh, table, rank, out)
+    Length::from(part_cut::cut_part(mesh, table, rank, out))
 }
 
 #[unsafe(no_mangle)]
 pub extern "C" fn vejgodat_check_part(part: &[u8], table: &[u8], rank: u32) -> u32
     ensures { result ≡ part_refusal part.now table.now rank }
 {
-    part_check::check_part(part, table, rank)
+    number_of(part_check::check_part(part, table, rank))
 }
 
 #[unsafe(no_mangle)]
@@ -193,27 +198,21 @@ pub extern "C" fn vejgodat_neighbour_of(
 ) -> NeighbourAnswer
     ensures { result ≡ flat_answer (neighbour_answer part.now table.now rank local face) }
 {
-    part_neighbour::link::flat(part_neighbour::neighbour_of(
-        part,
-        table,
-        rank,
-        LocalIndex(local),
-        face,
-    ))
+    NeighbourAnswer::from(part_neighbour::neighbour_of(part, table, rank, LocalIndex(local), face))
 }
 
 #[unsafe(no_mangle)]
 pub extern "C" fn vejgodat_lookup(trees: &[u8], ghosts: &[u8], number: u32) -> Found
     ensures { result ≡ found_record trees.now ghosts.now number }
 {
-    lookup::find_record(trees, ghosts, GlobalIndex(number))
+    Found::from(lookup::find_record(trees, ghosts, GlobalIndex(number)))
 }
 
 #[unsafe(no_mangle)]
 pub extern "C" fn vejgodat_check_message(message: &[u8]) -> u32
     ensures { result ≡ message_refusal message.now }
 {
-    message::check_message(message)
+    number_of(message::check_message(message))
 }
 
 #[unsafe(no_mangle)]
@@ -226,7 +225,7 @@ pub extern "C" fn vejgodat_message_length(
 ) -> Length
     ensures { result ≡ message_length_of part.now old.now new.now sender receiver }
 {
-    message_build::message_length(part, old, new, sender, receiver)
+    Length::from(message_build::message_length(part, old, new, sender, receiver))
 }
 
 #[unsafe(no_mangle)]
@@ -241,7 +240,7 @@ pub extern "C" fn vejgodat_build_message(
 ) -> Length
     ensures { (result, out.new) ≡ build_message_of part.now old.now new.now sender receiver epoch out.old }
 {
-    message_build::build_message(part, old, new, sender, receiver, epoch, out)
+    Length::from(message_build::build_message(part, old, new, sender, receiver, epoch, out))
 }
 
 #[unsafe(no_mangle)]
@@ -253,7 +252,7 @@ pub extern "C" fn vejgodat_build_all_length(
 ) -> Messages
     ensures { result ≡ build_all_length_of part.now old.now new.now sender }
 {
-    build_all::build_all_length(part, old, new, sender)
+    Messages::from(build_all::build_all_length(part, old, new, sender))
 }
 
 #[unsafe(no_mangle)]
@@ -267,14 +266,14 @@ pub extern "C" fn vejgodat_build_all(
 ) -> Messages
     ensures { (result, out.new) ≡ build_all_of part.now old.now new.now sender epoch out.old }
 {
-    build_all::build_all(part, old, new, sender, epoch, out)
+    Messages::from(build_all::build_all(part, old, new, sender, epoch, out))
 }
 
 #[unsafe(no_mangle)]
 pub extern "C" fn vejgodat_area_length(old: &[u8], new: &[u8], rank: u32, dimension: u32) -> Length
     ensures { result ≡ area_length_of old.now new.now rank dimension }
 {
-    area_open::area_length(old, new, rank, dimension)
+    Length::from(area_open::area_length(old, new, rank, dimension))
 }
 
 #[unsafe(no_mangle)]
@@ -288,14 +287,14 @@ pub extern "C" fn vejgodat_open_area(
 ) -> Length
     ensures { (result, out.new) ≡ open_area_of old.now new.now rank dimension epoch out.old }
 {
-    area_open::open_area(old, new, rank, dimension, epoch, out)
+    Length::from(area_open::open_area(old, new, rank, dimension, epoch, out))
 }
 
 #[unsafe(no_mangle)]
 pub extern "C" fn vejgodat_deliver(area: &mut [u8], message: &[u8]) -> u32
     ensures { (result, area.new) ≡ deliver_of area.old message.now }
 {
-    deliver::deliver(area, message)
+    number_of(deliver::deliver(area, message))
 }
 
 #[unsafe(no_mangle)]
@@ -306,35 +305,35 @@ pub extern "C" fn vejgodat_deliver_all(
 ) -> Count
     ensures { (result, (area.new, answers.new)) ≡ deliver_all_of area.old messages.now answers.old }
 {
-    deliver_all::deliver_all(area, messages, answers)
+    Count::from(deliver_all::deliver_all(area, messages, answers))
 }
 
 #[unsafe(no_mangle)]
 pub extern "C" fn vejgodat_progress_of(area: &[u8]) -> Progress
     ensures { result ≡ progress_of area.now }
 {
-    area_open::progress_of(area)
+    Progress::from(area_open::progress_of(area))
 }
 
 #[unsafe(no_mangle)]
 pub extern "C" fn vejgodat_part_of_area_length(area: &[u8]) -> Length
     ensures { result ≡ close_length_of area.now }
 {
-    close::part_of_area_length(area)
+    Length::from(close::part_of_area_length(area))
 }
 
 #[unsafe(no_mangle)]
 pub extern "C" fn vejgodat_close_area(area: &[u8], out: &mut [u8]) -> Length
     ensures { (result, out.new) ≡ close_of area.now out.old }
 {
-    close::close_area(area, out)
+    Length::from(close::close_area(area, out))
 }
 
 #[unsafe(no_mangle)]
 pub extern "C" fn vejgodat_count_leaves(shape: u32, bits: &[u8]) -> Leaves
     ensures { result ≡ count_leaves shape bits.now }
 {
-    refinement::count_leaves(shape, bits)
+    Leaves::from(refinement::count_leaves(shape, bits))
 }
 
 #[unsafe(no_mangle)]
@@ -346,7 +345,7 @@ pub extern "C" fn vejgodat_leaf_counts(
 ) -> Count
     ensures { (result, out.new) ≡ leaf_counts shapes.now lengths.now bits.now out.old }
 {
-    refinement_list::leaf_counts(shapes, lengths, bits, out)
+    Count::from(refinement_list::leaf_counts(shapes, lengths, bits, out))
 }
 
 #[unsafe(no_mangle)]
@@ -358,7 +357,7 @@ pub extern "C" fn vejgodat_region_counts(
 ) -> u32
     ensures { (result, out.new) ≡ region_counts_of part.now table.now rank out.old }
 {
-    regions::region_counts(part, table, rank, out)
+    number_of(regions::region_counts(part, table, rank, out))
 }
 
 #[unsafe(no_mangle)]
@@ -370,7 +369,7 @@ pub extern "C" fn vejgodat_part_to_columns(
 ) -> Length
     ensures { (result, out.new) ≡ part_to_columns part.now table.now rank out.old }
 {
-    columns::part_to_columns(part, table, rank, out)
+    Length::from(columns::part_to_columns(part, table, rank, out))
 }
 
 #[unsafe(no_mangle)]
@@ -382,14 +381,14 @@ pub extern "C" fn vejgodat_columns_to_part(
 ) -> Length
     ensures { (result, out.new) ≡ columns_to_part columns.now table.now rank out.old }
 {
-    columns::columns_to_part(columns, table, rank, out)
+    Length::from(columns::columns_to_part(columns, table, rank, out))
 }
 
 #[unsafe(no_mangle)]
 pub extern "C" fn vejgodat_pad_table(table: &[u8], ranks: u32, out: &mut [u8]) -> Length
     ensures { (result, out.new) ≡ pad_table table.now ranks out.old }
 {
-    restart::pad_table(table, ranks, out)
+    Length::from(restart::pad_table(table, ranks, out))
 }
 
 #[unsafe(no_mangle)]
@@ -401,7 +400,7 @@ pub extern "C" fn vejgodat_empty_part(
 ) -> Length
     ensures { (result, out.new) ≡ empty_part_of table.now rank dimension out.old }
 {
-    restart::empty_part(table, rank, dimension, out)
+    Length::from(restart::empty_part(table, rank, dimension, out))
 }
 
 #[unsafe(no_mangle)]
@@ -415,7 +414,7 @@ pub extern "C" fn vejgodat_relabel_part(
 ) -> Length
     ensures { (result, out.new) ≡ relabel_part part.now table.now rank other.now q out.old }
 {
-    restart::relabel_part(part, table, rank, other, q, out)
+    Length::from(restart::relabel_part(part, table, rank, other, q, out))
 }
 
 #[unsafe(no_mangle)]
@@ -426,7 +425,7 @@ pub extern "C" fn vejgodat_table_from_weights(
 ) -> Length
     ensures { (result, out.new) ≡ table_from_weights weights.now leaves.now out.old }
 {
-    leaves::table_from_weights(weights, leaves, out)
+    Length::from(leaves::table_from_weights(weights, leaves, out))
 }
 
 #[unsafe(no_mangle)]
@@ -438,7 +437,7 @@ pub extern "C" fn vejgodat_table_from_blocks(
 ) -> Length
     ensures { (result, out.new) ≡ table_from_blocks ranks leaves.now sums.now out.old }
 {
-    leaves::table_from_blocks(ranks, leaves, sums, out)
+    Length::from(leaves::table_from_blocks(ranks, leaves, sums, out))
 }
 
 #[unsafe(no_mangle)]
@@ -453,7 +452,7 @@ pub extern "C" fn vejgodat_trees_at_point(
 ) -> Count
     ensures { (result, out.new) ≡ trees_near part.now table.now rank (Probe.Point x y z) out.old }
 {
-    probes::trees_near(part, table, rank, Probe::Point(x, y, z), out)
+    Count::from(probes::trees_near(part, table, rank, Probe::Point(x, y, z), out))
 }
 
 #[unsafe(no_mangle)]
@@ -467,7 +466,7 @@ pub extern "C" fn vejgodat_trees_below(
 ) -> Count
     ensures { (result, out.new) ≡ trees_near part.now table.now rank (Probe.HalfSpace axis limit) out.old }
 {
-    probes::trees_near(part, table, rank, Probe::HalfSpace(axis, limit), out)
+    Count::from(probes::trees_near(part, table, rank, Probe::HalfSpace(axis, limit), out))
 }
 
 #[unsafe(no_mangle)]
@@ -482,54 +481,54 @@ pub extern "C" fn vejgodat_trees_between(
 ) -> Count
     ensures { (result, out.new) ≡ trees_near part.now table.now rank (Probe.Slab axis lower upper) out.old }
 {
-    probes::trees_near(part, table, rank, Probe::Slab(axis, lower, upper), out)
+    Count::from(probes::trees_near(part, table, rank, Probe::Slab(axis, lower, upper), out))
 }
 
 #[unsafe(no_mangle)]
 pub extern "C" fn vejgodat_table_fault(table: &[u8]) -> Fault
     ensures { result ≡ table_fault_of table.now }
 {
-    table_fault::table_fault(table)
+    Fault::from(table_fault::table_fault(table))
 }
 
 #[unsafe(no_mangle)]
 pub extern "C" fn vejgodat_mesh_fault(mesh: &[u8]) -> Fault
     ensures { result ≡ mesh_fault_of mesh.now }
 {
-    faults::mesh_fault(mesh)
+    Fault::from(faults::mesh_fault(mesh))
 }
 
 #[unsafe(no_mangle)]
 pub extern "C" fn vejgodat_part_fault(part: &[u8], table: &[u8], rank: u32) -> Fault
     ensures { result ≡ part_fault_of part.now table.now rank }
 {
-    part_fault::part_fault(part, table, rank)
+    Fault::from(part_fault::part_fault(part, table, rank))
 }
 
 #[unsafe(no_mangle)]
 pub extern "C" fn vejgodat_mesh_header(mesh: &[u8]) -> WrongField
     ensures { result ≡ mesh_header_of mesh.now }
 {
-    headers::mesh_header(mesh)
+    WrongField::from(headers::mesh_header(mesh))
 }
 
 #[unsafe(no_mangle)]
 pub extern "C" fn vejgodat_part_header(part: &[u8], table: &[u8], rank: u32) -> WrongField
     ensures { result ≡ part_header_of part.now table.now rank }
 {
-    headers::part_header(part, table, rank)
+    WrongField::from(headers::part_header(part, table, rank))
 }
 
 #[unsafe(no_mangle)]
 pub extern "C" fn vejgodat_triangle_length(text: &[u8]) -> Length
     ensures { result ≡ triangle_length text.now }
 {
-    ele_mesh::triangle_length(text)
+    Length::from(ele_mesh::triangle_length(text))
 }
 
 #[unsafe(no_mangle)]
 pub extern "C" fn vejgodat_import_triangle(text: &[u8], out: &mut [u8]) -> Length
     ensures { (result, out.new) ≡ import_triangle text.now out.old }
 {
-    ele_mesh::import_triangle(text, out)
+    Length::from(ele_mesh::import_triangle(text, out))
 }

@@ -1,44 +1,23 @@
-use Rattle.ele_mesh.proofs.Surveys.{import_refused, import_short, ready_drawn, import_written}
-use lib.Seq.{length-take-le}
-use mathlib.Core.Path.{sym}
+use Prim.Native.Nat.{ℕ}
+use lib.ListN.{length-replicate}
+use Rattle.std.proofs.lemmas.Result.{err_from_is_err_and}
 use native.Mathlib.Omega.{arith}
-use borrow.Author.Rules.{rules}
+use Rattle.ele_mesh.proofs.Surveys.{import_fails, import_short, ready_drawn, import_written}
 use Rattle.ele_mesh.proofs.import_triangle.Goals as goal
 
-pub survey-s-requires : goal.survey-s-requires
-survey-s-requires c =
-    let at-faces = c.faces-vertices in
-    let heads = c.heads-heads in
-    let faces2 = c.faces-links in
-    (omega (arith, at-faces.ensures), record { hashed = omega (arith, heads.ensures); faces = omega (arith, faces2.ensures) })
+pub survey-requires : goal.survey-requires
+survey-requires c = (omega (arith, length-replicate {A = ℕ} 196608 0), record { hashed = omega (arith, length-replicate {A = ℕ} 65521 0); faces = omega (arith, length-replicate {A = ℕ} 196608 0) })
 
-pub returns-then-s-ne0 : goal.returns-then-s-ne0
-returns-then-s-ne0 c = import_refused _ _ _ _ _ c.survey-s.ensures _ c.if-s-ne0.true c.refused.ensures
+pub returns-in_err-s : goal.returns-in_err-s
+returns-in_err-s c =
+    let p = err_from_is_err_and c.from_residual.result c.from_residual.ensures.1 in
+    rw (p.1, p.2) (import_fails _ _ c.in_err-s.ensures _)
 
 pub returns-then-out-n : goal.returns-then-out-n
-returns-then-out-n c =
-    let survey = c.survey-s in
-    let if1 = c.if-s-ne0 in
-    let if2 = c.if-out-n in
-    import_short _ _ _ _ _ survey.ensures if1.false _ if2.true c.refused-then-out-n.ensures
-
-pub slice_bounds-write-end : goal.slice_bounds-write-end
-slice_bounds-write-end c =
-    let survey = c.survey-s in
-    let faces = c.faces-vertices in
-    sym (length-take-le _ _ (omega (arith, survey.ensures.within, faces.ensures)))
+returns-then-out-n c = import_short _ _ _ _ _ c.in_ok-s.ensures _ c.if-out-n.true
 
 pub write-requires : goal.write-requires
-write-requires c =
-    let survey = c.survey-s in
-    let if1 = c.if-s-ne0 in
-    let if2 = c.if-out-n in
-    (ready_drawn _ _ _ _ _ survey.ensures if1.false, omega (arith, if2.false))
+write-requires c = (ready_drawn _ _ _ _ _ c.in_ok-s.ensures, omega (arith, c.if-out-n.false))
 
 pub returns : goal.returns
-returns c =
-    let survey = c.survey-s in
-    let if1 = c.if-s-ne0 in
-    let if2 = c.if-out-n in
-    let write = c.write in
-    import_written _ _ _ _ _ survey.ensures if1.false _ _ if2.false write.ensures
+returns c = import_written _ _ _ _ _ c.in_ok-s.ensures _ _ c.if-out-n.false c.write.ensures

@@ -1,17 +1,17 @@
-use Rattle.ele_mesh.proofs.Surveys.{length_refused_lem, length_given}
+use Prim.Native.Nat.{ℕ}
+use lib.ListN.{length-replicate}
+use Rattle.std.proofs.lemmas.Result.{err_from_is_err_and}
 use native.Mathlib.Omega.{arith}
-use borrow.Author.Rules.{rules}
+use Rattle.ele_mesh.proofs.Surveys.{length_fails, length_given}
 use Rattle.ele_mesh.proofs.triangle_length.Goals as goal
 
-pub survey-s-requires : goal.survey-s-requires
-survey-s-requires c =
-    let at-faces = c.faces-vertices in
-    let heads = c.heads-heads in
-    let faces2 = c.faces-links in
-    (omega (arith, at-faces.ensures), record { hashed = omega (arith, heads.ensures); faces = omega (arith, faces2.ensures) })
+pub survey-requires : goal.survey-requires
+survey-requires c = (omega (arith, length-replicate {A = ℕ} 196608 0), record { hashed = omega (arith, length-replicate {A = ℕ} 65521 0); faces = omega (arith, length-replicate {A = ℕ} 196608 0) })
 
-pub returns-then-s-ne0 : goal.returns-then-s-ne0
-returns-then-s-ne0 c = length_refused_lem _ _ _ _ _ c.survey-s.ensures c.if-s-ne0.true c.refused.ensures
+pub returns-in_err-s : goal.returns-in_err-s
+returns-in_err-s c =
+    let p = err_from_is_err_and c.from_residual.result c.from_residual.ensures.1 in
+    rw (p.1, p.2) (length_fails _ _ c.in_err-s.ensures)
 
 pub returns : goal.returns
-returns c = length_given _ _ _ _ _ c.survey-s.ensures c.if-s-ne0.false
+returns c = length_given _ _ _ _ _ c.in_ok-s.ensures

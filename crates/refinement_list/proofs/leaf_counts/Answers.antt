@@ -1,115 +1,49 @@
+use Rattle.std.proofs.lemmas.Result.{err_from_is_err_and}
 use mathlib.Core.Path.{sym, ◌∙◌}
 use native.Mathlib.Omega.{arith}
-use borrow.Author.Tests.{not-true, not-false}
 use Rattle.refinement_list.specs.Calls.{trees_ok}
-use Rattle.refinement_list.proofs.Lists.{refused_trees, refused_shapes, refused_strings, refused_counts, refused_room, all_counted, seen_ready, trees_same, trees_few}
+use Rattle.refinement_list.proofs.Lists.{refused_trees, refused_shapes, refused_strings, refused_room, all_counted, strings_ready, trees_same, trees_few}
 use Rattle.refinement_list.proofs.leaf_counts.Goals as goal
 
 pub returns-then-not-trees_ok : goal.returns-then-not-trees_ok
 unfolding trees_ok
-returns-then-not-trees_ok c =
-    let args = c.args in
-    let trees_ok_call = c.trees_ok in
-    let if1 = c.if-not-trees_ok in
-    refused_trees args.shapes.now args.lengths.now args.bits.now args.out.now c.count_refused.result c.count_refused.ensures (sym trees_ok_call.ensures ∙ if1.true)
+returns-then-not-trees_ok c = refused_trees _ c.args.lengths.now _ _ (sym c.trees_ok.ensures ∙ c.if-not-trees_ok.true)
 
 pub returns-then-not-shapes_ok : goal.returns-then-not-shapes_ok
 unfolding trees_ok
 returns-then-not-shapes_ok c =
-    let args = c.args in
-    let trees_ok_call = c.trees_ok in
-    let if1 = c.if-not-trees_ok in
-    let shapes-ok = c.shapes_ok in
-    let if2 = c.if-not-shapes_ok in
-    refused_shapes args.shapes.now args.lengths.now args.bits.now args.out.now c.count_refused-then-not-shapes_ok.result c.count_refused-then-not-shapes_ok.ensures (sym trees_ok_call.ensures ∙ if1.false) (sym shapes-ok.ensures ∙ if2.true)
+    refused_shapes _ c.args.lengths.now _ _ (sym c.trees_ok.ensures ∙ c.if-not-trees_ok.false) (sym c.shapes_ok.ensures ∙ c.if-not-shapes_ok.true)
 
-pub survey-seen-requires : goal.survey-seen-requires
+pub check_strings-requires : goal.check_strings-requires
 unfolding trees_ok
-survey-seen-requires c =
-    let args = c.args in
-    let trees_ok_call = c.trees_ok in
-    let if1 = c.if-not-trees_ok in
-    trees_same args.shapes.now args.lengths.now args.bits.now (sym trees_ok_call.ensures ∙ if1.false)
+check_strings-requires c = trees_same _ c.args.lengths.now c.args.bits.now (sym c.trees_ok.ensures ∙ c.if-not-trees_ok.false)
 
-pub returns-then-not-seen : goal.returns-then-not-seen
+pub returns-in_err-check_strings : goal.returns-in_err-check_strings
 unfolding trees_ok
-returns-then-not-seen c =
-    let args = c.args in
-    let trees_ok_call = c.trees_ok in
-    let if1 = c.if-not-trees_ok in
-    let shapes-ok = c.shapes_ok in
-    let if2 = c.if-not-shapes_ok in
-    let survey = c.survey-seen in
-    let if3 = c.if-not-seen in
-    refused_strings args.shapes.now args.lengths.now args.bits.now args.out.now c.count_refused-then-not-seen.result c.count_refused-then-not-seen.ensures
-    (sym trees_ok_call.ensures ∙ if1.false) (sym shapes-ok.ensures ∙ if2.false) survey.result survey.ensures (not-true _ if3.true)
-
-pub returns-then-not-seen-2 : goal.returns-then-not-seen-2
-unfolding trees_ok
-returns-then-not-seen-2 c =
-    let args = c.args in
-    let trees_ok_call = c.trees_ok in
-    let if1 = c.if-not-trees_ok in
-    let shapes-ok = c.shapes_ok in
-    let if2 = c.if-not-shapes_ok in
-    let survey = c.survey-seen in
-    let if3 = c.if-not-seen in
-    let if4 = c.if-not-seen-2 in
-    refused_counts args.shapes.now args.lengths.now args.bits.now args.out.now c.count_refused-then-not-seen-2.result c.count_refused-then-not-seen-2.ensures
-    (sym trees_ok_call.ensures ∙ if1.false) (sym shapes-ok.ensures ∙ if2.false) survey.result survey.ensures (not-false _ if3.false)
-    (not-true _ if4.true)
+returns-in_err-check_strings c =
+    let p = err_from_is_err_and c.from_residual.result c.from_residual.ensures.1 in
+    rw (p.1, p.2)
+    (refused_strings _ _ _ _ (sym c.trees_ok.ensures ∙ c.if-not-trees_ok.false) (sym c.shapes_ok.ensures ∙ c.if-not-shapes_ok.false) _ c.in_err-check_strings.ensures)
 
 pub returns-then-out-shapes : goal.returns-then-out-shapes
 unfolding trees_ok
 returns-then-out-shapes c =
-    let args = c.args in
-    let trees_ok_call = c.trees_ok in
-    let if1 = c.if-not-trees_ok in
-    let shapes-ok = c.shapes_ok in
-    let if2 = c.if-not-shapes_ok in
-    let survey = c.survey-seen in
-    let if3 = c.if-not-seen in
-    let if4 = c.if-not-seen-2 in
-    let if5 = c.if-out-shapes in
-    refused_room args.shapes.now args.lengths.now args.bits.now args.out.now c.count_refused-then-out-shapes.result c.count_refused-then-out-shapes.ensures
-    (sym trees_ok_call.ensures ∙ if1.false) (sym shapes-ok.ensures ∙ if2.false) survey.result survey.ensures (not-false _ if3.false)
-    (not-false _ if4.false) if5.true
+    let trees = sym c.trees_ok.ensures ∙ c.if-not-trees_ok.false in
+    refused_room _ _ _ _ trees (sym c.shapes_ok.ensures ∙ c.if-not-shapes_ok.false) (strings_ready _ _ _ trees c.in_ok-check_strings.ensures) c.if-out-shapes.true
 
 pub write-requires : goal.write-requires
 unfolding trees_ok
-write-requires c =
-    let args = c.args in
-    let trees_ok_call = c.trees_ok in
-    let if1 = c.if-not-trees_ok in
-    let survey = c.survey-seen in
-    let if3 = c.if-not-seen in
-    let if4 = c.if-not-seen-2 in
-    let if5 = c.if-out-shapes in
-    record {
-      walkable = seen_ready args.shapes.now args.lengths.now args.bits.now (sym trees_ok_call.ensures ∙ if1.false) survey.result survey.ensures (not-false _ if3.false) (not-false _ if4.false);
-      shapes_in_bounds = if5.false;
-    }
+write-requires c = record {
+  walkable = strings_ready _ _ _ (sym c.trees_ok.ensures ∙ c.if-not-trees_ok.false) c.in_ok-check_strings.ensures;
+  shapes_in_bounds = c.if-out-shapes.false;
+}
 
 pub overflow_cast-result : goal.overflow_cast-result
 unfolding trees_ok
-overflow_cast-result c =
-    let args = c.args in
-    let trees_ok_call = c.trees_ok in
-    let if1 = c.if-not-trees_ok in
-    omega (arith, trees_few args.shapes.now args.lengths.now args.bits.now (sym trees_ok_call.ensures ∙ if1.false))
+overflow_cast-result c = omega (arith, trees_few _ c.args.lengths.now c.args.bits.now (sym c.trees_ok.ensures ∙ c.if-not-trees_ok.false))
 
 pub returns : goal.returns
 unfolding trees_ok
 returns c =
-    let args = c.args in
-    let write = c.write in
-    let trees_ok_call = c.trees_ok in
-    let if1 = c.if-not-trees_ok in
-    let shapes-ok = c.shapes_ok in
-    let if2 = c.if-not-shapes_ok in
-    let survey = c.survey-seen in
-    let if3 = c.if-not-seen in
-    let if4 = c.if-not-seen-2 in
-    let if5 = c.if-out-shapes in
-    all_counted args.shapes.now args.lengths.now args.bits.now args.out.now _ write.ensures (sym trees_ok_call.ensures ∙ if1.false)
-    (sym shapes-ok.ensures ∙ if2.false) survey.result survey.ensures (not-false _ if3.false) (not-false _ if4.false) if5.false
+    let trees = sym c.trees_ok.ensures ∙ c.if-not-trees_ok.false in
+    all_counted _ _ _ _ trees (sym c.shapes_ok.ensures ∙ c.if-not-shapes_ok.false) (strings_ready _ _ _ trees c.in_ok-check_strings.ensures) c.write.ensures c.if-out-shapes.false

@@ -1,5 +1,4 @@
 use Rattle.brick.specs.Calls.{extents_ok}
-use borrow.Author.Rules.{rules}
 use Rattle.brick.proofs.extents.extents_ok.Goals as goal
 
 pub returns : goal.returns

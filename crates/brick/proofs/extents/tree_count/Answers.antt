@@ -1,6 +1,5 @@
 use Rattle.brick.proofs.Sound.{within}
 use native.Mathlib.Omega.{arith}
-use borrow.Author.Rules.{rules}
 use Rattle.brick.proofs.extents.tree_count.Goals as goal
 
 pub overflow_mul-result : goal.overflow_mul-result

@@ -2,7 +2,6 @@ use Rattle.brick.proofs.Rows.{stride_fits, span_fits, span_below}
 use Rattle.brick.specs.Means.{high_row}
 use borrow.Author.Tests.{eq-eqb, ne_eqb}
 use native.Mathlib.Omega.{arith}
-use borrow.Author.Rules.{rules}
 use Rattle.brick.proofs.trees.high.Goals as goal
 
 pub overflow_add-result : goal.overflow_add-result

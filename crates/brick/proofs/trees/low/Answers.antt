@@ -2,7 +2,6 @@ use Rattle.brick.proofs.Rows.{step_below, span_fits}
 use Rattle.brick.specs.Means.{low_row}
 use borrow.Author.Tests.{eq-eqb, ne_eqb}
 use native.Mathlib.Omega.{arith}
-use borrow.Author.Rules.{rules}
 use Rattle.brick.proofs.trees.low.Goals as goal
 
 pub overflow_sub-result : goal.overflow_sub-result

@@ -1,6 +1,5 @@
 use Rattle.brick.proofs.Rows.{third_most, next_third}
 use native.Mathlib.Omega.{arith}
-use borrow.Author.Rules.{rules}
 use Rattle.brick.proofs.trees.next.Goals as goal
 
 pub overflow_add-result-2 : goal.overflow_add-result-2

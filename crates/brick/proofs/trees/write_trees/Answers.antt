@@ -1,9 +1,7 @@
 use lib.Dec.{lit≤}
-use Rattle.brick.proofs.Turns.{Turn, turn_start, turn_few, turn_first, turn_second, turn_third, turn_rows, turn_room, turn_next, turn_same, turn_done}
+use Rattle.brick.proofs.Turns.{turn_start, turn_few, turn_first, turn_second, turn_third, turn_rows, turn_room, turn_next, turn_same, turn_done}
 use Rattle.brick.proofs.Sound.{within}
 use native.Mathlib.Omega.{arith}
-use Prim.Native.Nat.{◌-◌}
-use borrow.Author.Rules.{rules}
 use Rattle.brick.proofs.trees.write_trees.Goals as goal
 
 pub overflow_mul-layer : goal.overflow_mul-layer
@@ -54,15 +52,6 @@ next-at-requires c =
     let loop = c.loop-k in
     let loop-test = c.loop-k-test in
     (loop.invariant.stands, turn_few loop.invariant loop-test.true)
-
-pub overflow_add-k : goal.overflow_add-k
-overflow_add-k c =
-    let loop = c.loop-k in
-    let loop-test = c.loop-k-test in
-    omega (arith, turn_few loop.invariant loop-test.true)
-
-pub loop-k-smaller : goal.loop-k-smaller
-loop-k-smaller c = omega (arith, c.loop-k-test.true)
 
 pub loop-k-preserved : goal.loop-k-preserved
 loop-k-preserved c =

@@ -1,5 +1,4 @@
 use Rattle.ele_faces.proofs.Pairs.{first_one, first_zero}
-use borrow.Author.Rules.{rules}
 use Rattle.ele_faces.proofs.face.first_vertex.Goals as goal
 
 pub returns-then-f-eq0 : goal.returns-then-f-eq0

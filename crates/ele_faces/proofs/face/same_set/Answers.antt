@@ -1,5 +1,4 @@
 use Rattle.ele_faces.proofs.Pairs.{same_read}
-use borrow.Author.Rules.{rules}
 use Rattle.ele_faces.proofs.face.same_set.Goals as goal
 
 pub returns : goal.returns

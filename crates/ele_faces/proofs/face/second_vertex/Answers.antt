@@ -1,5 +1,4 @@
 use Rattle.ele_faces.proofs.Pairs.{second_one, second_two}
-use borrow.Author.Rules.{rules}
 use Rattle.ele_faces.proofs.face.second_vertex.Goals as goal
 
 pub returns-then-f-eq2 : goal.returns-then-f-eq2

@@ -1,5 +1,4 @@
 use Rattle.ele_faces.proofs.Pairs.{turn_none, turn_one}
-use borrow.Author.Rules.{rules}
 use Rattle.ele_faces.proofs.face.turn_of.Goals as goal
 
 pub returns-then-first_vertex : goal.returns-then-first_vertex

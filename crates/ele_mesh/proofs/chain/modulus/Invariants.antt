@@ -1,14 +1,8 @@
-use Rattle.ele_mesh.proofs.Chains.{trying}
 use Rattle.ele_mesh.specs.Means.{hashes, Modulus}
 use lib.ListN.{length}
-use Prim.Native.Nat.{◌-◌, ◌≤◌}
-use mathlib.Core.Path.{◌≡◌, refl, ◌∙◌}
-use native.Mathlib.Omega.{arith}
-use borrow.Author.Rules.{rules}
+use Prim.Native.Nat.{◌≤◌}
+use mathlib.Core.Path.{◌≡◌}
 use Rattle.ele_mesh.proofs.chain.modulus.Given as goal
 
 abbrev pub invariant-loop-j : goal.invariant-loop-j
-invariant-loop-j l = Modulus l.best × ((length l.heads ≡ length l.initial.heads) × ((hashes ≤ length l.heads) × (l.j ≤ 64)))
-
-abbrev pub decreases-loop-j : goal.decreases-loop-j
-decreases-loop-j l = 64 - l.j
+invariant-loop-j l = Modulus l.best × ((length l.heads ≡ length l.initial.heads) × (hashes ≤ length l.heads))

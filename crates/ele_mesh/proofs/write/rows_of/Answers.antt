@@ -1,5 +1,4 @@
 use Rattle.ele_mesh.proofs.Joins.{three_rows}
-use borrow.Author.Rules.{rules}
 use Rattle.ele_mesh.proofs.write.rows_of.Goals as goal
 
 pub returns : goal.returns

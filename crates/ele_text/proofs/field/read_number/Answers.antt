@@ -1,48 +1,46 @@
-use Rattle.ele_text.specs.Text.{is_digit}
-use lib.ListN.{length}
-use Prim.Native.Nat.{◌-◌}
+use mathlib.Core.Path.{◌≡◌, sym, refl, ◌∙◌}
+use mathlib.Core.Bool.{◌&&◌}
+use lib.Dec.{leb}
+use lib.ListN.{length, get_or}
 use native.Mathlib.Omega.{arith}
-use borrow.Author.Tests.{not-true, not-false}
-use mathlib.Core.Path.{sym, refl, ◌∙◌, ap}
-use Rattle.ele_text.proofs.Numbers.{Reading, reading_none, reading_small, reading_more, sized_most, digit_range, number_long, number_broken, number_done}
 use borrow.Author.Rules.{rules}
+use Rattle.ele_text.specs.Text.{is_digit}
+use Rattle.ele_text.proofs.Numbers.{reading_none, reading_small, reading_more, sized_most, digit_range, number_long, number_broken, number_done}
 use Rattle.ele_text.proofs.field.read_number.Goals as goal
 
-pub returns-then-not-s : goal.returns-then-not-s
-returns-then-not-s c = number_long _ c.if-not-s.true-raw
+pub returns-then-not-contains : goal.returns-then-not-contains
+returns-then-not-contains c =
+    let sized : c.contains.result ≡ (leb 1 (length c.args.s.now) && leb (length c.args.s.now) 8) = c.contains.ensures.value ∙ (search rules) in
+    number_long _ (sym sized ∙ c.if-not-contains.true)
 
-pub loop-i-init : goal.loop-i-init
-loop-i-init c = reading_none _
+pub loop-b-init : goal.loop-b-init
+loop-b-init c = reading_none _
 
-pub returns-then-not-is_digit : goal.returns-then-not-is_digit
-returns-then-not-is_digit c = number_broken _ _ c.loop-i-test.true (sym c.is_digit.ensures ∙ c.if-not-is_digit.true)
+pub returns-then-not-is_ascii_digit : goal.returns-then-not-is_ascii_digit
+unfolding is_digit
+returns-then-not-is_ascii_digit c = number_broken _ _ c.loop-b-test.true (sym c.is_ascii_digit.ensures.value ∙ c.if-not-is_ascii_digit.true)
 
 pub overflow_mul-v : goal.overflow_mul-v
 overflow_mul-v c =
-    let loop = c.loop-i in
-    let args = c.args in
-    let if1 = c.if-not-s in
-    omega (arith, reading_small _ _ _ loop.invariant (omega (arith, sized_most args.s.now if1.false-raw)))
+    let sized : c.contains.result ≡ (leb 1 (length c.args.s.now) && leb (length c.args.s.now) 8) = c.contains.ensures.value ∙ (search rules) in
+    omega (arith, reading_small _ _ _ c.loop-b.invariant (omega (arith, sized_most c.args.s.now (sym sized ∙ c.if-not-contains.false))))
 
 pub overflow_sub-v : goal.overflow_sub-v
-overflow_sub-v c = omega (arith, digit_range _ (sym c.is_digit.ensures ∙ c.if-not-is_digit.false))
+unfolding is_digit
+overflow_sub-v c = (digit_range _ (sym c.is_ascii_digit.ensures.value ∙ c.if-not-is_ascii_digit.false)).0
 
 pub overflow_add-v : goal.overflow_add-v
+unfolding is_digit
 overflow_add-v c =
-    let is_digit_call = c.is_digit in
-    let if2 = c.if-not-is_digit in
-    let loop = c.loop-i in
-    let args = c.args in
-    let if1 = c.if-not-s in
-    omega (arith, digit_range _ (sym is_digit_call.ensures ∙ if2.false), reading_small _ _ _ loop.invariant (omega (arith, sized_most args.s.now if1.false-raw)))
+    let sized : c.contains.result ≡ (leb 1 (length c.args.s.now) && leb (length c.args.s.now) 8) = c.contains.ensures.value ∙ (search rules) in
+    let digit = digit_range (get_or c.args.s.now c.loop-b.b-index 0) (sym c.is_ascii_digit.ensures.value ∙ c.if-not-is_ascii_digit.false) in
+    omega (arith, digit, reading_small _ _ _ c.loop-b.invariant (omega (arith, sized_most c.args.s.now (sym sized ∙ c.if-not-contains.false))))
 
-pub loop-i-preserved : goal.loop-i-preserved
-loop-i-preserved c =
-    let loop = c.loop-i in
-    let loop-test = c.loop-i-test in
-    let is_digit_call = c.is_digit in
-    let if2 = c.if-not-is_digit in
-    reading_more _ _ _ _ loop.invariant loop-test.true c.wide.ensures.0 (ap is_digit c.wide.ensures.0 ∙ (sym is_digit_call.ensures ∙ if2.false))
+pub loop-b-preserved : goal.loop-b-preserved
+unfolding is_digit
+loop-b-preserved c = reading_more _ _ _ _ c.loop-b.invariant c.loop-b-test.true refl (sym c.is_ascii_digit.ensures.value ∙ c.if-not-is_ascii_digit.false)
 
 pub returns : goal.returns
-returns c = number_done _ _ _ c.if-not-s.false-raw c.loop-i.invariant c.loop-i-test.false
+returns c =
+    let sized : c.contains.result ≡ (leb 1 (length c.args.s.now) && leb (length c.args.s.now) 8) = c.contains.ensures.value ∙ (search rules) in
+    number_done _ _ _ (sym sized ∙ c.if-not-contains.false) c.loop-b.invariant c.loop-b-test.false

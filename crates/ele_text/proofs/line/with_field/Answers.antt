@@ -1,25 +1,18 @@
-use lib.Dec.{ltb}
-use mathlib.Core.Bool.{◌&&◌}
-use Rattle.encoding.proofs.Below.{and_fst, and_snd}
-use borrow.Author.Tests.{ltb-true}
+use mathlib.Core.Path.{sym, ◌∙◌}
 use native.Mathlib.Omega.{arith}
-use Rattle.ele_text.proofs.Rows.{field_none, field_taken, field_refused, field_room}
-use borrow.Author.Rules.{rules}
+use borrow.Author.Tests.{eqb-true, eqb-false}
+use Rattle.ele_text.proofs.Rows.{field_none, field_over, field_refused, field_taken}
 use Rattle.ele_text.proofs.line.with_field.Goals as goal
 
-pub returns-then-s-eq0 : goal.returns-then-s-eq0
-returns-then-s-eq0 c = (field_none _ _ c.if-s-eq0.true, omega arith)
+pub returns-then-is_empty : goal.returns-then-is_empty
+returns-then-is_empty c = (field_none _ _ (eqb-true _ _ (sym c.is_empty.ensures ∙ c.if-is_empty.true)), c.requires)
 
-pub returns-then-r-n : goal.returns-then-r-n
-returns-then-r-n c =
-    let if1 = c.if-s-eq0 in
-    let read_number = c.read_number-n in
-    let if2 = c.if-r-n in
-    let args = c.args in
-    (field_taken _ _ if1.false read_number.ensures if2.true, omega (arith, field_room args.r args.s.now read_number.result.ok if2.true))
+pub returns-then-r-ge4 : goal.returns-then-r-ge4
+returns-then-r-ge4 c = (field_over _ _ (eqb-false _ _ (sym c.is_empty.ensures ∙ c.if-is_empty.false)) c.if-r-ge4.true, tt)
+
+pub returns-in_err-d : goal.returns-in_err-d
+returns-in_err-d c =
+    rw c.from_residual.ensures (field_refused _ _ (eqb-false _ _ (sym c.is_empty.ensures ∙ c.if-is_empty.false)) c.in_err-d.ensures, tt)
 
 pub returns : goal.returns
-returns c =
-    let if1 = c.if-s-eq0 in
-    let read_number = c.read_number-n in
-    (field_refused _ _ if1.false read_number.ensures c.if-r-n.false, omega arith)
+returns c = (field_taken _ _ (eqb-false _ _ (sym c.is_empty.ensures ∙ c.if-is_empty.false)) _ c.if-r-ge4.false c.in_ok-d.ensures, omega arith)

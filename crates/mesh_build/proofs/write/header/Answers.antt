@@ -1,7 +1,6 @@
 use Rattle.mesh_build.proofs.Writing.{header_written}
 use Rattle.encoding.specs.Numbers.{put_u32}
 use mathlib.Core.Path.{ap, ◌∙◌}
-use borrow.Author.Rules.{rules}
 use Rattle.mesh_build.proofs.write.header.Goals as goal
 
 pub returns : goal.returns

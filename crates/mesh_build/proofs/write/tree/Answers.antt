@@ -1,7 +1,6 @@
 use Rattle.mesh_build.proofs.Writing.{tree_stored_lem}
 use Rattle.records.specs.Shape.{faces_in}
 use mathlib.Core.Path.{ap, ◌∙◌}
-use borrow.Author.Rules.{rules}
 use Rattle.mesh_build.proofs.write.tree.Goals as goal
 
 pub codes-requires : goal.codes-requires

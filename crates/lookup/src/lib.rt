@@ -1,7 +1,7 @@
 // Finding a record by its global number.
 #![tactic(auto)]
 
-ghost use Rattle.std.specs.Prelude.{◌≡◌, true, false, ◌*◌, ◌/◌, ◌≤◌, ◌<◌, length, MatchOption};
+ghost use Rattle.std.specs.Prelude.{◌≡◌, true, false, ◌*◌, ◌/◌, ◌≤◌, ◌<◌, IfSome, length, MatchOption};
 ghost use Rattle.lookup.specs.Lookup.{found, first_place, lookup_record, found_record, found_of, bytes_of};
 
 use records::index::GlobalIndex;
@@ -69,7 +69,7 @@ pub fn find_record(trees: &[u8], ghosts: &[u8], number: GlobalIndex) -> Option<P
 
 // The record with the number, as a part of the lent bytes: the first, trees before ghosts.
 pub fn lookup<'a>(trees: &'a [u8], ghosts: &'a [u8], number: GlobalIndex) -> Option<&'a [u8]>
-    ensures { bytes_of result ≡ lookup_record trees.now ghosts.now number.0 }
+    ensures { (bytes_of result ≡ lookup_record trees.now ghosts.now number.0) × IfSome result (λ lent. 0 < length lent.now) }
 {
     match find_record(trees, ghosts, number)? {
         Place::Tree(at) => Some(&trees[at..at + 64]),

@@ -6,6 +6,7 @@ ghost use Rattle.area_open.specs.Means.{AreaRoom};
 
 use area::header::tree_count;
 use area::layout::{area_size, new_place, words_place};
+use encoding::bytes::copy_words;
 
 // Writes the fresh area: the header, both tables, and zeros to its end.
 pub fn write_fresh(old: &[u8], new: &[u8], rank: u32, dimension: u32, epoch: u32, out: &mut [u8])
@@ -22,7 +23,7 @@ pub fn write_fresh(old: &[u8], new: &[u8], rank: u32, dimension: u32, epoch: u32
         &mut *out,
         [epoch, dimension, trees, ranks as u32, rank, count, 0, 0],
     );
-    out[32..middle].copy_from_slice(old);
-    out[middle..from].copy_from_slice(new);
+    copy_words(&mut out[32..middle], old, ranks + 1);
+    copy_words(&mut out[middle..from], new, ranks + 1);
     out[from..to].fill(0);
 }

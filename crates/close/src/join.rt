@@ -19,8 +19,9 @@ fn write_ghosts(area: &[u8], from: usize, count: u32, out: &mut [u8], to: usize)
     requires { GhostsRoom area.now out.old from count to }
     ensures { out.new ≡ splice out.old to (piece area.now from (core_size * count)) }
 {
+    let words = 5 * (count as usize);
     let size = 40 * (count as usize);
-    out[to..to + size].copy_from_slice(&area[from..from + size]);
+    encoding::bytes::copy_words(&mut out[to..to + size], &area[from..from + size], words);
 }
 
 // Writes the joined part of a sound area, by the index of its ghosts.

@@ -9,6 +9,7 @@ ghost use Rattle.area.specs.Means.{from_place};
 ghost use Rattle.deliver.specs.Means.{Deliverable, Placed};
 
 use crate::merge::merge;
+use encoding::bytes::copy_words;
 use records::index::{GlobalIndex, to_local};
 
 // Where a delivery is written: the words of heard senders, the first slot of its trees, the ghost slots; and how many records.
@@ -72,7 +73,11 @@ pub fn write_delivery(area: &mut [u8], message: &[u8])
     let end = 32 + 64 * at.trees;
     let slots_end = at.slots + 64 * at.trees;
     set_heard(&mut *area, at.words, at.sender);
-    area[at.slots..slots_end].copy_from_slice(&message[32..end]);
+    copy_words(
+        &mut area[at.slots..slots_end],
+        &message[32..end],
+        8 * at.trees,
+    );
     merge(
         &mut *area,
         at.ghosts,

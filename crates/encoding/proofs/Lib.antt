@@ -3,5 +3,6 @@ pub mod Below
 pub mod Pieces
 pub mod Numbers
 pub mod Words
+pub mod Copying
 pub mod Headers
 pub mod Refusals

@@ -1,5 +1,5 @@
 // Little-endian numbers in lent bytes.
-ghost use Rattle.std.specs.Prelude.{◌≡◌, ◌+◌, ◌≤◌, length};
+ghost use Rattle.std.specs.Prelude.{◌≡◌, ◌+◌, ◌*◌, ◌≤◌, length};
 ghost use Rattle.encoding.specs.Numbers.{u32_at, u64_at, put_u32, put_u64};
 
 pub fn read_u32(bs: &[u8], at: usize) -> u32
@@ -35,4 +35,15 @@ pub fn write_u64(bs: &mut [u8], at: usize, v: u64)
 {
     write_u32(&mut *bs, at, (v % 4294967296) as u32);
     write_u32(&mut *bs, at + 4, (v / 4294967296) as u32);
+}
+
+// Copies so many words of 8 bytes. A loop, and not `copy_from_slice`: that calls `memmove`, which an archive for C would need from outside.
+pub fn copy_words(dst: &mut [u8], src: &[u8], words: usize)
+    requires { (length src.now ≡ 8 * words) × (length dst.old ≡ 8 * words) }
+    ensures { dst.new ≡ src.now }
+{
+    for i in 0..words {
+        let word = read_u64(src, 8 * i);
+        write_u64(&mut *dst, 8 * i, word);
+    }
 }

@@ -1,6 +1,6 @@
 -- What the calls write.
 use native.Mathlib.Numerals.{add-one}
-use Prim.Native.Nat.{min, ℕ, zero, suc, ◌+◌, ◌*◌, ◌≤◌}
+use Prim.Native.Nat.{min, ℕ, zero, suc, ◌+◌, ◌*◌, ◌/◌, ◌≤◌}
 use native.Mathlib.Omega.{arith}
 use mathlib.Core.Path.{◌≡◌, refl, sym, ap, ◌∙◌}
 use mathlib.Core.Bool.{true}
@@ -82,6 +82,14 @@ module _ (t : List ℕ) (p dimension : ℕ) where
   empty_written out k r f e = e ∙ rw (k, r, f)
 
 -- ---- a part under another table and rank
+
+-- a sound part is whole words
+pub record PartWords (part : List ℕ) : Type 0 where
+  pub whole : length part ≡ 8 * (length part / 8)
+  pub long : 32 ≤ length part
+
+pub part_words : (part t : List ℕ) (p : ℕ) → part_sound part t p ≡ true → PartWords part
+part_words part t p sound = record { whole = omega (arith, part_length part t p sound); long = omega (arith, part_length part t p sound) }
 
 pub part_long : (part t : List ℕ) (p : ℕ) → part_sound part t p ≡ true → 32 ≤ length part
 part_long part t p sound = omega (arith, part_length part t p sound)

@@ -53,7 +53,7 @@ pub fn relabel_part(
     if out.len() < part.len() {
         return Err(Refusal::Buffer);
     }
-    out[..part.len()].copy_from_slice(part);
+    encoding::bytes::copy_words(&mut out[..part.len()], part, part.len() / 8);
     encoding::bytes::write_u32(&mut *out, 8, offsets::table::ranks(other) as u32);
     encoding::bytes::write_u32(&mut *out, 12, q);
     Ok(part.len() as u64)

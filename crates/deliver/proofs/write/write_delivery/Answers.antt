@@ -17,4 +17,4 @@ write_u32-requires c = omega (arith, c.places-at.ensures.header_room)
 pub returns : goal.returns
 returns c =
     let fits = λ (i : ℕ). (c.slice_known-1.given i).fits in
-    delivery_done _ _ fits c.requires (ready _ _ fits c.requires) c.places-at.ensures c.set_heard.ensures c.copy_from_slice.ensures.after refl c.merge.ensures c.write_u32.ensures
+    delivery_done _ _ fits c.requires (ready _ _ fits c.requires) c.places-at.ensures c.set_heard.ensures c.copy_words.ensures refl c.merge.ensures c.write_u32.ensures

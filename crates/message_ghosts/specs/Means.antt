@@ -118,6 +118,18 @@ pub record Ranged (old new : List ℕ) (q low first end below kept until : ℕ) 
   pub receives : (k : ℕ) → in_range first end k ≡ holds new q k
   pub before : (k : ℕ) → (in_range first below k || in_range kept until k) ≡ sent_before old new q low k
 
+-- the number r of the first n trees from own on that come before b
+pub record BoundAt (own n b r : ℕ) : Type 0 where
+  pub few : r ≤ n
+  pub reached : (i : ℕ) → i < n → r ≤ i → b ≤ own + i
+  pub reaches : (i : ℕ) → i < n → b ≤ own + i → r ≤ i
+
+-- the two ranges in which the part's first n trees are those trees, by their local index
+pub record Localised (part old new : List ℕ) (q low n first below kept until : ℕ) : Type 0 where
+  pub below_forward : first ≤ below
+  pub kept_forward : kept ≤ until
+  pub before : (i : ℕ) → i < n → (in_range first below i || in_range kept until i) ≡ sent_before old new q low (number_in part n i)
+
 -- one of the first n face neighbours of g is such a tree
 unfoldable pub beside_before : List ℕ → List ℕ → List ℕ → ℕ → ℕ → ℕ → ℕ → Bool
 beside_before part old new q low g n = any_below n (λ f. sent_before old new q low (neighbour_of (part_core part g) f))

@@ -1,9 +1,10 @@
 -- Means, no part of what is promised: the same of the code's struct, the part, the tables, the ranks and the trees sent.
 use Rattle.std.specs.Prelude.{ℕ, Bool, List}
 use Rattle.encoding.specs.Pieces.{Bytes}
-use Rattle.message_ghosts.specs.Means.{SendingRange, Known, AtRecord, NearRoom, Ranged, Marks, goes, goes_from, goes_near, beside_before, sent_before}
+use Rattle.message_ghosts.specs.Means.{SendingRange, Known, AtRecord, NearRoom, Ranged, Localised, Marks, goes, goes_from, goes_near, beside_before, sent_before}
 use Rattle.message_ghosts.specs.declared.Sending.{Sending}
 use Rattle.message_ghosts.specs.declared.rule.Ranges.{Ranges}
+use Rattle.message_ghosts.specs.declared.rule.Locals.{Locals}
 
 module _ (s : Sending) where
   -- the trees are those that the sender sends, and the part has bytes
@@ -21,6 +22,9 @@ module _ (s : Sending) where
 
   abbrev pub RangesOf : Ranges → Type 0
   RangesOf r = Ranged s.old.now s.new.now s.receiver s.first r.first r.end r.below r.kept r.until
+
+  abbrev pub LocalsOf : ℕ → Locals → Type 0
+  LocalsOf count h = Localised s.part.now s.old.now s.new.now s.receiver s.first count h.first h.below h.kept h.until
 
   abbrev pub MarksOf : List ℕ → Type 0
   MarksOf marks = Marks s.part.now s.old.now s.new.now s.sender s.receiver marks

@@ -3,17 +3,24 @@ ghost use Rattle.std.specs.Prelude.{◌≡◌, ◌+◌, ◌*◌, ◌≤◌, ◌<
 ghost use Rattle.positions.specs.Means.{Added};
 ghost use Rattle.part.specs.Part.{part_count, part_ghost_count};
 ghost use Rattle.message_ghosts.specs.Means.{Room, Near, Empty, mark_words};
-ghost use Rattle.message_ghosts.specs.MeansSent.{Sends, KnownPart, RangesOf, MarksOf, near_going, trees_going};
+ghost use Rattle.message_ghosts.specs.MeansSent.{Sends, KnownPart, RangesOf, LocalsOf, MarksOf, near_going, trees_going};
 
 use crate::Sending;
 use crate::near::add_near;
 use crate::read::number_at;
-use crate::rule::{Ranges, goes, ranges_of};
+use crate::rule::{Locals, Ranges, goes, locals_of, ranges_of};
 use records::index::{GlobalIndex, LocalIndex, to_local};
 
 // Marks those of a set of local indices that go, each asked once and in the order of their records.
-fn mark_near(sending: Sending<'_>, count: u32, of: Ranges, near: &[u64], marks: &mut [u64])
-    requires { KnownPart sending count × Near sending.part.now count near.now × Room sending.old.now marks.old × RangesOf sending of }
+fn mark_near(
+    sending: Sending<'_>,
+    count: u32,
+    of: Ranges,
+    here: Locals,
+    near: &[u64],
+    marks: &mut [u64],
+)
+    requires { KnownPart sending count × Near sending.part.now count near.now × Room sending.old.now marks.old × RangesOf sending of × LocalsOf sending count here }
     ensures { Added marks.old (near_going sending.entry count near.now (64 * length near.now)) marks.new }
 {
     let end = 64 * (near.len() as u32);
@@ -23,7 +30,7 @@ fn mark_near(sending: Sending<'_>, count: u32, of: Ranges, near: &[u64], marks: 
         let i = j;
         let k = number_at(sending.part, count, LocalIndex(i)).0;
         j = bits::set::next_member(near, i + 1);
-        if goes(sending, count, of, LocalIndex(i), GlobalIndex(k)) {
+        if goes(sending, count, of, here, LocalIndex(i), GlobalIndex(k)) {
             bits::set::add_member(&mut *marks, k);
         }
     }
@@ -39,7 +46,8 @@ fn mark_by(sending: Sending<'_>, near: &mut [u64], marks: &mut [u64])
     let start = to_local(GlobalIndex(sending.first), own).0;
     add_near(sending, count, start, start + sending.count, &mut *near);
     let of = ranges_of(sending);
-    mark_near(sending, count, of, &*near, &mut *marks);
+    let here = locals_of(sending, own, count, of);
+    mark_near(sending, count, of, here, &*near, &mut *marks);
 }
 
 // The same, with words for so many records, no more than `WORDS`.

@@ -35,6 +35,12 @@ ranges_of-of-requires c =
     let pre = c.requires in
     record { tables = pre.0.0.sending.pair.tables; rank_below = pre.0.0.sending.pair.receiver_below }
 
+pub locals_of-here-requires : goal.locals_of-here-requires
+locals_of-here-requires c =
+    let pre = c.requires in
+    let is : Known _ _ _ _ _ _ = record { sending = pre.0.0.sending; bytes = pre.0.1; counted = c.tree_count-count.ensures } in
+    (is, c.first_tree-own.ensures, c.ranges_of-of.ensures)
+
 pub mark_near-requires : goal.mark_near-requires
 mark_near-requires c =
     let pre = c.requires in
@@ -45,7 +51,7 @@ mark_near-requires c =
     let ranges-of = c.ranges_of-of in
     let known = near_known _ _ _ _ _ pre.0.0.sending _ _ _ _ _ pre.0.1 first_tree_call.ensures tree_count_call.ensures pre.0.0.begins pre.0.0.many pre.1 to_local.ensures _ pre.2 _ add-near.ensures pre.2.few in
     let is : Known _ _ _ _ _ _ = record { sending = pre.0.0.sending; bytes = pre.0.1; counted = tree_count_call.ensures } in
-    (is, known, pre.3, ranges-of.ensures)
+    (is, known, pre.3, ranges-of.ensures, c.locals_of-here.ensures)
 
 pub returns : goal.returns
 returns c =

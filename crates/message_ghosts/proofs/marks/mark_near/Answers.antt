@@ -32,7 +32,7 @@ goes-requires c =
     let pre = c.requires in
     let loop = c.loop-j in
     let number_at_call = c.number_at-k in
-    (member_record _ _ _ _ _ _ pre.0 pre.1 _ (loop.invariant.member (omega arith)), number_at_call.ensures, pre.3)
+    (member_record _ _ _ _ _ _ pre.0 pre.1 _ (loop.invariant.member (omega arith)), number_at_call.ensures, pre.3, pre.4)
 
 pub add_member-requires : goal.add_member-requires
 add_member-requires c =

@@ -28,7 +28,7 @@ beside_before-requires c =
     let pre = c.requires in
     let record_at_call = c.record_at-at in
     let shape_of = c.shape_of in
-    (beside_known _ _ _ _ _ _ _ pre.0 _ (faces_read _ _ _ _ _ _ _ pre.0 _ _ _ record_at_call.ensures shape_of.ensures c.face_count-faces.ensures.0), pre.2)
+    (beside_known _ _ _ _ _ _ _ pre.0 _ (faces_read _ _ _ _ _ _ _ pre.0 _ _ _ record_at_call.ensures shape_of.ensures c.face_count-faces.ensures.0), pre.2, pre.3)
 
 pub returns : goal.returns
 unfolding goes

@@ -1,9 +1,10 @@
 -- What an answer tells that is `Some` where a test passes.
 use Rattle.std.proofs.Common.{Some, None}
-use mathlib.Core.Path.{◌≡◌, refl, ap}
+use Rattle.std.specs.declared.option.Option.{Option}
+use Prim.Native.Nat.{ℕ}
+use mathlib.Core.Path.{◌≡◌, refl}
 use mathlib.Core.Bool.{Bool, true, false, cond}
-use Rattle.plan_read.specs.declared.number.Numeral.{Numeral}
-use Rattle.plan_read.specs.Means.{Number, numeral_of, number_of}
+use Rattle.plan_read.specs.Means.{Number, number_to}
 
 pub some_picked : {A : Type 0} (b : Bool) {x y : A} → Some x ≡ cond b (Some y) None → (b ≡ true) × (x ≡ y)
 some_picked true e = (refl, cc)
@@ -13,10 +14,10 @@ pub none_picked : {A : Type 0} (b : Bool) (y : A) → None ≡ cond b (Some y) N
 none_picked true y e = absurd cc
 none_picked false y e = refl
 
--- a number that was read
-pub number_picked : (n : Number) {m : Numeral} → Some m ≡ numeral_of n → number_of m ≡ n
-number_picked n {m} e =
-    let p = some_picked n.ok e in
-    let v : m.value ≡ n.value = ap (λ (r : Numeral). r.value) p.1 in
-    let t : m.next ≡ n.next = ap (λ (r : Numeral). r.next) p.1 in
-    rw (v, t, ← p.0)
+-- a number, where one was read
+pub number_picked : {value : Option ℕ} {next v : ℕ} {r : Number} → value ≡ Some v → number_to value next ≡ r → number_to (Some v) next ≡ r
+number_picked p e = rw p at e
+
+-- a place where none was
+pub number_missed : {value : Option ℕ} (next : ℕ) {r : Number} → value ≡ None → number_to value next ≡ r → r.ok ≡ false
+number_missed next {r} p e = let f : number_to None next ≡ r = rw p at e in rw (← f)

@@ -111,13 +111,14 @@ parse text = record { ok = form_ok text; ranks = (read_ranks text).value; old = 
 
 -- ---- what the functions hand on
 
--- a number, where it was read
-abbrev pub numeral_of : Number → Option Numeral
-numeral_of n = cond n.ok (Some (record { value = n.value; next = n.next })) None
+-- a number, where one was read, and the place behind its digits
+abbrev pub number_to : Option ℕ → ℕ → Number
+number_to None next = record { ok = false; value = 0; next = next }
+number_to (Some v) next = record { ok = true; value = v; next = next }
 
--- a number that was read
-abbrev pub number_of : Numeral → Number
-number_of n = record { ok = true; value = n.value; next = n.next }
+-- the same of what a function hands on
+abbrev pub numeral_of : Numeral → Number
+numeral_of n = number_to n.value n.next
 
 -- a count of digits that a number may have, where b is the first
 abbrev pub digit_count_ok : ℕ → ℕ → Bool

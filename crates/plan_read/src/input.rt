@@ -40,8 +40,9 @@ fn read_list(text: &[u8], at: usize, table: &mut [u8]) -> Option<Counted>
     let mut count: usize = 0;
     // number by number: where one ends is found on the way
     loop {
-        let n = read_entry(text, place)?;
-        store(&mut *table, count, n.value);
+        let n = read_entry(text, place);
+        let v = n.value?;
+        store(&mut *table, count, v);
         count += 1;
         let b = byte_at(text, n.next);
         if b == b'\n' {
@@ -66,14 +67,15 @@ pub fn read_input(text: &[u8], old: &mut [u8], new: &mut [u8]) -> Option<u64>
         return None;
     }
     let ranks_at = behind(text, 0, b"ranks=")?;
-    let ranks = read_number(text, ranks_at)?;
+    let ranks = read_number(text, ranks_at);
+    let p = ranks.value?;
     let old_at = behind(text, ranks.next, b"\nold=")?;
     let old_list = read_list(text, old_at, &mut *old)?;
     let new_at = behind(text, old_list.next, b"new=")?;
     let new_list = read_list(text, new_at, &mut *new)?;
-    let count = (ranks.value + 1) as usize;
+    let count = (p + 1) as usize;
     if new_list.next != text.len() || old_list.count != count || new_list.count != count {
         return None;
     }
-    Some(ranks.value)
+    Some(p)
 }

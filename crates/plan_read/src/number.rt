@@ -1,12 +1,12 @@
 // Numbers in the input.
 ghost use Rattle.std.specs.Prelude.{◌≡◌, ◌+◌, ◌-◌, ◌≤◌, ◌<◌, length};
 ghost use Rattle.encoding.specs.Pieces.{piece};
-ghost use Rattle.plan_read.specs.Means.{byte_at, digit_count, value_of, read_number, negated, read_entry, numeral_of, number_of, digit_count_ok};
+ghost use Rattle.plan_read.specs.Means.{byte_at, digit_count, value_of, read_number, negated, read_entry, numeral_of, digit_count_ok};
 
-// A number that was read, and the place behind it.
+// A number, where one was read, and the place behind its digits.
 #[derive(Clone, Copy)]
 pub struct Numeral {
-    pub value: u64,
+    pub value: Option<u64>,
     pub next: usize,
 }
 
@@ -48,38 +48,45 @@ fn digits_value(text: &[u8], at: usize, n: usize) -> u64
     v
 }
 
-pub fn read_number(text: &[u8], at: usize) -> Option<Numeral>
-    ensures { result ≡ numeral_of (read_number text.now at) }
+pub fn read_number(text: &[u8], at: usize) -> Numeral
+    ensures { numeral_of result ≡ read_number text.now at }
 {
     let n = digit_count(text, at);
+    let next = at + n;
     if !digit_count_ok(n, byte_at(text, at)) {
-        return None;
+        return Numeral { value: None, next };
     }
-    Some(Numeral {
-        value: digits_value(text, at, n),
-        next: at + n,
-    })
+    Numeral {
+        value: Some(digits_value(text, at, n)),
+        next,
+    }
 }
 
 // The number behind a minus sign, as its 64 bits.
-fn negated(n: Numeral) -> Option<Numeral>
-    ensures { result ≡ numeral_of (negated (number_of n)) }
+fn negated(n: Numeral) -> Numeral
+    ensures { numeral_of result ≡ negated (numeral_of n) }
 {
-    if n.value == 0 {
-        return None;
+    let Some(v) = n.value else {
+        return n;
+    };
+    if v == 0 {
+        return Numeral {
+            value: None,
+            next: n.next,
+        };
     }
-    Some(Numeral {
-        value: u64::MAX - n.value + 1,
+    Numeral {
+        value: Some(u64::MAX - v + 1),
         next: n.next,
-    })
+    }
 }
 
 // An entry of a table.
-pub fn read_entry(text: &[u8], at: usize) -> Option<Numeral>
-    ensures { result ≡ numeral_of (read_entry text.now at) }
+pub fn read_entry(text: &[u8], at: usize) -> Numeral
+    ensures { numeral_of result ≡ read_entry text.now at }
 {
     if byte_at(text, at) == b'-' {
-        return negated(read_number(text, at + 1)?);
+        return negated(read_number(text, at + 1));
     }
     read_number(text, at)
 }

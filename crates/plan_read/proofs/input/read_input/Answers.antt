@@ -1,10 +1,9 @@
 use Rattle.std.proofs.Common.{Some, None}
 use Rattle.plan_read.proofs.Grammar.{number_sound, formed, Formed}
-use Rattle.plan_read.proofs.Picked.{some_picked, none_picked, number_picked}
-use Rattle.plan_read.specs.Means.{numeral_of, number_of, place_behind, ListRead, InputRead, byte_at, is_digit, digit_count, digits_ok, read_number, read_list, word_at, read_ranks, read_old, read_new, form_ok, parse, Number}
+use Rattle.plan_read.proofs.Picked.{some_picked, none_picked, number_picked, number_missed}
+use Rattle.plan_read.specs.Means.{number_to, place_behind, ListRead, InputRead, byte_at, is_digit, digit_count, digits_ok, read_number, read_list, word_at, read_ranks, read_old, read_new, form_ok, parse, Number}
 use Rattle.plan_read.specs.Text.{input_limit, number_limit, ranks_word, old_word, new_word}
 use Rattle.plan_read.specs.declared.input.Counted.{Counted}
-use Rattle.plan_read.specs.declared.number.Numeral.{Numeral}
 use Rattle.encoding.specs.Below.{all_below}
 use Rattle.encoding.proofs.Below.{either, clash, least_le, and_fst, and_snd, and_intro, all_add, all_same}
 use borrow.Author.Tests.{le-leb, eq-eqb}
@@ -58,34 +57,34 @@ module _ (text : List ℕ) where
     unfolding read_ranks
     ranks_place = ap (read_number text) (some_picked (word_at text 0 ranks_word) ea).1
 
-    ranks_broken : None ≡ numeral_of (read_number text a) → form_ok text ≡ false
-    ranks_broken e = unformed (λ f. clash f.ranks_read (none_picked (read_ranks text).ok _ (rw ranks_place at e)))
+    ranks_broken : (read_number text a).ok ≡ false → form_ok text ≡ false
+    ranks_broken e = unformed (λ f. clash f.ranks_read (rw ranks_place at e))
 
-    module _ {p : Numeral} (ep : Some p ≡ numeral_of (read_number text a)) where
-      ranks_is : number_of p ≡ read_ranks text
-      ranks_is = number_picked _ ep ∙ ranks_place
+    module _ {p next : ℕ} (ep : number_to (Some p) next ≡ read_number text a) where
+      ranks_is : number_to (Some p) next ≡ read_ranks text
+      ranks_is = ep ∙ ranks_place
 
-      next_is : p.next ≡ (read_ranks text).next
+      next_is : next ≡ (read_ranks text).next
       next_is = ap (λ (m : Number). m.next) ranks_is
 
-      value_is : p.value ≡ (read_ranks text).value
+      value_is : p ≡ (read_ranks text).value
       value_is = ap (λ (m : Number). m.value) ranks_is
 
-      value_limit : p.value < number_limit
+      value_limit : p < number_limit
       unfolding read_ranks
       value_limit = omega (arith, value_is, number_value text 6)
 
-      old_missing : None ≡ place_behind text p.next (10 ∷ old_word) → form_ok text ≡ false
+      old_missing : None ≡ place_behind text next (10 ∷ old_word) → form_ok text ≡ false
       old_missing e =
           unformed
           (λ f.
-          let t : word_at text p.next (10 ∷ old_word) ≡ true = rw next_is (line_word text (read_ranks text).next old_word ∙ and_intro _ _ (eq-eqb _ _ f.ranks_end) f.old_name) in
-          clash t (none_picked (word_at text p.next (10 ∷ old_word)) _ e))
+          let t : word_at text next (10 ∷ old_word) ≡ true = rw next_is (line_word text (read_ranks text).next old_word ∙ and_intro _ _ (eq-eqb _ _ f.ranks_end) f.old_name) in
+          clash t (none_picked (word_at text next (10 ∷ old_word)) _ e))
 
-      module _ {b : ℕ} (eb : Some b ≡ place_behind text p.next (10 ∷ old_word)) where
+      module _ {b : ℕ} (eb : Some b ≡ place_behind text next (10 ∷ old_word)) where
         old_place : read_list (length text) text b ≡ read_old text
         unfolding read_old
-        old_place = ap (read_list (length text) text) ((some_picked (word_at text p.next (10 ∷ old_word)) eb).1 ∙ ap (λ (n : ℕ). n + 5) next_is)
+        old_place = ap (read_list (length text) text) ((some_picked (word_at text next (10 ∷ old_word)) eb).1 ∙ ap (λ (n : ℕ). n + 5) next_is)
 
         module _ {old_entry old_exit : List ℕ} where
           old_broken : ListRead text (read_list (length text) text b) old_entry old_exit None → form_ok text ≡ false
@@ -124,16 +123,16 @@ module _ (text : List ℕ) where
                   not_ended : (n.next ≡ length text → ⊥) → form_ok text ≡ false
                   not_ended h = unformed (λ f. h (new_parts.2 ∙ f.end))
 
-                  old_miscounted : (o.count ≡ p.value + 1 → ⊥) → form_ok text ≡ false
+                  old_miscounted : (o.count ≡ p + 1 → ⊥) → form_ok text ≡ false
                   old_miscounted h = unformed (λ f. h (omega (arith, f.old_many, old_parts.1, value_is)))
 
-                  new_miscounted : (n.count ≡ p.value + 1 → ⊥) → form_ok text ≡ false
+                  new_miscounted : (n.count ≡ p + 1 → ⊥) → form_ok text ≡ false
                   new_miscounted h = unformed (λ f. h (omega (arith, f.new_many, new_parts.1, value_is)))
 
-                  form_is : length text ≤ input_limit → n.next ≡ length text → o.count ≡ p.value + 1 → n.count ≡ p.value + 1 → form_ok text ≡ true
+                  form_is : length text ≤ input_limit → n.next ≡ length text → o.count ≡ p + 1 → n.count ≡ p + 1 → form_ok text ≡ true
                   unfolding form_ok
                   form_is l e h k =
-                      let w = some_picked (word_at text p.next (10 ∷ old_word)) eb in
+                      let w = some_picked (word_at text next (10 ∷ old_word)) eb in
                       let line : (eqb (byte_at text (read_ranks text).next) 10 && word_at text ((read_ranks text).next + 1) old_word) ≡ true = sym (line_word text (read_ranks text).next old_word) ∙ rw next_is at w.0 in
                       let ranks_read : (read_ranks text).ok ≡ true = sym (ap (λ (m : Number). m.ok) ranks_is) in
                       let name : word_at text (read_old text).next new_word ≡ true = rw old_parts.2 at (some_picked (word_at text o.next new_word) ed).0 in
@@ -151,8 +150,8 @@ module _ (text : List ℕ) where
                         eq-eqb (length (read_new text).values) ((read_ranks text).value + 1) (omega (arith, new_parts.1, value_is)),
                       )
 
-                  all_read : length text ≤ input_limit → n.next ≡ length text → o.count ≡ p.value + 1 → n.count ≡ p.value + 1
-                      → InputRead text old_entry old_exit new_entry new_exit (Some p.value)
+                  all_read : length text ≤ input_limit → n.next ≡ length text → o.count ≡ p + 1 → n.count ≡ p + 1
+                      → InputRead text old_entry old_exit new_entry new_exit (Some p)
                   unfolding parse
                   all_read l e h k =
                       let t = form_is l e h k in
@@ -169,39 +168,39 @@ returns-then-text-gt32768 c = nothing _ (too_long _ c.if-text-gt32768.true)
 pub returns-in_err-ranks_at : goal.returns-in_err-ranks_at
 returns-in_err-ranks_at c = rw c.from_residual.ensures (nothing _ (ranks_missing _ c.in_err-ranks_at.ensures))
 
-pub returns-in_err-ranks : goal.returns-in_err-ranks
-returns-in_err-ranks c = rw c.from_residual-in_err-ranks.ensures (nothing _ (ranks_broken _ c.in_ok-ranks_at.ensures c.in_err-ranks.ensures))
+pub returns-in_err-p : goal.returns-in_err-p
+returns-in_err-p c = rw c.from_residual-in_err-p.ensures (nothing _ (ranks_broken _ c.in_ok-ranks_at.ensures (number_missed _ c.in_err-p.was c.read_number-ranks.ensures)))
 
 pub returns-in_err-old_at : goal.returns-in_err-old_at
-returns-in_err-old_at c = rw c.from_residual-in_err-old_at.ensures (nothing _ (old_missing _ c.in_ok-ranks_at.ensures c.in_ok-ranks.ensures c.in_err-old_at.ensures))
+returns-in_err-old_at c = rw c.from_residual-in_err-old_at.ensures (nothing _ (old_missing _ c.in_ok-ranks_at.ensures (number_picked c.in_ok-p.was c.read_number-ranks.ensures) c.in_err-old_at.ensures))
 
 pub returns-in_err-old_list : goal.returns-in_err-old_list
 returns-in_err-old_list c =
-    rw c.from_residual-in_err-old_list.ensures (nothing _ (old_broken _ c.in_ok-ranks_at.ensures c.in_ok-ranks.ensures c.in_ok-old_at.ensures c.in_err-old_list.ensures))
+    rw c.from_residual-in_err-old_list.ensures (nothing _ (old_broken _ c.in_ok-ranks_at.ensures (number_picked c.in_ok-p.was c.read_number-ranks.ensures) c.in_ok-old_at.ensures c.in_err-old_list.ensures))
 
 pub returns-in_err-new_at : goal.returns-in_err-new_at
 returns-in_err-new_at c =
-    rw c.from_residual-in_err-new_at.ensures (nothing _ (new_missing _ c.in_ok-ranks_at.ensures c.in_ok-ranks.ensures c.in_ok-old_at.ensures c.in_ok-old_list.ensures c.in_err-new_at.ensures))
+    rw c.from_residual-in_err-new_at.ensures (nothing _ (new_missing _ c.in_ok-ranks_at.ensures (number_picked c.in_ok-p.was c.read_number-ranks.ensures) c.in_ok-old_at.ensures c.in_ok-old_list.ensures c.in_err-new_at.ensures))
 
 pub returns-in_err-new_list : goal.returns-in_err-new_list
 returns-in_err-new_list c =
     rw c.from_residual-in_err-new_list.ensures
-    (nothing _ (new_broken _ c.in_ok-ranks_at.ensures c.in_ok-ranks.ensures c.in_ok-old_at.ensures c.in_ok-old_list.ensures c.in_ok-new_at.ensures c.in_err-new_list.ensures))
+    (nothing _ (new_broken _ c.in_ok-ranks_at.ensures (number_picked c.in_ok-p.was c.read_number-ranks.ensures) c.in_ok-old_at.ensures c.in_ok-old_list.ensures c.in_ok-new_at.ensures c.in_err-new_list.ensures))
 
 pub overflow_add-count : goal.overflow_add-count
-overflow_add-count c = omega (arith, value_limit _ c.in_ok-ranks_at.ensures c.in_ok-ranks.ensures)
+overflow_add-count c = omega (arith, value_limit _ c.in_ok-ranks_at.ensures (number_picked c.in_ok-p.was c.read_number-ranks.ensures))
 
 pub returns-then-new_list-text : goal.returns-then-new_list-text
 returns-then-new_list-text c =
     elim c.then-new_list-text.branch [
       | then-new_list-text-via-then-new_list-text w ↦
-          nothing _ (not_ended _ c.in_ok-ranks_at.ensures c.in_ok-ranks.ensures c.in_ok-old_at.ensures c.in_ok-old_list.ensures c.in_ok-new_at.ensures c.in_ok-new_list.ensures w.if-new_list-text.true)
+          nothing _ (not_ended _ c.in_ok-ranks_at.ensures (number_picked c.in_ok-p.was c.read_number-ranks.ensures) c.in_ok-old_at.ensures c.in_ok-old_list.ensures c.in_ok-new_at.ensures c.in_ok-new_list.ensures w.if-new_list-text.true)
       | then-new_list-text-via-else-new_list-text+then-old_list-count w ↦
-          nothing _ (old_miscounted _ c.in_ok-ranks_at.ensures c.in_ok-ranks.ensures c.in_ok-old_at.ensures c.in_ok-old_list.ensures c.in_ok-new_at.ensures c.in_ok-new_list.ensures w.if-old_list-count.true)
+          nothing _ (old_miscounted _ c.in_ok-ranks_at.ensures (number_picked c.in_ok-p.was c.read_number-ranks.ensures) c.in_ok-old_at.ensures c.in_ok-old_list.ensures c.in_ok-new_at.ensures c.in_ok-new_list.ensures w.if-old_list-count.true)
       | then-new_list-text-via-else-new_list-text+else-old_list-count+then-new_list-count w ↦
-          nothing _ (new_miscounted _ c.in_ok-ranks_at.ensures c.in_ok-ranks.ensures c.in_ok-old_at.ensures c.in_ok-old_list.ensures c.in_ok-new_at.ensures c.in_ok-new_list.ensures w.if-new_list-count.true)
+          nothing _ (new_miscounted _ c.in_ok-ranks_at.ensures (number_picked c.in_ok-p.was c.read_number-ranks.ensures) c.in_ok-old_at.ensures c.in_ok-old_list.ensures c.in_ok-new_at.ensures c.in_ok-new_list.ensures w.if-new_list-count.true)
     ]
 
 pub returns : goal.returns
 returns c =
-    all_read _ c.in_ok-ranks_at.ensures c.in_ok-ranks.ensures c.in_ok-old_at.ensures c.in_ok-old_list.ensures c.in_ok-new_at.ensures c.in_ok-new_list.ensures c.if-text-gt32768.false c.if-new_list-text.false c.if-old_list-count.false c.if-new_list-count.false
+    all_read _ c.in_ok-ranks_at.ensures (number_picked c.in_ok-p.was c.read_number-ranks.ensures) c.in_ok-old_at.ensures c.in_ok-old_list.ensures c.in_ok-new_at.ensures c.in_ok-new_list.ensures c.if-text-gt32768.false c.if-new_list-text.false c.if-old_list-count.false c.if-new_list-count.false

@@ -3,8 +3,8 @@ use lib.ListN.{length}
 use Prim.Native.Nat.{◌-◌}
 use Rattle.plan_read.proofs.input.read_list.Given as goal
 
-abbrev pub invariant-loop-n : goal.invariant-loop-n
-invariant-loop-n l = Reading l.text l.at l.initial.table l.count l.place l.table
+abbrev pub invariant-loop-v : goal.invariant-loop-v
+invariant-loop-v l = Reading l.text l.at l.initial.table l.count l.place l.table
 
-abbrev pub decreases-loop-n : goal.decreases-loop-n
-decreases-loop-n l = length l.text - l.place
+abbrev pub decreases-loop-v : goal.decreases-loop-v
+decreases-loop-v l = length l.text - l.place

@@ -1,5 +1,4 @@
-use Rattle.std.proofs.Common.{Some, None}
-use Rattle.plan_read.specs.Means.{digit_count_ok, byte_at, digit_count, value_of, digits_ok, read_number, numeral_of}
+use Rattle.plan_read.specs.Means.{digit_count_ok, byte_at, digit_count, value_of, digits_ok, read_number}
 use Rattle.encoding.specs.Pieces.{piece}
 use mathlib.Core.List.{List}
 use mathlib.Core.Bool.{Bool, true, false}
@@ -12,11 +11,11 @@ module _ (text : List ℕ) (at n b : ℕ) {r : Bool} (en : n ≡ digit_count tex
   unfolding digits_ok
   tested = rw (← en, ← eb) (sym er)
 
-  bad : r ≡ false → None ≡ numeral_of (read_number text at)
+  bad : r ≡ false → record { ok = false; value = 0; next = at + n } ≡ read_number text at
   unfolding read_number
-  bad p = rw (tested, p)
+  bad p = rw (tested, p, ← en)
 
-  good : {v : ℕ} → r ≡ true → v ≡ value_of 0 (piece text at n) → Some (record { value = v; next = at + n }) ≡ numeral_of (read_number text at)
+  good : {v : ℕ} → r ≡ true → v ≡ value_of 0 (piece text at n) → record { ok = true; value = v; next = at + n } ≡ read_number text at
   unfolding read_number
   good p e = rw (tested, p, ← en, e)
 

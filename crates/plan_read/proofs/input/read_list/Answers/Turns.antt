@@ -1,6 +1,5 @@
 -- A list that is read entry by entry: what has been read, and what is left to read.
 use Rattle.std.proofs.Common.{Some, None}
-use Rattle.plan_read.specs.declared.number.Numeral.{Numeral}
 use Prim.Native.Nat.{ℕ, zero, suc, ◌+◌, ◌-◌, ◌*◌, ◌/◌, ◌≤◌, ◌<◌}
 use mathlib.Core.Path.{◌≡◌, refl, sym, ap, ◌∙◌}
 use mathlib.Core.Bool.{true, false, cond}
@@ -17,7 +16,7 @@ use Rattle.encoding.proofs.Pieces.{splice_none, splice_then}
 use Rattle.encoding.proofs.Numbers.{length_put}
 use Rattle.offsets.specs.Table.{table_bytes}
 use Rattle.plan_read.specs.Text.{entry_text}
-use Rattle.plan_read.specs.Means.{byte_at, Number, read_entry, Entries, no_entries, before, read_list, stored, number_of, ListRead}
+use Rattle.plan_read.specs.Means.{byte_at, Number, read_entry, Entries, no_entries, before, read_list, stored, number_to, ListRead}
 use Rattle.plan_read.proofs.Grammar.{byte_within, entry_least, entry_sound, from_length, before_ok, table_length_lem, table_snoc}
 
 -- ---- one entry
@@ -130,19 +129,19 @@ module _ {text : List ℕ} {at : ℕ} {entry : List ℕ} {count place : ℕ} {ta
   pub reading_refused : (read_entry text place).ok ≡ false → ListRead text (read_list (length text) text at) entry table None
   reading_refused p = failed (no-entry text place (length text - count) p)
 
-  module _ {n : Numeral} (en : number_of n ≡ read_entry text place) where
+  module _ {v next : ℕ} (en : number_to (Some v) next ≡ read_entry text place) where
     read : (read_entry text place).ok ≡ true
     read = rw (← en)
 
     -- the entry begins within the text and ends behind its place
-    pub reading_moves : (place < length text) × (place < n.next)
+    pub reading_moves : (place < length text) × (place < next)
     reading_moves = let m = entry-moves text place read in rw (← en) at m
 
     -- the entries left are one fewer
     fewer : length text - count ≡ suc (length text - (count + 1))
     fewer = omega (arith, reading_moves, s.ahead)
 
-    module _ {exit : List ℕ} (et : exit ≡ stored table count n.value) {b : ℕ} (eb : b ≡ byte_at text n.next) where
+    module _ {exit : List ℕ} (et : exit ≡ stored table count v) {b : ℕ} (eb : b ≡ byte_at text next) where
       behind : (x : ℕ) → b ≡ x → byte_at text (read_entry text place).next ≡ x
       behind x p = rw (← en) (sym eb ∙ p)
 
@@ -150,28 +149,28 @@ module _ {text : List ℕ} {at : ℕ} {entry : List ℕ} {count place : ℕ} {ta
       not_behind x p q = p (eb ∙ rw (← en) at q)
 
       -- a byte that isn't 0 is within the text
-      pub reading_within : 0 < b → n.next < length text
-      reading_within h = byte_within text n.next (omega arith)
+      pub reading_within : 0 < b → next < length text
+      reading_within h = byte_within text next (omega arith)
 
       pub exit_size : length exit ≡ length entry
-      exit_size = ap length et ∙ (stored_length table count n.value ∙ s.size)
+      exit_size = ap length et ∙ (stored_length table count v ∙ s.size)
 
-      exit-filled : 8 * (count + 1) ≤ length entry → exit ≡ splice entry 0 (table_bytes (s.values ++ (n.value ∷ [])))
+      exit-filled : 8 * (count + 1) ≤ length entry → exit ≡ splice entry 0 (table_bytes (s.values ++ (v ∷ [])))
       exit-filled h =
-          let w : exit ≡ splice table (0 + 8 * count) (le_bytes 8 n.value) = rw zero-add (et ∙ stored_at table count n.value (omega (arith, s.size))) in
-          rw (table_snoc s.values n.value)
-          (splice_then entry 0 (8 * count) (table_bytes s.values) (le_bytes 8 n.value) (table_length_lem s.values ∙ ap (λ (k : ℕ). 8 * k) s.many) (omega arith) (s.filled (omega arith)) w)
+          let w : exit ≡ splice table (0 + 8 * count) (le_bytes 8 v) = rw zero-add (et ∙ stored_at table count v (omega (arith, s.size))) in
+          rw (table_snoc s.values v)
+          (splice_then entry 0 (8 * count) (table_bytes s.values) (le_bytes 8 v) (table_length_lem s.values ∙ ap (λ (k : ℕ). 8 * k) s.many) (omega arith) (s.filled (omega arith)) w)
 
-      one_more : length (s.values ++ (n.value ∷ [])) ≡ count + 1
+      one_more : length (s.values ++ (v ∷ [])) ≡ count + 1
       one_more = rw (length-append, s.many)
 
       -- LF ends the list
-      pub reading_last : b ≡ 10 → ListRead text (read_list (length text) text at) entry exit (Some (record { count = count + 1; next = n.next + 1 }))
+      pub reading_last : b ≡ 10 → ListRead text (read_list (length text) text at) entry exit (Some (record { count = count + 1; next = next + 1 }))
       unfolding prefixed
       reading_last p =
-          let z : read_list (length text) text at ≡ record { ok = true; values = s.values ++ (n.value ∷ []); next = n.next + 1 } =
+          let z : read_list (length text) text at ≡ record { ok = true; values = s.values ++ (v ∷ []); next = next + 1 } =
           s.left ∙ rw (fewer, line_feed text place (length text - (count + 1)) read (behind 10 p), ← en) in
-          let w : n.next < length text = reading_within (omega arith) in
+          let w : next < length text = reading_within (omega arith) in
           rw z
           record { gives = rw one_more; within = omega arith; filled = λ q h. exit-filled (rw one_more at h) }
 
@@ -180,15 +179,15 @@ module _ {text : List ℕ} {at : ℕ} {entry : List ℕ} {count place : ℕ} {ta
       reading_broken p q = failed (rw fewer (neither text place (length text - (count + 1)) read (not_behind 44 q) (not_behind 10 p)))
 
       -- a comma
-      pub reading_more : b ≡ 44 → Reading text at entry (count + 1) (n.next + 1) exit
+      pub reading_more : b ≡ 44 → Reading text at entry (count + 1) (next + 1) exit
       reading_more p =
           record {
-            values = s.values ++ (n.value ∷ []);
+            values = s.values ++ (v ∷ []);
             many = one_more;
             ahead = omega (arith, reading_moves, s.ahead);
             left =
                 s.left
-                ∙ rw (fewer, comma text place (length text - (count + 1)) read (behind 44 p), ← en) (prefixed_before s.values n.value (read_list (length text - (count + 1)) text (n.next + 1)));
+                ∙ rw (fewer, comma text place (length text - (count + 1)) read (behind 44 p), ← en) (prefixed_before s.values v (read_list (length text - (count + 1)) text (next + 1)));
             size = exit_size;
             filled = exit-filled;
           }

@@ -23,7 +23,8 @@ use Rattle.pattern.specs.declared.Ranks.{Ranks}
 use Rattle.std.specs.declared.option.Option.{Option}
 use Rattle.std.specs.Prelude.{Some, None}
 use Rattle.pattern.specs.Calls.{table_checks, sender_refusal, sender_of, sent_refusal, trees_sent, set_refusal, set_answer, ranks_answer, send_set_of, receive_set_of}
-use Rattle.pattern.specs.Means.{TreeTo, RankOf, SmallNumbers, exchanges_tree, rank_set, rank_set_of, sender_fits, sender_refused, ranks_refused}
+use Rattle.pattern.specs.Answers.{SmallNumbers, sender_fits, sender_refused, ranks_refused}
+use Rattle.pattern.specs.Means.{TreeTo, RankOf, exchanges_tree, rank_set, rank_set_of}
 use Rattle.pattern.specs.Sender.{Tables, sender_to, sender_number, sent_first, sent_count}
 use Rattle.pattern.specs.Sets.{send_set, receive_set, smallest, largest}
 

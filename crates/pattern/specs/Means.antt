@@ -5,10 +5,6 @@ use Rattle.encoding.specs.Pieces.{Bytes, splice}
 use Rattle.offsets.specs.Limits.{max_ranks}
 use Rattle.offsets.specs.Table.{ranks, ranks_ok, valid, trees, entry, magnitude, first_tree, end_tree, holds}
 use Rattle.pattern.specs.declared.Ranks.{Ranks}
-use Rattle.std.specs.declared.option.Option.{Option}
-use Rattle.std.specs.declared.result.Result.{Result}
-use Rattle.encoding.specs.declared.refusal.Refusal.{Refusal}
-use Rattle.pattern.specs.declared.SenderAnswer.{SenderAnswer}
 use Rattle.pattern.specs.Calls.{set_refusal, set_answer}
 use Rattle.pattern.specs.Sender.{Tables}
 use Rattle.pattern.specs.Sets.{sends_to, gets_from}
@@ -132,31 +128,3 @@ pub record SetWritten (old new : List ℕ) (p : ℕ) (sending : Bool) (start out
 -- either call for a set
 unfoldable pub rank_set_of : List ℕ → List ℕ → ℕ → Bool → List ℕ → Ranks × List ℕ
 rank_set_of old new rank sending out = set_answer (set_refusal old new rank (rank_set old new rank sending) out) (rank_set old new rank sending) out
-
--- ---- answers
-
--- the refusal alone
-abbrev pub sender_refused : ℕ → SenderAnswer
-sender_refused refusal = record { refusal = refusal; sender = pos 0 }
-
-abbrev pub ranks_refused : ℕ → Ranks
-ranks_refused refusal = record { refusal = refusal; count = 0; smallest = pos 0; largest = pos 0 }
-
--- a sender whose number fits 32 bits with a sign
-unfoldable pub sender_fits : Option ℕ → Bool
-sender_fits (Some p) = ltb p (2 ^ 31)
-sender_fits None = true
-
-abbrev pub SenderFits : Result (Option ℕ) Refusal → Type 0
-SenderFits (Ok s) = sender_fits s ≡ true
-SenderFits (Err e) = ⊤
-
--- a list whose length and numbers fit 32 bits with a sign
-pub record SmallNumbers (set : List ℕ) : Type 0 where
-  pub few : length set < 2 ^ 31
-  pub small : (i : ℕ) → i < length set → get_or set i 0 < 2 ^ 31
-
--- a set whose ranks are the first n of a list
-abbrev pub SetFits : Result ℕ Refusal → List ℕ → Type 0
-SetFits (Ok n) list = (n ≤ length list) × SmallNumbers (take n list)
-SetFits (Err e) list = ⊤

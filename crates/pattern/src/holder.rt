@@ -2,9 +2,9 @@
 ghost use Rattle.std.specs.Prelude.{◌≡◌, true, ◌<◌};
 ghost use Rattle.offsets.specs.Limits.{max_ranks};
 ghost use Rattle.offsets.specs.Table.{ranks as ranks_of};
-ghost use Rattle.pattern.specs.Means.{TreeOf, TreeTo, held_below, held_above, sender_fits, SenderFits};
+ghost use Rattle.pattern.specs.Means.{TreeOf, TreeTo, held_below, held_above};
 ghost use Rattle.pattern.specs.Sender.{sender as sender_is, sender_to, sender_number};
-ghost use Rattle.pattern.specs.Answers.{sender_answer};
+ghost use Rattle.pattern.specs.Answers.{sender_fits, SenderFits, sender_answer};
 
 use crate::SenderAnswer;
 use encoding::refusal::Refusal;
@@ -62,7 +62,7 @@ pub fn sender_to(old: &[u8], new: &[u8], k: u64, q: usize) -> Option<u32>
 }
 
 // The number of a sender: the rank, or −1.
-fn sender_number(sender: Option<u32>) -> i32
+pub fn sender_number(sender: Option<u32>) -> i32
     requires { sender_fits sender ≡ true }
     ensures { result ≡ sender_number sender }
 {

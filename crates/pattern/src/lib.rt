@@ -3,8 +3,7 @@
 
 ghost use Rattle.std.specs.Prelude.{◌≡◌};
 ghost use Rattle.offsets.specs.Answers.{range_of};
-ghost use Rattle.pattern.specs.Answers.{sender_answer, ranks_of};
-ghost use Rattle.pattern.specs.Means.{SenderFits, SetFits};
+ghost use Rattle.pattern.specs.Answers.{sender_answer, ranks_of, SenderFits, SetFits};
 ghost use Rattle.pattern.specs.Calls.{sender_of, trees_sent, send_set_of, receive_set_of};
 
 use encoding::refusal::Refusal;

@@ -2,8 +2,8 @@
 ghost use Rattle.std.specs.Prelude.{◌≡◌, ◌≤◌, ltb, length};
 ghost use Rattle.offsets.specs.Limits.{max_ranks};
 ghost use Rattle.pattern.specs.Calls.{ranks_answer};
-ghost use Rattle.pattern.specs.Answers.{ranks_of};
-ghost use Rattle.pattern.specs.Means.{RankOf, PairNear, SetWritten, SetFits, SmallNumbers, exchanges_tree, rank_set, rank_set_of};
+ghost use Rattle.pattern.specs.Answers.{ranks_of, SmallNumbers, SetFits};
+ghost use Rattle.pattern.specs.Means.{RankOf, PairNear, SetWritten, exchanges_tree, rank_set, rank_set_of};
 
 use crate::Ranks;
 use crate::range::{lower_rank, sends_near, sends_some, upper_rank};

@@ -2,7 +2,7 @@ use Prim.Native.Nat.{◌^◌}
 use native.Mathlib.Omega.{arith}
 use mathlib.Core.Path.{refl}
 use borrow.Author.Tests.{lt-ltb}
-use Rattle.pattern.specs.Means.{sender_fits}
+use Rattle.pattern.specs.Answers.{sender_fits}
 use Rattle.pattern.specs.Sender.{sender_to}
 use Rattle.pattern.proofs.Laws.{receiver_in_new}
 use Rattle.pattern.proofs.holder.sender_to.Goals as goal

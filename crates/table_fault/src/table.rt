@@ -51,7 +51,7 @@ pub fn first_wrong(t: &[u8]) -> Option<Place>
 {
     let ranks = offsets::table::ranks(t) as u32;
     let trees = entry(t, ranks as usize);
-    for p in 0..=ranks {
+    for p in 0..ranks + 1 {
         if let Err(kind) = check_entry(t, ranks, trees, p) {
             return Some(Place {
                 fault: Refusal::Table,

@@ -22,5 +22,5 @@ returns-in-Err c = entry_found _ c.ranks-ranks.ensures.0 _ c.loop-p.invariant (o
 pub loop-p-preserved : goal.loop-p-preserved
 loop-p-preserved c = quiet_more _ _ c.loop-p.invariant c.in_default.ensures refl
 
-pub returns-in_default : goal.returns-in_default
-returns-in_default c = entry_none _ c.ranks-ranks.ensures.0 _ (quiet_more _ _ c.loop-p.invariant c.in_default.ensures refl) (omega arith) (omega arith) refl
+pub returns : goal.returns
+returns c = entry_none _ c.ranks-ranks.ensures.0 _ c.loop-p.invariant (omega arith) (omega arith) refl

@@ -264,7 +264,7 @@ module _ {a m : List ℕ} (R : Checkable a m) where
         }
 
     -- a ghost of the message is new where it is not found
-    new_is : (j : ℕ) → ghost_new a m j ≡ not (held_at a at g (number_of (message_ghost m j)))
+    pub new_is : (j : ℕ) → ghost_new a m j ≡ not (held_at a at g (number_of (message_ghost m j)))
     unfolding ghost_new among held_at
     new_is j =
         let v : ℕ = number_of (message_ghost m j) in

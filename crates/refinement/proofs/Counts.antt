@@ -164,7 +164,7 @@ unfolding tree_of string_ok upright_leaves inverted_leaves refinement_of read_tr
 tree_walk shape s v e = whole_tree shape s (read_row (read_children (children shape) 20) 1 s) v (rw e (agrees-all shape s 20 (upright ∷ []) start refl (omega arith)))
 
 -- a tree has no more leaves than its walk has passed
-tree_few : (n : ℕ) (ok : Bool) (at u i m : ℕ) → u + i ≤ m → IfSome (tree_at n ok at u i) (λ t. t.upright + t.inverted ≤ m)
+pub tree_few : (n : ℕ) (ok : Bool) (at u i m : ℕ) → u + i ≤ m → IfSome (tree_at n ok at u i) (λ t. t.upright + t.inverted ≤ m)
 unfolding tree_at
 tree_few n ok at u i m h = either (ok && eqb at n) (λ e. rw e h) (λ e. rw e tt)
 
@@ -199,15 +199,15 @@ module _ (shape : ℕ) (s : List ℕ) (r : TreeLeaves) (e : Some r ≡ tree_of s
   pub tree_ok : string_ok shape s ≡ true
   tree_ok = (tree_some shape s r e).0
 
-  tree-upright : r.upright ≡ upright_leaves shape s
-  tree-upright = ap (λ (t : TreeLeaves). t.upright) (tree_some shape s r e).1
+  pub tree_upright : r.upright ≡ upright_leaves shape s
+  tree_upright = ap (λ (t : TreeLeaves). t.upright) (tree_some shape s r e).1
 
-  tree-inverted : r.inverted ≡ inverted_leaves shape s
-  tree-inverted = ap (λ (t : TreeLeaves). t.inverted) (tree_some shape s r e).1
+  pub tree_inverted : r.inverted ≡ inverted_leaves shape s
+  tree_inverted = ap (λ (t : TreeLeaves). t.inverted) (tree_some shape s r e).1
 
   pub tree_count_lem : r.upright + r.inverted ≡ tree_leaves shape s
   unfolding tree_leaves
-  tree_count_lem = rw (tree-upright, tree-inverted)
+  tree_count_lem = rw (tree_upright, tree_inverted)
 
 -- the answers for one tree
 module _ (shape : ℕ) (s : List ℕ) (so : refinable shape ≡ true) where
@@ -223,4 +223,4 @@ module _ (shape : ℕ) (s : List ℕ) (so : refinable shape ≡ true) where
     pub counted : r.upright + r.inverted ≤ 16777216 → record { refusal = 0; upright = r.upright; inverted = r.inverted; leaves = r.upright + r.inverted } ≡ count_leaves shape s
     unfolding count_leaves count_refusal leaves_answer first_failed
     counted l =
-        rw (so, tree_ok shape s r e, le-leb (tree_leaves shape s) 16777216 (rw (tree_count_lem shape s r e) at l), ← tree-upright shape s r e, ← tree-inverted shape s r e)
+        rw (so, tree_ok shape s r e, le-leb (tree_leaves shape s) 16777216 (rw (tree_count_lem shape s r e) at l), ← tree_upright shape s r e, ← tree_inverted shape s r e)

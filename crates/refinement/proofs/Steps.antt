@@ -59,7 +59,7 @@ module _ (shape : ℕ) (k : Kind) (s : List ℕ) (w : Cursor) where
   walk-leaf zero e = rw e
   walk-leaf (suc d) e = rw e
 
-  walk_halts : (depth : ℕ) {b : ℕ} → b ≡ bit_at depth s w.ok w.at → (b ≡ 0 → ⊥) → (b ≡ 1 → ⊥) → halted w ≡ walk_of shape depth k s w
+  pub walk_halts : (depth : ℕ) {b : ℕ} → b ≡ bit_at depth s w.ok w.at → (b ≡ 0 → ⊥) → (b ≡ 1 → ⊥) → halted w ≡ walk_of shape depth k s w
   unfolding walk_of after_bit
   walk_halts zero e f g = rw (← e, ne_eqb _ _ f, ne_eqb _ _ g)
   walk_halts (suc d) e f g = rw (← e, ne_eqb _ _ f, ne_eqb _ _ g)

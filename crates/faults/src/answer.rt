@@ -103,6 +103,8 @@ impl From<Option<Place>> for Fault {
 impl From<Result<Option<Place>, Refusal>> for Fault {
     ghost from_gives = { λ answer fault. fault ≡ answer_of answer };
 
+    // in place at C's edge: as a call of its own it takes longer than to find the fault of a short table
+    #[inline(always)]
     fn from(answer: Result<Option<Place>, Refusal>) -> Fault {
         match answer {
             Ok(place) => Fault::from(place),
